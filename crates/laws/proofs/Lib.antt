@@ -1,0 +1,3 @@
+pub mod Settle
+pub mod Choice
+pub mod Lists

@@ -1,0 +1,79 @@
+-- What a packet has shown that passed a test.
+-- Assumes nothing.
+use mathlib.Core.Path.{_≡_, refl, _∙_}
+use mathlib.Core.Bool.{Bool, true, false, not, _||_}
+use mathlib.Core.List.{List}
+use Prim.Native.Nat.{ℕ, _≤_, _<_, _-_}
+use native.Mathlib.Omega.{arith}
+use borrow.Author.Tests.{le-ltb, eq-eqb, ltb-false, leb-true, eqb-true, not-false}
+use lib.ListN.{length, take}
+use lib.Dec.{ltb, leb, eqb}
+use Rattle.laws.specs.Choice.{if_then_else_}
+use Rattle.laws.specs.Octets.{pairAt}
+use Rattle.laws.proofs.Choice.{neither}
+use Rattle.crc.specs.Crc.{crcOf}
+use Rattle.packet.specs.declared.fields.Fields.{Fields}
+use Rattle.packet.specs.Layout.{least, wholeLength, fieldsAt, lengthAt}
+use Rattle.packet.specs.Tests.{short, damaged, lacking, strange, carried, flagsAllowed, payloadAllowed, Sound}
+
+-- ---- 1
+
+module _ (s : List ℕ) (e : short s ≡ false) where
+  pub long : least ≤ length s
+  unfolding short
+  long = ltb-false _ _ (neither _ _ e .0)
+
+  pub whole : length s ≡ wholeLength (fieldsAt s) (lengthAt s)
+  unfolding short
+  whole = eqb-true _ _ (not-false _ (neither (ltb (length s) least) _ e .1))
+
+pub not-short : (s : List ℕ) → least ≤ length s → length s ≡ wholeLength (fieldsAt s) (lengthAt s) → short s ≡ false
+unfolding short
+not-short s l w = simp (le-ltb _ _ l, eq-eqb _ _ w)
+
+-- ---- 2
+
+pub undamaged : (s : List ℕ) → damaged s ≡ false → crcOf (take (length s - 2) s) ≡ pairAt s (length s - 2)
+unfolding damaged
+undamaged s e = eqb-true _ _ (not-false _ e)
+
+-- ---- 4 and 3
+
+carried-small : (k : ℕ) → carried k ≡ true → k < 8
+carried-small k e = go (leb k 3) refl
+  where
+    go : (t : Bool) → leb k 3 ≡ t → k < 8
+    go true p = omega (arith, leb-true k 3 p)
+    go false p = omega (arith, eqb-true k 7 (rw p at e))
+
+flags-small : (k g : ℕ) → flagsAllowed k g ≡ true → g < 4
+flags-small k g e = go (eqb k 0) refl
+  where
+    go : (t : Bool) → eqb k 0 ≡ t → g < 4
+    go true p = omega (arith, leb-true g 3 (rw p at e))
+    go false p = omega (arith, eqb-true g 3 (rw p at e))
+
+payload-small : (k g x : ℕ) → payloadAllowed k g x ≡ true → x < 65536
+payload-small k g x e = go (eqb k 0) refl
+  where
+    go : (t : Bool) → eqb k 0 ≡ t → x < 65536
+    go true p = omega (arith, leb-true x 65535 (rw p at e))
+    go false p = omega (arith, eqb-true x 0 (rw p at e))
+
+pub sound : (f : Fields) (x : ℕ) → lacking f ≡ false → strange f x ≡ false → Sound f x
+unfolding lacking strange
+sound f x l e =
+    let l1 = neither _ _ l in
+    let l2 = neither _ _ (l1 .0) in
+    let e1 = neither _ _ e in
+    let e2 = neither _ _ (e1 .0) in
+    let e3 = neither _ _ (e2 .0) in
+    record {
+      secondary = eqb-true _ _ (not-false _ (l2 .0));
+      prefix = eqb-true _ _ (not-false _ (l2 .1));
+      kind = carried-small _ (not-false _ (l1 .1));
+      version = eqb-true _ _ (not-false _ (e3 .0));
+      reserved = eqb-true _ _ (not-false _ (e3 .1));
+      flags = flags-small (f .kind) _ (not-false _ (e2 .1));
+      payload = payload-small (f .kind) (f .flags) _ (not-false _ (e1 .1));
+    }

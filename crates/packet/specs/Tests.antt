@@ -1,0 +1,73 @@
+-- The tests of a packet alone, one definition for each answer: short 1, damaged 2, lacking 4, strange 3 (document 01, Answer numbers).
+use mathlib.Core.Path.{_≡_}
+use Prim.Native.Nat.{ℕ, _-_, _<_}
+use mathlib.Core.Bool.{Bool, true, false, not, _||_}
+use mathlib.Core.List.{List}
+use lib.ListN.{length, take}
+use lib.Dec.{ltb, leb, eqb}
+use Rattle.laws.specs.Choice.{if_then_else_}
+use Rattle.laws.specs.Octets.{pairAt}
+use Rattle.crc.specs.Crc.{crcOf}
+use Rattle.packet.specs.declared.fields.Fields.{Fields}
+use Rattle.packet.specs.Layout.{least, wholeLength, fieldsAt, lengthAt}
+
+-- ---- packet types and sequence flags, as far as the tests name them (000, Tables 4-2 and 4-1)
+
+abbrev pub typeData : ℕ
+typeData = 0
+
+abbrev pub typeClose : ℕ
+typeClose = 3
+
+abbrev pub typeControlAck : ℕ
+typeControlAck = 7
+
+abbrev pub flagsWhole : ℕ
+flagsWhole = 3
+
+-- ---- 1: under 12 octets, or not 12 + X
+
+unfoldable pub short : List ℕ → Bool
+short s = ltb (length s) least || not (eqb (length s) (wholeLength (fieldsAt s) (lengthAt s)))
+
+-- ---- 2: the last two octets are not the check sum of those before
+
+unfoldable pub damaged : List ℕ → Bool
+damaged s = not (eqb (crcOf (take (length s - 2) s)) (pairAt s (length s - 2)))
+
+-- ---- 4: a secondary header, a prefix, or a type that the base lacks
+
+-- the types of the base: Data, Data Ack, Open, Close (0 to 3) and Control Ack; not Heartbeat, its Ack, Flow Control (4 to 6)
+abbrev pub carried : ℕ → Bool
+carried kind = leb kind typeClose || eqb kind typeControlAck
+
+unfoldable pub lacking : Fields → Bool
+lacking f = not (eqb (f .secondary) 0) || not (eqb (f .prefix) 0) || not (carried (f .kind))
+
+-- ---- 3: another header field unexpected
+
+-- any flags on Data, 11 on every other packet (000, 4.2.3.4.4)
+abbrev pub flagsAllowed : ℕ → ℕ → Bool
+flagsAllowed kind flags = if eqb kind typeData then leb flags flagsWhole else eqb flags flagsWhole
+
+-- Data carries what two octets can count, every other packet nothing (000, 4.2.4.1)
+abbrev pub payloadAllowed : ℕ → ℕ → ℕ → Bool
+payloadAllowed kind flags x = if eqb kind typeData then leb x 65535 else eqb x 0
+
+unfoldable pub strange : Fields → ℕ → Bool
+strange f x =
+    not (eqb (f .version) 1)
+    || not (eqb (f .reserved) 0)
+    || not (flagsAllowed (f .kind) (f .flags))
+    || not (payloadAllowed (f .kind) (f .flags) x)
+
+-- ---- what passes 4 and 3, as numbers: by these bounds the octets of a head hold its fields
+
+pub record Sound (f : Fields) (x : ℕ) : Type 0 where
+  pub secondary : f .secondary ≡ 0
+  pub prefix : f .prefix ≡ 0
+  pub kind : f .kind < 8
+  pub version : f .version ≡ 1
+  pub reserved : f .reserved ≡ 0
+  pub flags : f .flags < 4
+  pub payload : x < 65536
