@@ -1,0 +1,96 @@
+//! One call made of both libraries; a difference is a panic.
+
+use crate::noise::Noise;
+use crate::packets::Request;
+use peer::answer::Refusal;
+
+/// Octets around a lent buffer that no call may touch.
+const MARGIN: usize = 16;
+
+/// Compares reading this packet, and gives the answer.
+#[track_caller]
+pub fn reading(packet: &[u8]) -> u32 {
+    let expected = reading_of_peer(packet);
+    let given = proved::read_packet(packet);
+    assert_eq!(given, expected, "reading {}", shown(packet));
+    given.answer
+}
+
+/// Compares writing this packet into a buffer full of noise, every octet of
+/// the buffer and of its margins, and gives the answer.
+#[track_caller]
+pub fn writing(request: &Request, noise: &mut Noise) -> u32 {
+    let before = noise.octets(request.room + 2 * MARGIN);
+    let lent = MARGIN..MARGIN + request.room;
+    let mut by_peer = before.clone();
+    let expected = writing_of_peer(request, &mut by_peer[lent.clone()]);
+    let mut by_proved = before.clone();
+    let fields = to_proved(&request.fields);
+    let given = proved::write_packet(fields, &request.payload, &mut by_proved[lent]);
+
+    let what = format!(
+        "writing {:?} with {} octets into {}",
+        request.fields,
+        request.payload.len(),
+        request.room
+    );
+    assert_eq!(given, expected, "{what}");
+    assert!(by_proved == by_peer, "{what}: the octets differ");
+    let end = MARGIN + given.length;
+    assert!(by_proved[..MARGIN] == before[..MARGIN], "{what}: before it");
+    assert!(by_proved[end..] == before[end..], "{what}: past its end");
+    given.answer
+}
+
+/// Compares the check sum over these octets.
+#[track_caller]
+pub fn check_sum(octets: &[u8]) {
+    let (given, expected) = (proved::crc(octets), peer::crc::crc(octets));
+    assert_eq!(given, expected, "the check sum of {}", shown(octets));
+}
+
+/// The same fields as the proved library takes them.
+pub fn to_proved(fields: &peer::packet::Fields) -> proved::Fields {
+    proved::Fields {
+        destination: fields.destination,
+        protocol: fields.protocol,
+        version: fields.version,
+        secondary: fields.secondary,
+        flags: fields.flags,
+        kind: fields.kind,
+        channel: fields.channel,
+        number: fields.number,
+        reserved: fields.reserved,
+        prefix: fields.prefix,
+        source: fields.source,
+    }
+}
+
+fn reading_of_peer(packet: &[u8]) -> proved::Reading {
+    match peer::packet::read(packet) {
+        Ok(reading) => proved::Reading {
+            answer: 0,
+            fields: to_proved(&reading.fields),
+            start: reading.start,
+            length: reading.length,
+        },
+        Err(refusal) => proved::Reading {
+            answer: refusal.number(),
+            ..proved::Reading::default()
+        },
+    }
+}
+
+fn writing_of_peer(request: &Request, out: &mut [u8]) -> proved::Writing {
+    let result = peer::packet::write(&request.fields, &request.payload, out);
+    proved::Writing {
+        answer: result.err().map_or(0, Refusal::number),
+        length: result.unwrap_or(0),
+    }
+}
+
+/// Enough of these octets to know them by.
+fn shown(octets: &[u8]) -> String {
+    let front = &octets[..octets.len().min(16)];
+    format!("{} octets: {front:02x?}", octets.len())
+}

@@ -1,0 +1,139 @@
+//! Headers that break chosen clauses of the tests 4 and 3, and no others.
+
+use crate::noise::Noise;
+use peer::packet::{flags, kind, Fields, VERSION};
+
+/// The clauses of the tests 4 and 3 that a header breaks.
+#[derive(Clone, Copy, Debug, Default, PartialEq, Eq)]
+pub struct Faults {
+    /// 4: a secondary header.
+    pub secondary: bool,
+    /// 4: a prefix.
+    pub prefix: bool,
+    /// 4: a type the base lacks.
+    pub kind: bool,
+    /// 3: another version.
+    pub version: bool,
+    /// 3: flags that the type may not have.
+    pub flags: bool,
+    /// 3: reserved bits.
+    pub reserved: bool,
+    /// 3: a payload on a type that is not Data.
+    pub payload: bool,
+}
+
+/// How far a subfield's wrong value may reach.
+#[derive(Clone, Copy, Debug, PartialEq, Eq)]
+pub enum Reach {
+    /// No further than its bits: a packet can say it.
+    Bits,
+    /// As far as an octet: only a writer can be asked for it.
+    Octet,
+}
+
+impl Faults {
+    /// Every combination of clauses.
+    pub fn all() -> impl Iterator<Item = Faults> {
+        (0..128).map(Faults::of_number)
+    }
+
+    /// Half the time none, else one alone or any combination: of all the
+    /// combinations few are without test 4.
+    pub fn some(noise: &mut Noise) -> Faults {
+        let number = match noise.below(4) {
+            0 => 1 << noise.below(7),
+            1 => noise.below(128) as u8,
+            _ => 0,
+        };
+        Faults::of_number(number)
+    }
+
+    fn of_number(number: u8) -> Faults {
+        let bit = |place: u8| number >> place & 1 == 1;
+        Faults {
+            secondary: bit(0),
+            prefix: bit(1),
+            kind: bit(2),
+            version: bit(3),
+            flags: bit(4),
+            reserved: bit(5),
+            payload: bit(6),
+        }
+    }
+
+    /// What document 01 answers to them: test 4 comes before test 3.
+    pub fn answer(self) -> u32 {
+        if self.secondary || self.prefix || self.kind {
+            4
+        } else if self.version || self.flags || self.reserved || self.payload {
+            3
+        } else {
+            0
+        }
+    }
+
+    /// Fields that have these faults and no others.
+    pub fn fields(self, reach: Reach, noise: &mut Noise) -> Fields {
+        let kind = self.a_kind(reach, noise);
+        Fields {
+            destination: noise.octet(),
+            protocol: noise.octet(),
+            version: subfield(self.version, VERSION, 2, reach, noise),
+            secondary: subfield(self.secondary, 0, 1, reach, noise),
+            flags: self.some_flags(kind, reach, noise),
+            kind,
+            channel: noise.number() as u16,
+            number: noise.octet(),
+            reserved: subfield(self.reserved, 0, 4, reach, noise),
+            prefix: subfield(self.prefix, 0, 4, reach, noise),
+            source: noise.octet(),
+        }
+    }
+
+    /// A payload length for fields with these faults, about as long as said.
+    pub fn payload_length(self, fields: &Fields, about: usize) -> usize {
+        if fields.kind == kind::DATA {
+            about
+        } else if self.payload {
+            about.max(1)
+        } else {
+            0
+        }
+    }
+
+    fn a_kind(self, reach: Reach, noise: &mut Noise) -> u8 {
+        use kind::{CLOSE, CONTROL_ACK, DATA, DATA_ACK, OPEN};
+        let only_bits = reach == Reach::Bits;
+        if self.kind && (only_bits || noise.one_in(2)) {
+            noise.one_of(&[kind::HEARTBEAT, kind::HEARTBEAT_ACK, kind::FLOW_CONTROL])
+        } else if self.kind {
+            noise.octet().max(8)
+        } else if self.payload || (self.flags && only_bits) || noise.one_in(2) {
+            // On Data no payload is wrong, nor are flags of two bits.
+            noise.one_of(&[DATA_ACK, OPEN, CLOSE, CONTROL_ACK])
+        } else {
+            DATA
+        }
+    }
+
+    fn some_flags(self, kind: u8, reach: Reach, noise: &mut Noise) -> u8 {
+        if kind != kind::DATA {
+            subfield(self.flags, flags::WHOLE, 2, reach, noise)
+        } else if self.flags {
+            noise.octet().max(4)
+        } else {
+            noise.octet() & 0b11
+        }
+    }
+}
+
+/// The right value of a subfield, or one of the wrong ones.
+fn subfield(wrong: bool, right: u8, bits: u32, reach: Reach, noise: &mut Noise) -> u8 {
+    let wide = reach == Reach::Octet && noise.one_in(2);
+    let most = if wide { 255 } else { (1 << bits) - 1 };
+    let mut value = right;
+    while wrong && value == right {
+        value = noise.octet() & most;
+    }
+    value
+}

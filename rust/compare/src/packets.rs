@@ -1,0 +1,93 @@
+//! Packets to read, and requests to write them.
+
+use crate::damage::{repair, DAMAGES};
+use crate::faults::{Faults, Reach};
+use crate::noise::Noise;
+use peer::packet::Fields;
+
+/// A packet to be written, and the size of the buffer lent for it.
+pub struct Request {
+    /// The header's fields.
+    pub fields: Fields,
+    /// The payload.
+    pub payload: Vec<u8>,
+    /// The buffer's size.
+    pub room: usize,
+}
+
+/// Any packet to read: sound, faulty, damaged, or nothing but noise.
+pub fn any_packet(noise: &mut Noise) -> Vec<u8> {
+    if noise.one_in(32) {
+        let count = noise.below(64);
+        return noise.octets(count);
+    }
+    let mut packet = faulty_packet(Faults::some(noise), noise);
+    if noise.one_in(2) {
+        noise.one_of(&DAMAGES)(&mut packet, noise);
+    }
+    packet
+}
+
+/// A packet whose length and CRC are right and whose header has these faults.
+pub fn faulty_packet(faults: Faults, noise: &mut Noise) -> Vec<u8> {
+    let fields = faults.fields(Reach::Bits, noise);
+    let about = some_length(65_535, noise);
+    let payload = noise.octets(faults.payload_length(&fields, about));
+    assemble(&fields, &payload)
+}
+
+/// Any request to write.
+pub fn any_request(noise: &mut Noise) -> Request {
+    let faults = Faults::some(noise);
+    let mut request = faulty_request(faults, noise);
+    let whole = 12 + request.payload.len();
+    request.room = some_room(whole, noise);
+    request
+}
+
+/// A request whose header has these faults; the buffer is large enough.
+pub fn faulty_request(faults: Faults, noise: &mut Noise) -> Request {
+    let fields = faults.fields(Reach::Octet, noise);
+    let about = some_length(65_537, noise);
+    let payload = noise.octets(faults.payload_length(&fields, about));
+    let room = 12 + payload.len() + noise.below(32);
+    Request {
+        fields,
+        payload,
+        room,
+    }
+}
+
+/// The octets of a packet whose subfields fit their bits, right or wrong. The
+/// peer's writer would refuse the wrong ones.
+pub fn assemble(fields: &Fields, payload: &[u8]) -> Vec<u8> {
+    let packet_control =
+        fields.version * 64 + fields.secondary * 32 + fields.flags * 8 + fields.kind;
+    let mut packet = vec![fields.destination, fields.protocol, packet_control];
+    packet.extend((payload.len() as u16).to_be_bytes());
+    packet.extend(fields.channel.to_be_bytes());
+    packet.push(fields.number);
+    packet.push(fields.reserved * 16 + fields.prefix);
+    packet.push(fields.source);
+    packet.extend(payload);
+    packet.extend([0, 0]);
+    repair(&mut packet);
+    packet
+}
+
+/// Payload lengths of 0 to 1,100 octets, short ones more often as the time goes
+/// with the octets, and now and then one of the five up to `most`.
+fn some_length(most: usize, noise: &mut Noise) -> usize {
+    if noise.one_in(8_000) {
+        return most - noise.below(5);
+    }
+    let bound = noise.one_of(&[3, 40, 40, 300, 1_101]);
+    noise.below(bound)
+}
+
+/// Buffers for a packet of `whole` octets: empty, too small, exact, larger.
+fn some_room(whole: usize, noise: &mut Noise) -> usize {
+    let smaller = noise.below(whole);
+    let larger = whole + 1 + noise.below(64);
+    noise.one_of(&[0, 11, 12, smaller, whole - 1, whole, larger, larger, larger])
+}

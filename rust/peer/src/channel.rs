@@ -1,0 +1,79 @@
+//! A channel record: one end of a channel, of either direction.
+
+use crate::answer::Refusal;
+use crate::receiving::ReceivingEnd;
+use crate::sending::SendingEnd;
+use crate::settings::{Direction, Settings};
+use crate::state::{Reason, State};
+
+/// A record of the table.
+#[derive(Clone, Debug, PartialEq, Eq)]
+pub(crate) enum Channel {
+    Sending(SendingEnd),
+    Receiving(ReceivingEnd),
+}
+
+impl Channel {
+    pub(crate) fn new(settings: Settings) -> Channel {
+        match settings.direction {
+            Direction::Sending => Channel::Sending(SendingEnd::new(settings)),
+            Direction::Receiving => Channel::Receiving(ReceivingEnd::new(settings)),
+        }
+    }
+
+    pub(crate) fn settings(&self) -> &Settings {
+        match self {
+            Channel::Sending(end) => end.settings(),
+            Channel::Receiving(end) => end.settings(),
+        }
+    }
+
+    pub(crate) fn state(&self) -> State {
+        match self {
+            Channel::Sending(end) => end.state(),
+            Channel::Receiving(end) => end.state(),
+        }
+    }
+
+    pub(crate) fn reason(&self) -> Reason {
+        match self {
+            Channel::Sending(end) => end.reason(),
+            Channel::Receiving(end) => end.reason(),
+        }
+    }
+
+    /// An Open directive, for which either direction has a place.
+    pub(crate) fn open(&mut self) -> Result<(), Refusal> {
+        match self {
+            Channel::Sending(end) => end.open(),
+            Channel::Receiving(end) => end.open(),
+        }
+    }
+
+    /// The transmit end that a request needs; the other direction gives 5.
+    pub(crate) fn sending(&mut self) -> Result<&mut SendingEnd, Refusal> {
+        match self {
+            Channel::Sending(end) => Ok(end),
+            Channel::Receiving(_) => Err(Refusal::State),
+        }
+    }
+
+    /// The receive end that a request needs; the other direction gives 5.
+    pub(crate) fn receiving(&mut self) -> Result<&mut ReceivingEnd, Refusal> {
+        match self {
+            Channel::Receiving(end) => Ok(end),
+            Channel::Sending(_) => Err(Refusal::State),
+        }
+    }
+
+    /// A tick; true if the channel went inactive in it.
+    pub(crate) fn tick(&mut self) -> bool {
+        match self {
+            Channel::Sending(end) => end.tick(),
+            Channel::Receiving(end) => {
+                end.tick();
+                false
+            }
+        }
+    }
+}

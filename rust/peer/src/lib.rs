@@ -1,0 +1,28 @@
+//! SpaceWire-R in plain Rust, written from the documents alone.
+//!
+//! It shares nothing with the proved library, so that the two can be compared
+//! call by call: what both get wrong, both must have misread.
+//!
+//! [`node::Node`] has all the calls; [`replay::replay`] is the program over it.
+//!
+//! The documents are cited by number: 01 is the scope, 000 the SpaceWire-R
+//! protocol specification, 001 the older JRDDP specification.
+
+#![forbid(unsafe_code)]
+#![warn(missing_docs)]
+
+pub mod answer;
+mod channel;
+mod course;
+pub mod crc;
+pub mod node;
+pub mod packet;
+mod receiving;
+pub mod replay;
+mod segment;
+mod sending;
+pub mod settings;
+mod slots;
+pub mod state;
+#[cfg(test)]
+mod support;

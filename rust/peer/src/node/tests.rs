@@ -1,0 +1,55 @@
+mod arrivals;
+mod channels;
+mod packets;
+mod requests;
+mod table;
+
+use super::*;
+use crate::packet::kind::{CLOSE, CONTROL_ACK, DATA, DATA_ACK, OPEN};
+use crate::packet::{flags, Fields};
+use crate::support::{
+    alone, data, unset_node, whole, written, Rig, HERE, NOISE, NOISE_LENGTH, RECEIVING, SENDING,
+    THERE,
+};
+
+/// Sending settings with this channel number.
+fn sending(channel: u16) -> Settings {
+    Settings { channel, ..SENDING }
+}
+
+/// Receiving settings with this channel number.
+fn receiving(channel: u16) -> Settings {
+    Settings {
+        channel,
+        ..RECEIVING
+    }
+}
+
+/// A packet without payload for this channel number.
+fn packet_for(channel: u16, kind: u8, number: u8) -> Vec<u8> {
+    let fields = Fields {
+        kind,
+        number,
+        ..THERE.header(HERE.own, channel)
+    };
+    written(&fields, &[])
+}
+
+/// Opens these sending channels, numbered as their index, and has the Opens
+/// acknowledged.
+fn open_all(rig: &mut Rig, indices: &[usize]) {
+    for &index in indices {
+        assert_eq!(rig.open(index), 0);
+    }
+    for &index in indices {
+        rig.next().unwrap();
+        let ack = packet_for(index as u16, CONTROL_ACK, 0);
+        assert_eq!(rig.arrive(&ack), 0);
+    }
+}
+
+/// The channel number, kind and sequence number of the next packet.
+fn next(rig: &mut Rig) -> (u8, u8, u8) {
+    let packet = rig.next_packet().unwrap();
+    (packet[6], packet[2] & 0b111, packet[7])
+}

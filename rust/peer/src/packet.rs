@@ -1,0 +1,208 @@
+//! One packet alone: from octets to fields and back (document 01, The packet;
+//! 000, 4.2). Addresses, protocol ID, channel and sequence number are plain
+//! fields here; whose they are is for a node to judge.
+
+use crate::answer::{refuse_if, Refusal};
+use crate::crc::crc;
+
+#[cfg(test)]
+mod tests;
+
+/// Octets before the payload; the prefix length is 0 in the base (000, 4.2.2.2).
+pub const HEADER_LENGTH: usize = 10;
+
+/// Octets after the payload (000, 4.2.2.2).
+pub const TRAILER_LENGTH: usize = 2;
+
+/// The most that the two octets of the payload length can say (000, 4.2.3.5).
+pub const MOST_PAYLOAD: usize = 65_535;
+
+/// The version of the protocol, "01" (000, 4.2.3.4.2).
+pub const VERSION: u8 = 0b01;
+
+/// Packet types (000, 4.2.3.4.5, Table 4-2).
+pub mod kind {
+    /// Data Packet.
+    pub const DATA: u8 = 0;
+    /// Data Ack Packet.
+    pub const DATA_ACK: u8 = 1;
+    /// Control Packet, Open Command.
+    pub const OPEN: u8 = 2;
+    /// Control Packet, Close Command.
+    pub const CLOSE: u8 = 3;
+    /// Heartbeat Packet, not in the base.
+    pub const HEARTBEAT: u8 = 4;
+    /// Heartbeat Ack Packet, not in the base.
+    pub const HEARTBEAT_ACK: u8 = 5;
+    /// Flow Control Packet or its Ack, not in the base.
+    pub const FLOW_CONTROL: u8 = 6;
+    /// Control Ack Packet.
+    pub const CONTROL_ACK: u8 = 7;
+}
+
+/// Sequence flags (000, 4.2.3.4.4, Table 4-1).
+pub mod flags {
+    /// An intermediate segment.
+    pub const CONTINUATION: u8 = 0b00;
+    /// The first segment.
+    pub const FIRST: u8 = 0b01;
+    /// The last segment.
+    pub const LAST: u8 = 0b10;
+    /// A whole unit; also every packet that is not Data.
+    pub const WHOLE: u8 = 0b11;
+}
+
+/// The header's fields but for the payload length, which goes with the
+/// payload. Each part of Packet Control and Address Control is a number of its
+/// own, so that a writer can be asked for what it must refuse.
+#[derive(Clone, Copy, Debug, Default, PartialEq, Eq)]
+pub struct Fields {
+    /// Destination logical address (000, 4.2.3.2).
+    pub destination: u8,
+    /// Protocol ID (000, 4.2.3.3).
+    pub protocol: u8,
+    /// Protocol version number, 2 bits (000, 4.2.3.4.2).
+    pub version: u8,
+    /// Secondary header flag, 1 bit (000, 4.2.3.4.3).
+    pub secondary: u8,
+    /// Sequence flags, 2 bits (000, 4.2.3.4.4).
+    pub flags: u8,
+    /// Packet type, 3 bits (000, 4.2.3.4.5).
+    pub kind: u8,
+    /// Channel number (000, 4.2.3.6).
+    pub channel: u16,
+    /// Sequence number (000, 4.2.3.7).
+    pub number: u8,
+    /// Reserved spare, 4 bits (000, 4.2.3.8.2).
+    pub reserved: u8,
+    /// Prefix length, 4 bits (000, 4.2.3.8.3).
+    pub prefix: u8,
+    /// Source logical address (000, 4.2.3.9.3).
+    pub source: u8,
+}
+
+/// What a good packet says, and where its payload lies in it.
+#[derive(Clone, Copy, Debug, PartialEq, Eq)]
+pub struct Reading {
+    /// The header's fields.
+    pub fields: Fields,
+    /// The payload's first octet.
+    pub start: usize,
+    /// The payload's length X.
+    pub length: usize,
+}
+
+/// Reads a packet by the tests 1, 2, 4, 3 (document 01, The packet). The
+/// payload stays where it lies.
+pub fn read(packet: &[u8]) -> Result<Reading, Refusal> {
+    let length = payload_length(packet)?;
+    test_crc(packet)?;
+    let fields = fields_of(packet);
+    test_base(&fields)?;
+    test_header(&fields, length)?;
+    Ok(Reading {
+        fields,
+        start: HEADER_LENGTH,
+        length,
+    })
+}
+
+/// Writes a packet at the front of `out` by the tests 4, 3, 11 (document 01,
+/// The packet), and gives its length. Octets past it stay; so does the whole
+/// buffer at a refusal.
+pub fn write(fields: &Fields, payload: &[u8], out: &mut [u8]) -> Result<usize, Refusal> {
+    test_base(fields)?;
+    test_header(fields, payload.len())?;
+    let whole = HEADER_LENGTH + payload.len() + TRAILER_LENGTH;
+    let packet = out.get_mut(..whole).ok_or(Refusal::Buffer)?;
+    let (body, trailer) = packet.split_at_mut(whole - TRAILER_LENGTH);
+    let (header, room) = body.split_at_mut(HEADER_LENGTH);
+    header.copy_from_slice(&header_of(fields, payload.len() as u16));
+    room.copy_from_slice(payload);
+    trailer.copy_from_slice(&crc(body).to_be_bytes());
+    Ok(whole)
+}
+
+/// Test 1: the payload length X of a packet of exactly 12 + X octets. A true
+/// prefix makes a packet longer, so it is refused here.
+fn payload_length(packet: &[u8]) -> Result<usize, Refusal> {
+    let around = HEADER_LENGTH + TRAILER_LENGTH;
+    let held = packet.len().checked_sub(around).ok_or(Refusal::Length)?;
+    let said = usize::from(u16::from_be_bytes([packet[3], packet[4]]));
+    refuse_if(held != said, Refusal::Length)?;
+    Ok(said)
+}
+
+/// Test 2: the trailer is the CRC of all before it, high octet first.
+fn test_crc(packet: &[u8]) -> Result<(), Refusal> {
+    let (body, trailer) = packet.split_at(packet.len() - TRAILER_LENGTH);
+    refuse_if(trailer != crc(body).to_be_bytes(), Refusal::Crc)
+}
+
+/// Test 4: what 000 has and the base lacks.
+fn test_base(fields: &Fields) -> Result<(), Refusal> {
+    use kind::{CLOSE, CONTROL_ACK, DATA, DATA_ACK, OPEN};
+    let base_kind = [DATA, DATA_ACK, OPEN, CLOSE, CONTROL_ACK].contains(&fields.kind);
+    refuse_if(
+        fields.secondary != 0 || fields.prefix != 0 || !base_kind,
+        Refusal::NotInBase,
+    )
+}
+
+/// Test 3: the other header fields, the payload length among them. Only Data
+/// has a payload in the base (000, 4.2.4.1), or flags other than 11 (000,
+/// 4.2.3.4.4).
+fn test_header(fields: &Fields, payload: usize) -> Result<(), Refusal> {
+    let data = fields.kind == kind::DATA;
+    let flags_fit = if data {
+        fields.flags <= flags::WHOLE
+    } else {
+        fields.flags == flags::WHOLE
+    };
+    let payload_fits = if data {
+        payload <= MOST_PAYLOAD
+    } else {
+        payload == 0
+    };
+    refuse_if(
+        fields.version != VERSION || !flags_fit || fields.reserved != 0 || !payload_fits,
+        Refusal::Header,
+    )
+}
+
+/// The fields of a packet of 12 octets or more (document 01, The packet).
+fn fields_of(packet: &[u8]) -> Fields {
+    let packet_control = packet[2];
+    let address_control = packet[8];
+    Fields {
+        destination: packet[0],
+        protocol: packet[1],
+        version: packet_control >> 6,
+        secondary: packet_control >> 5 & 0b1,
+        flags: packet_control >> 3 & 0b11,
+        kind: packet_control & 0b111,
+        channel: u16::from_be_bytes([packet[5], packet[6]]),
+        number: packet[7],
+        reserved: address_control >> 4,
+        prefix: address_control & 0b1111,
+        source: packet[9],
+    }
+}
+
+/// The header's octets, of fields that have passed the tests 4 and 3.
+fn header_of(fields: &Fields, length: u16) -> [u8; HEADER_LENGTH] {
+    let [length_high, length_low] = length.to_be_bytes();
+    let [channel_high, channel_low] = fields.channel.to_be_bytes();
+    [
+        fields.destination,
+        fields.protocol,
+        fields.version << 6 | fields.secondary << 5 | fields.flags << 3 | fields.kind,
+        length_high,
+        length_low,
+        channel_high,
+        channel_low,
+        fields.number,
+        fields.reserved << 4 | fields.prefix,
+        fields.source,
+    ]
+}

@@ -1,0 +1,191 @@
+use super::*;
+
+/// Octets that no call may touch are filled with this.
+const NOISE: u8 = 0xA5;
+
+fn data(flags: u8) -> Fields {
+    Fields {
+        destination: 64,
+        protocol: 238,
+        version: VERSION,
+        flags,
+        kind: kind::DATA,
+        channel: 0x1234,
+        number: 7,
+        source: 65,
+        ..Fields::default()
+    }
+}
+
+fn alone(kind: u8) -> Fields {
+    Fields {
+        kind,
+        ..data(flags::WHOLE)
+    }
+}
+
+fn written(fields: &Fields, payload: &[u8]) -> Vec<u8> {
+    let mut out = vec![NOISE; 12 + payload.len()];
+    assert_eq!(write(fields, payload, &mut out), Ok(out.len()));
+    out
+}
+
+/// The packet with some octets changed and the trailer made right again.
+fn changed(packet: &[u8], changes: &[(usize, u8)]) -> Vec<u8> {
+    let mut packet = packet.to_vec();
+    for &(place, octet) in changes {
+        packet[place] = octet;
+    }
+    let body = packet.len() - TRAILER_LENGTH;
+    let trailer = crc(&packet[..body]).to_be_bytes();
+    packet[body..].copy_from_slice(&trailer);
+    packet
+}
+
+fn refused(fields: Fields, payload: &[u8], room: usize) -> Refusal {
+    let mut out = vec![NOISE; room];
+    let refusal = write(&fields, payload, &mut out).unwrap_err();
+    assert!(out.iter().all(|&octet| octet == NOISE));
+    refusal
+}
+
+#[test]
+fn packet_control_of_data_segments() {
+    let controls = [
+        (flags::FIRST, 0x48),
+        (flags::CONTINUATION, 0x40),
+        (flags::LAST, 0x50),
+        (flags::WHOLE, 0x58),
+    ];
+    for (flags, control) in controls {
+        assert_eq!(written(&data(flags), b"x")[2], control);
+    }
+}
+
+#[test]
+fn every_octet_has_its_place() {
+    let packet = written(&data(flags::FIRST), b"abc");
+    let body = [64, 238, 0x48, 0, 3, 0x12, 0x34, 7, 0, 65, b'a', b'b', b'c'];
+    assert_eq!(packet[..13], body);
+    assert_eq!(packet[13..], crc(&body).to_be_bytes());
+}
+
+#[test]
+fn what_is_written_is_read() {
+    for length in [0, 1, 2, 255, 256, 1_024, MOST_PAYLOAD] {
+        let payload = vec![0x5A; length];
+        let fields = data(flags::LAST);
+        let packet = written(&fields, &payload);
+        let start = 10;
+        let reading = Reading {
+            fields,
+            start,
+            length,
+        };
+        assert_eq!(read(&packet), Ok(reading));
+        assert_eq!(packet[start..start + length], payload);
+    }
+}
+
+#[test]
+fn every_base_type_without_payload_is_read() {
+    for kind in [0, 1, 2, 3, 7] {
+        let packet = written(&alone(kind), b"");
+        assert_eq!(read(&packet).unwrap().fields, alone(kind));
+    }
+}
+
+#[test]
+fn octets_past_the_packet_stay() {
+    let mut out = [NOISE; 20];
+    assert_eq!(write(&data(flags::WHOLE), b"abc", &mut out), Ok(15));
+    assert_eq!(out[15..], [NOISE; 5]);
+}
+
+#[test]
+fn length_is_tested_first() {
+    let packet = written(&data(flags::WHOLE), b"abc");
+    for count in 0..packet.len() {
+        assert_eq!(read(&packet[..count]), Err(Refusal::Length));
+    }
+    let longer = [&packet[..], &[0]].concat();
+    assert_eq!(read(&longer), Err(Refusal::Length));
+}
+
+#[test]
+fn a_true_prefix_is_a_wrong_length() {
+    let mut packet = written(&data(flags::WHOLE), b"abc");
+    packet.insert(9, 1);
+    assert_eq!(read(&changed(&packet, &[(8, 1)])), Err(Refusal::Length));
+}
+
+#[test]
+fn every_changed_bit_but_of_the_length_is_a_wrong_crc() {
+    let packet = written(&data(flags::WHOLE), b"abc");
+    for place in (0..packet.len()).filter(|place| ![3, 4].contains(place)) {
+        for bit in 0..8 {
+            let mut damaged = packet.clone();
+            damaged[place] ^= 1 << bit;
+            assert_eq!(read(&damaged), Err(Refusal::Crc));
+        }
+    }
+}
+
+#[test]
+fn reading_tests_4_before_3() {
+    let packet = written(&alone(kind::OPEN), b"");
+    let cases = [
+        (vec![(2, 0x7A)], Refusal::NotInBase),
+        (vec![(8, 0x01)], Refusal::NotInBase),
+        (vec![(2, 0x5C)], Refusal::NotInBase),
+        (vec![(2, 0x9E)], Refusal::NotInBase),
+        (vec![(8, 0xF1)], Refusal::NotInBase),
+        (vec![(2, 0x9A)], Refusal::Header),
+        (vec![(2, 0x4A)], Refusal::Header),
+        (vec![(8, 0x10)], Refusal::Header),
+    ];
+    for (changes, refusal) in cases {
+        assert_eq!(read(&changed(&packet, &changes)), Err(refusal));
+    }
+}
+
+#[test]
+fn only_data_has_a_payload() {
+    let packet = written(&data(flags::WHOLE), b"x");
+    for kind in [1, 2, 3, 7] {
+        let other = changed(&packet, &[(2, 0x58 | kind)]);
+        assert_eq!(read(&other), Err(Refusal::Header));
+        assert_eq!(refused(alone(kind), b"x", 13), Refusal::Header);
+    }
+}
+
+#[test]
+fn writing_tests_4_then_3_then_11() {
+    let whole = data(flags::WHOLE);
+    let secondary = Fields {
+        secondary: 2,
+        version: 0,
+        ..whole
+    };
+    let prefix = Fields {
+        prefix: 16,
+        reserved: 1,
+        ..whole
+    };
+    let reserved = Fields {
+        reserved: 16,
+        ..whole
+    };
+    let version = Fields {
+        version: 5,
+        ..whole
+    };
+    assert_eq!(refused(secondary, b"", 0), Refusal::NotInBase);
+    assert_eq!(refused(prefix, b"", 0), Refusal::NotInBase);
+    assert_eq!(refused(alone(8), b"x", 0), Refusal::NotInBase);
+    assert_eq!(refused(reserved, b"", 0), Refusal::Header);
+    assert_eq!(refused(version, b"", 0), Refusal::Header);
+    assert_eq!(refused(data(4), b"", 0), Refusal::Header);
+    assert_eq!(refused(whole, &[0; 65_536], 0), Refusal::Header);
+    assert_eq!(refused(whole, b"abc", 14), Refusal::Buffer);
+}

@@ -1,0 +1,252 @@
+//! The transmit end of a channel (document 01, Sending; 000, 4.4).
+
+use std::collections::VecDeque;
+
+use crate::answer::{refuse_if, Refusal};
+use crate::course::Course;
+use crate::packet::{flags, kind};
+use crate::segment::{cut, rejoin, segment_count, sequence_number, Segment};
+use crate::settings::Settings;
+use crate::slots::Slots;
+use crate::state::{Reason, State};
+
+use window::Window;
+
+#[cfg(test)]
+mod tests;
+mod window;
+
+/// The states, each with what belongs to it alone: what a state has is gone
+/// when the state is left.
+#[derive(Clone, Debug, PartialEq, Eq)]
+enum Phase {
+    Closed(Reason),
+    Enabled { open: Course, close_kept: bool },
+    Open(Window),
+    Closing { close: Course },
+}
+
+/// A transmit end and the units it holds.
+#[derive(Clone, Debug, PartialEq, Eq)]
+pub(crate) struct SendingEnd {
+    settings: Settings,
+    phase: Phase,
+    /// Units accepted and neither confirmed nor reclaimed, oldest first. They
+    /// outlive the opening: "leaving OPEN never discards an unconfirmed unit".
+    held: VecDeque<Vec<Segment>>,
+}
+
+/// "Control before resent Data before new Data", in this order.
+#[derive(Clone, Copy, Debug, PartialEq, Eq, PartialOrd, Ord)]
+pub(crate) enum Rank {
+    Control,
+    ResentData,
+    NewData,
+}
+
+/// A packet that an end would hand out.
+#[derive(Clone, Copy, Debug, PartialEq, Eq)]
+pub(crate) struct Offer<'a> {
+    pub(crate) rank: Rank,
+    pub(crate) kind: u8,
+    pub(crate) flags: u8,
+    pub(crate) number: u8,
+    pub(crate) payload: &'a [u8],
+}
+
+impl SendingEnd {
+    /// A channel as settings make it: CLOSED and empty.
+    pub(crate) fn new(settings: Settings) -> SendingEnd {
+        SendingEnd {
+            settings,
+            phase: Phase::Closed(Reason::None),
+            held: VecDeque::new(),
+        }
+    }
+
+    pub(crate) fn settings(&self) -> &Settings {
+        &self.settings
+    }
+
+    pub(crate) fn state(&self) -> State {
+        match self.phase {
+            Phase::Closed(_) => State::Closed,
+            Phase::Enabled { .. } => State::Enabled,
+            Phase::Open(_) => State::Open,
+            Phase::Closing { .. } => State::Closing,
+        }
+    }
+
+    pub(crate) fn reason(&self) -> Reason {
+        match self.phase {
+            Phase::Closed(reason) => reason,
+            _ => Reason::None,
+        }
+    }
+
+    /// An Open directive (000, 4.4.3.2): "an Open directive leads to ENABLED,
+    /// an Open (number 0) becomes ready".
+    pub(crate) fn open(&mut self) -> Result<(), Refusal> {
+        refuse_if(self.state() != State::Closed, Refusal::State)?;
+        refuse_if(!self.held.is_empty(), Refusal::UnitsLeft)?;
+        self.phase = Phase::Enabled {
+            open: Course::NEW,
+            close_kept: false,
+        };
+        Ok(())
+    }
+
+    /// A Close directive (000, 4.4.3.3 and 4.4.3.4). CLOSING leaves the window
+    /// behind, and with it all Data sending and timers.
+    pub(crate) fn close(&mut self) -> Result<(), Refusal> {
+        match &mut self.phase {
+            Phase::Enabled { close_kept, .. } if !*close_kept => *close_kept = true,
+            Phase::Open(_) => self.phase = Phase::Closing { close: Course::NEW },
+            _ => return Err(Refusal::State),
+        }
+        Ok(())
+    }
+
+    /// Accepts a unit and files its segments (000, 4.4.2).
+    pub(crate) fn transfer(&mut self, unit: &[u8], slots: &mut Slots) -> Result<(), Refusal> {
+        let held: usize = self.held.iter().map(Vec::len).sum();
+        let Phase::Open(window) = &mut self.phase else {
+            return Err(Refusal::State);
+        };
+        let most_payload = self.settings.most_payload as usize;
+        let needed = segment_count(unit.len(), most_payload);
+        refuse_if(
+            needed > self.settings.most_segments as usize,
+            Refusal::TooLong,
+        )?;
+        refuse_if(
+            held + needed > self.settings.slots as usize,
+            Refusal::NoSlots,
+        )?;
+        let segments = cut(unit, most_payload, window.add(needed));
+        for segment in &segments {
+            slots.file(segment.number, &segment.octets);
+        }
+        self.held.push_back(segments);
+        Ok(())
+    }
+
+    /// "In CLOSED the application reclaims them whole, oldest first."
+    pub(crate) fn reclaim(&mut self, out: &mut [u8]) -> Result<usize, Refusal> {
+        refuse_if(self.state() != State::Closed, Refusal::State)?;
+        let oldest = self.held.front().ok_or(Refusal::Nothing)?;
+        let length = rejoin(oldest, out)?;
+        self.held.pop_front();
+        Ok(length)
+    }
+
+    /// A Control Ack (000, 4.4.3.3 and 4.4.3.5): it counts if it is "numbered
+    /// 0 and after the Open was handed out"; a Close's "by the same rule".
+    pub(crate) fn control_ack(&mut self, number: u8) -> Result<(), Refusal> {
+        let (course, next) = match &self.phase {
+            Phase::Enabled { open, close_kept } if *close_kept => {
+                (open, Phase::Closing { close: Course::NEW })
+            }
+            Phase::Enabled { open, .. } => (open, Phase::Open(Window::NEW)),
+            Phase::Closing { close } => (close, Phase::Closed(Reason::None)),
+            Phase::Closed(_) | Phase::Open(_) => return Err(Refusal::State),
+        };
+        refuse_if(number != 0 || !course.was_sent(), Refusal::Ignored)?;
+        self.phase = next;
+        Ok(())
+    }
+
+    /// A Data Ack; gives how many units it confirmed. "A unit is confirmed
+    /// when the start has passed its last segment", so one beyond a gap is not.
+    pub(crate) fn data_ack(&mut self, number: u8) -> Result<usize, Refusal> {
+        let Phase::Open(window) = &mut self.phase else {
+            return Err(Refusal::State);
+        };
+        window.acknowledge(number, self.settings.window)?;
+        let start = window.start();
+        let is_passed = |unit: &&Vec<Segment>| unit.iter().all(|segment| segment.number < start);
+        let confirmed = self.held.iter().take_while(is_passed).count();
+        self.held.drain(..confirmed);
+        Ok(confirmed)
+    }
+
+    /// A tick; true if the channel went inactive in it. "If one ends and its
+    /// retries are used up, the channel goes inactive and CLOSED".
+    pub(crate) fn tick(&mut self) -> bool {
+        let retries = self.settings.retries;
+        let used_up = match &mut self.phase {
+            Phase::Closed(_) => false,
+            Phase::Enabled { open, .. } => open.tick(retries),
+            Phase::Open(window) => window.tick(retries),
+            Phase::Closing { close } => close.tick(retries),
+        };
+        if used_up {
+            self.phase = Phase::Closed(Reason::Retries);
+        }
+        used_up
+    }
+
+    /// The packet that this end would hand out next, if any.
+    pub(crate) fn offer(&self) -> Option<Offer<'_>> {
+        let control = |course: &Course, kind| {
+            let ready = course.is_ready();
+            ready.then(|| Offer::control(kind))
+        };
+        match &self.phase {
+            Phase::Closed(_) => None,
+            Phase::Enabled { open, .. } => control(open, kind::OPEN),
+            Phase::Closing { close } => control(close, kind::CLOSE),
+            Phase::Open(window) => {
+                let (rank, number) = window.next_ready(self.settings.window)?;
+                let mut segments = self.held.iter().flatten();
+                let segment = segments.find(|segment| segment.number == number)?;
+                Some(Offer::data(rank, segment))
+            }
+        }
+    }
+
+    /// Notes that the packet of [`SendingEnd::offer`] was handed out.
+    pub(crate) fn hand_out(&mut self) {
+        let timeout = self.settings.timeout;
+        match &mut self.phase {
+            Phase::Closed(_) => {}
+            Phase::Enabled { open, .. } => open.hand_out(timeout),
+            Phase::Open(window) => window.hand_out(self.settings.window, timeout),
+            Phase::Closing { close } => close.hand_out(timeout),
+        }
+    }
+}
+
+impl Rank {
+    fn of_data(resent: bool) -> Rank {
+        if resent {
+            Rank::ResentData
+        } else {
+            Rank::NewData
+        }
+    }
+}
+
+impl<'a> Offer<'a> {
+    /// A Control packet: number 0, flags 11, no payload (000, 4.4.4.4,
+    /// 4.2.3.4.4 and 4.2.4.1).
+    fn control(kind: u8) -> Offer<'a> {
+        Offer {
+            rank: Rank::Control,
+            kind,
+            flags: flags::WHOLE,
+            number: 0,
+            payload: &[],
+        }
+    }
+
+    fn data(rank: Rank, segment: &'a Segment) -> Offer<'a> {
+        Offer {
+            rank,
+            kind: kind::DATA,
+            flags: segment.flags,
+            number: sequence_number(segment.number),
+            payload: &segment.octets,
+        }
+    }
+}

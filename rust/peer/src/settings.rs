@@ -1,0 +1,133 @@
+//! Settings of a node and of its channels (document 01, A channel's record and
+//! memory; 000, 5.3).
+
+use crate::answer::{refuse_if, Refusal};
+use crate::packet::{flags, Fields, VERSION};
+
+#[cfg(test)]
+mod tests;
+
+/// The most records in a table.
+pub const MOST_RECORDS: usize = 16;
+
+/// The protocol ID where nothing else is set (000, 4.2.3.3).
+pub const DEFAULT_PROTOCOL: u8 = 5;
+
+/// What the whole node has in common.
+#[derive(Clone, Copy, Debug, PartialEq, Eq)]
+pub struct NodeSettings {
+    /// The node's own logical address.
+    pub own: u8,
+    /// The protocol ID of its packets.
+    pub protocol: u8,
+}
+
+impl NodeSettings {
+    /// A node with this address and the protocol ID of 000.
+    pub fn new(own: u8) -> NodeSettings {
+        NodeSettings {
+            own,
+            protocol: DEFAULT_PROTOCOL,
+        }
+    }
+
+    /// The fields that all packets of a channel to this remote address have in
+    /// common, with the flags of a packet that is not Data.
+    pub(crate) fn header(&self, remote: u8, channel: u16) -> Fields {
+        Fields {
+            destination: remote,
+            protocol: self.protocol,
+            version: VERSION,
+            flags: flags::WHOLE,
+            channel,
+            source: self.own,
+            ..Fields::default()
+        }
+    }
+}
+
+/// Which end of a channel a record is.
+#[derive(Clone, Copy, Debug, PartialEq, Eq)]
+pub enum Direction {
+    /// The transmit end.
+    Sending,
+    /// The receive end.
+    Receiving,
+}
+
+/// The settings of one channel. The numbers are wider than their ranges, so
+/// that a caller can ask for what must be refused.
+#[derive(Clone, Copy, Debug, PartialEq, Eq)]
+pub struct Settings {
+    /// Which end the record is.
+    pub direction: Direction,
+    /// The channel number (000, 4.2.3.6).
+    pub channel: u16,
+    /// The logical address of the other end.
+    pub remote: u8,
+    /// The window k, a power of two, 1 to 64.
+    pub window: u32,
+    /// The slots, k to 128.
+    pub slots: u32,
+    /// P, the most payload octets of a segment, 1 to 1,024.
+    pub most_payload: u32,
+    /// M, the most segments of a unit, 1 to slots.
+    pub most_segments: u32,
+    /// The timeout of a packet, 1 to 65,535 ticks.
+    pub timeout: u32,
+    /// The close timeout, 1 to 65,535 ticks. That it outlasts all resends of a
+    /// Close (000, 4.5.2.5) binds the project's document, not the node.
+    pub close_timeout: u32,
+    /// The resends allowed to a packet, 0 to 255.
+    pub retries: u32,
+}
+
+impl Settings {
+    /// Whether every number lies in its range.
+    fn in_range(&self) -> bool {
+        self.window.is_power_of_two()
+            && self.window <= 64
+            && (self.window..=128).contains(&self.slots)
+            && (1..=1_024).contains(&self.most_payload)
+            && (1..=self.slots).contains(&self.most_segments)
+            && (1..=65_535).contains(&self.timeout)
+            && (1..=65_535).contains(&self.close_timeout)
+            && self.retries <= 255
+    }
+
+    /// "No two records may have equal channel number, remote address and
+    /// direction."
+    fn clashes(&self, other: &Settings) -> bool {
+        self.serves(other.direction, other.channel, other.remote)
+    }
+
+    /// Whether packets of this channel and remote address, for an end of this
+    /// direction, are for this record.
+    pub(crate) fn serves(&self, direction: Direction, channel: u16, remote: u8) -> bool {
+        self.direction == direction && self.channel == channel && self.remote == remote
+    }
+
+    /// The octets of memory that this channel needs: slots times P.
+    pub(crate) fn octets(&self) -> usize {
+        self.slots as usize * self.most_payload as usize
+    }
+}
+
+/// Tests the settings of a whole table (13).
+pub(crate) fn test_table(table: &[Settings]) -> Result<(), Refusal> {
+    let count_fits = (1..=MOST_RECORDS).contains(&table.len());
+    let in_range = table.iter().all(Settings::in_range);
+    let clash = table
+        .iter()
+        .enumerate()
+        .any(|(place, one)| table[..place].iter().any(|other| one.clashes(other)));
+    refuse_if(!count_fits || !in_range || clash, Refusal::Settings)
+}
+
+/// The octets of memory and the number of lengths that a caller lends to a
+/// node with such a table. It means something for good settings only.
+pub fn storage(table: &[Settings]) -> (usize, usize) {
+    let octets = table.iter().map(Settings::octets).sum();
+    let lengths = table.iter().map(|one| one.slots as usize).sum();
+    (octets, lengths)
+}

@@ -1,0 +1,127 @@
+use super::*;
+use crate::support::{RECEIVING, SENDING};
+
+fn accepted(settings: Settings) -> bool {
+    test_table(&[settings]).is_ok()
+}
+
+/// "window k a power of two, 1 to 64"
+#[test]
+fn window() {
+    let with = |window| Settings {
+        window,
+        slots: 128,
+        ..SENDING
+    };
+    let good: Vec<u32> = (0..300).filter(|&k| accepted(with(k))).collect();
+    assert_eq!(good, [1, 2, 4, 8, 16, 32, 64]);
+}
+
+/// "slots from k to 128"
+#[test]
+fn slots() {
+    let with = |slots| Settings {
+        slots,
+        most_segments: 1,
+        ..SENDING
+    };
+    let good: Vec<u32> = (0..300).filter(|&slots| accepted(with(slots))).collect();
+    assert_eq!(good, (4..=128).collect::<Vec<u32>>());
+}
+
+/// "P, the most payload octets, 1 to 1,024"
+#[test]
+fn most_payload() {
+    let with = |most_payload| Settings {
+        most_payload,
+        ..SENDING
+    };
+    let good = [0, 1, 1_024, 1_025, u32::MAX].map(|p| accepted(with(p)));
+    assert_eq!(good, [false, true, true, false, false]);
+}
+
+/// "M, the most segments in a unit, 1 to slots"
+#[test]
+fn most_segments() {
+    let with = |most_segments| Settings {
+        most_segments,
+        ..SENDING
+    };
+    let good = [0, 1, 8, 9, u32::MAX].map(|m| accepted(with(m)));
+    assert_eq!(good, [false, true, true, false, false]);
+}
+
+/// "timeout and close timeout 1 to 65,535 ticks"
+#[test]
+fn timeouts() {
+    let timeout = |timeout| Settings { timeout, ..SENDING };
+    let close_timeout = |close_timeout| Settings {
+        close_timeout,
+        ..SENDING
+    };
+    let ticks = [0, 1, 65_535, 65_536];
+    let expected = [false, true, true, false];
+    assert_eq!(ticks.map(|count| accepted(timeout(count))), expected);
+    assert_eq!(ticks.map(|count| accepted(close_timeout(count))), expected);
+}
+
+/// "retries 0 to 255"
+#[test]
+fn retries() {
+    let with = |retries| Settings { retries, ..SENDING };
+    let good = [0, 255, 256].map(|count| accepted(with(count)));
+    assert_eq!(good, [true, true, false]);
+}
+
+/// "No two records may have equal channel number, remote address and
+/// direction."
+#[test]
+fn clashes() {
+    let channel = Settings {
+        channel: 2,
+        ..SENDING
+    };
+    let remote = Settings {
+        remote: 66,
+        ..SENDING
+    };
+    let other_window = Settings {
+        window: 2,
+        ..SENDING
+    };
+    assert!(test_table(&[SENDING, RECEIVING, channel, remote]).is_ok());
+    assert!(test_table(&[SENDING, SENDING]).is_err());
+    assert!(test_table(&[SENDING, RECEIVING, other_window]).is_err());
+}
+
+/// "A table of 0 or over 16 records [..] gives 13"
+#[test]
+fn count_of_records() {
+    let table: Vec<Settings> = (0..17)
+        .map(|channel| Settings { channel, ..SENDING })
+        .collect();
+    assert!(test_table(&[]).is_err());
+    assert!(test_table(&table[..1]).is_ok());
+    assert!(test_table(&table[..16]).is_ok());
+    assert!(test_table(&table).is_err());
+}
+
+/// "a lent memory of exactly slots x P octets; beside it the caller lends one
+/// 16-bit length for each slot"
+#[test]
+fn storage_of_a_table() {
+    let small = Settings {
+        channel: 2,
+        slots: 5,
+        most_payload: 3,
+        ..SENDING
+    };
+    assert_eq!(storage(&[SENDING]), (128, 8));
+    assert_eq!(storage(&[SENDING, small]), (143, 13));
+}
+
+/// "000 decides the default", which is 05h (000, 4.2.3.3).
+#[test]
+fn default_protocol() {
+    assert_eq!(NodeSettings::new(64).protocol, 5);
+}

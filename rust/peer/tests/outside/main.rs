@@ -1,0 +1,12 @@
+//! Tests from outside: what a caller of the node sees, and no more.
+
+mod calls;
+mod exchanges;
+mod link;
+mod noise;
+mod pair;
+mod random_calls;
+mod replaying;
+mod soak;
+mod traps;
+mod world;

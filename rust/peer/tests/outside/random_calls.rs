@@ -1,0 +1,168 @@
+//! Random calls of all kinds, most of which make no sense.
+
+use std::collections::BTreeSet;
+
+use peer::crc::crc;
+use peer::node::Node;
+use peer::packet::{flags, kind};
+use peer::settings::{Direction, Settings};
+use peer::state::{Reason, State};
+
+use crate::calls::{checked, data, new_node, ADDRESSES};
+use crate::noise::Noise;
+
+/// A table of four channels with small windows.
+fn table(noise: &mut Noise) -> Vec<Settings> {
+    let settings = |noise: &mut Noise, channel: u16, direction: Direction| {
+        let window = noise.one_of(&[1, 2, 4, 8]);
+        let slots = window + noise.under(6) as u32;
+        Settings {
+            direction,
+            channel,
+            remote: ADDRESSES[1],
+            window,
+            slots,
+            most_payload: 1 + noise.under(5) as u32,
+            most_segments: 1 + noise.under(slots as usize) as u32,
+            timeout: 1 + noise.under(4) as u32,
+            close_timeout: 1 + noise.under(4) as u32,
+            retries: noise.under(3) as u32,
+        }
+    };
+    let ends = [
+        (0, Direction::Sending),
+        (0, Direction::Receiving),
+        (1, Direction::Receiving),
+        (1, Direction::Sending),
+    ];
+    ends.map(|(channel, direction)| settings(noise, channel, direction))
+        .to_vec()
+}
+
+/// A node and what is likely to make sense to it.
+struct Player {
+    node: Node,
+    noise: Noise,
+    /// The last Data number accepted on each channel number.
+    accepted: [u8; 2],
+}
+
+impl Player {
+    fn new(seed: u64) -> Player {
+        let mut noise = Noise::new(seed);
+        let table = table(&mut noise);
+        let node = new_node(0, &table, &mut noise);
+        Player {
+            node,
+            noise,
+            accepted: [0; 2],
+        }
+    }
+
+    /// A packet that is good but for its place in the exchange; rarely another
+    /// octet is wrong, too.
+    fn packet(&mut self) -> Vec<u8> {
+        use kind::{CLOSE, CONTROL_ACK, DATA, DATA_ACK, OPEN};
+        let noise = &mut self.noise;
+        let kinds = [DATA, DATA, DATA, DATA, DATA_ACK, OPEN, CLOSE, CONTROL_ACK];
+        let kind = noise.one_of(&kinds);
+        let channel = noise.under(2);
+        let number = match noise.under(12) {
+            0 => noise.octet(),
+            1 | 2 => 0,
+            3 | 4 => noise.under(9) as u8,
+            _ => self.accepted[channel].wrapping_add(noise.under(3) as u8),
+        };
+        let channel = channel as u16;
+        let mut packet = if kind == DATA {
+            let length = noise.under(6);
+            let all = [flags::WHOLE, flags::FIRST, flags::LAST, flags::CONTINUATION];
+            let flags = all[noise.under(4).min(noise.under(4)).min(noise.under(4))];
+            data(0, channel, kind, number, flags, &noise.octets(length))
+        } else {
+            let named = kind == DATA_ACK || noise.percent(3);
+            let number = if named { number } else { 0 };
+            data(0, channel, kind, number, flags::WHOLE, &[])
+        };
+        if noise.percent(4) {
+            spoil(&mut packet, noise);
+        }
+        packet
+    }
+
+    /// One random call; gives its answer number.
+    fn call(&mut self) -> u8 {
+        let index = self.noise.under(4) + usize::from(self.noise.percent(1));
+        let small = self.noise.percent(5);
+        let buffer = if small { self.noise.under(14) } else { 128 };
+        let choice = self.noise.under(20);
+        let length = self.noise.under(40).min(self.noise.under(40));
+        let octets = match choice {
+            0..=9 => self.packet(),
+            _ => self.noise.octets(length),
+        };
+        let (memory, lengths) = (self.node.memory().to_vec(), self.node.lengths().to_vec());
+        let (answer, reply) = checked(&mut self.node, buffer, |node, out| match choice {
+            0..=9 => node.arrival(&octets, out),
+            10 | 11 => node.open(index),
+            12 => node.close(index),
+            13 | 14 => node.transfer(index, &octets),
+            15 => node.take(index, out),
+            16 => node.reclaim(index, out),
+            17 => node.tick(),
+            _ => node.next_packet(out),
+        });
+        if !matches!(choice, 0..=9 | 13 | 14) {
+            assert!(memory == self.node.memory() && lengths == self.node.lengths());
+        }
+        if let (0..=9, 0, 12) = (choice, answer.number, reply.len()) {
+            self.accepted[usize::from(reply[6])] = reply[7];
+        }
+        answer.number
+    }
+
+    /// A reason stands in CLOSED alone, and each direction has its own.
+    fn check(&self) {
+        for index in 0..4 {
+            let sending = self.node.direction(index) == Some(Direction::Sending);
+            match self.node.reason(index).unwrap() {
+                Reason::None => continue,
+                Reason::Retries => assert!(sending),
+                _ => assert!(!sending),
+            }
+            assert_eq!(self.node.state(index), Some(State::Closed));
+        }
+    }
+}
+
+/// Another octet somewhere, and mostly a trailer that fits it.
+fn spoil(packet: &mut [u8], noise: &mut Noise) {
+    let body = packet.len() - 2;
+    packet[noise.under(body)] = noise.octet();
+    if noise.percent(80) {
+        let trailer = crc(&packet[..body]).to_be_bytes();
+        packet[body..].copy_from_slice(&trailer);
+    }
+}
+
+/// All answers but 13 are given, and whatever is refused changes nothing.
+#[test]
+fn random_calls() {
+    let mut seen = BTreeSet::new();
+    let mut reasons = Vec::new();
+    for seed in 0..60 {
+        let mut player = Player::new(1_000 + seed);
+        for _ in 0..3_000 {
+            seen.insert(player.call());
+            player.check();
+            let index = player.noise.under(4);
+            let reason = player.node.reason(index).unwrap();
+            if !reasons.contains(&reason) {
+                reasons.push(reason);
+            }
+        }
+    }
+    let all: BTreeSet<u8> = (0..=16).filter(|&number| number != 13).collect();
+    assert_eq!(seen, all);
+    assert_eq!(reasons.len(), 6);
+}

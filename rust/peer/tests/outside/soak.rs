@@ -1,0 +1,157 @@
+//! A long run of two nodes over bad links.
+
+use std::collections::BTreeSet;
+
+use peer::settings::{Direction, Settings};
+use peer::state::State;
+
+use crate::link::{Weather, FAIR};
+use crate::world::World;
+
+/// Loses and repeats, but keeps the order: openings live long.
+const ORDERLY: Weather = Weather {
+    loss: 10,
+    repeat: 10,
+    damage: 3,
+    lateness: 0,
+};
+
+/// Reorders a little as well.
+const UNSTEADY: Weather = Weather {
+    lateness: 3,
+    ..ORDERLY
+};
+
+/// Reorders so much that many openings die.
+const STORMY: Weather = Weather {
+    loss: 20,
+    repeat: 25,
+    damage: 5,
+    lateness: 12,
+};
+
+/// Settings with these window, slots, P and M.
+fn settings(channel: u16, window: u32, slots: u32, payload: u32, segments: u32) -> Settings {
+    Settings {
+        direction: Direction::Sending,
+        channel,
+        remote: 0,
+        window,
+        slots,
+        most_payload: payload,
+        most_segments: segments,
+        timeout: 3,
+        close_timeout: 7,
+        retries: 20,
+    }
+}
+
+/// Runs a world, then lets it settle in fair weather; gives it back with the
+/// most segments that an opening had. A few units are sent while it settles:
+/// without them an idle transmit end would not notice that the other end has
+/// closed.
+fn run(channels: &[(usize, Settings)], weather: Weather, rounds: usize, seed: u64) -> (World, u64) {
+    let mut world = World::new(channels, weather, seed);
+    for round in 0..rounds {
+        world.round();
+        if round % 32 == 0 {
+            world.check();
+        }
+    }
+    world.weather = FAIR;
+    for load in [2, 0] {
+        world.load = load;
+        (0..1_000).for_each(|_| world.round());
+    }
+    world.check();
+    let openings = world.pairs.iter().flat_map(|pair| &pair.openings);
+    let segments = openings.map(|opening| opening.segments).max();
+    let segments = segments.unwrap_or(0);
+    (world, segments)
+}
+
+/// In fair weather every channel opens in the end, and all is confirmed and
+/// taken.
+fn check_settled(world: &World) {
+    for pair in &world.pairs {
+        assert_eq!(world.state(pair.sender), State::Open);
+        assert_eq!(world.state(pair.receiver), State::Open);
+        let opening = pair.openings.last().unwrap();
+        assert_eq!(opening.confirmed, opening.accepted.len());
+        let taken = pair.tied.map_or(0, |_| pair.taken);
+        assert_eq!(taken, opening.accepted.len());
+    }
+}
+
+/// Window, slots, P and M of the soaked channels: the least slots, slots that
+/// do not divide 256, and units of one segment up to all slots.
+const SHAPES: [(u32, u32, u32, u32); 14] = [
+    (1, 1, 3, 1),
+    (1, 3, 1, 3),
+    (1, 7, 2, 4),
+    (2, 2, 2, 2),
+    (2, 3, 1, 2),
+    (2, 5, 4, 5),
+    (2, 100, 1, 9),
+    (4, 4, 3, 4),
+    (4, 6, 2, 1),
+    (4, 7, 1, 7),
+    (4, 11, 2, 3),
+    (8, 8, 1, 5),
+    (8, 9, 2, 9),
+    (8, 13, 1, 2),
+];
+
+/// Runs every shape of channel alone; gives all answers seen.
+fn run_shapes(weather: Weather, retries: u32, rounds: usize, least: u64) -> BTreeSet<u8> {
+    let mut seen = BTreeSet::new();
+    for (seed, &(window, slots, payload, segments)) in (1..).zip(&SHAPES) {
+        let channel = Settings {
+            retries,
+            ..settings(0, window, slots, payload, segments)
+        };
+        let (world, most) = run(&[(0, channel)], weather, rounds, seed);
+        check_settled(&world);
+        assert!(most >= least, "{window} {slots}: {most} segments");
+        seen.extend(world.seen);
+    }
+    seen
+}
+
+/// Openings of many segments: the numbers wrap again and again.
+#[test]
+fn orderly_links() {
+    let seen = run_shapes(ORDERLY, 20, 16_000, 600);
+    assert!(BTreeSet::from([0, 1, 2, 5, 6, 7, 8, 12, 15, 16]).is_subset(&seen));
+}
+
+#[test]
+fn unsteady_links() {
+    let seen = run_shapes(UNSTEADY, 20, 8_000, 20);
+    assert!(BTreeSet::from([0, 1, 2, 5, 6, 7, 8, 9, 10, 12, 15, 16]).is_subset(&seen));
+}
+
+/// Openings that die of reordering and of used up retries, and leave units
+/// behind at both ends.
+#[test]
+fn stormy_links() {
+    let seen = run_shapes(STORMY, 4, 8_000, 2);
+    assert!(BTreeSet::from([0, 1, 2, 5, 6, 7, 9, 10, 12, 15, 16]).is_subset(&seen));
+}
+
+/// Several channels in both directions between two nodes, whose memories lie
+/// in different orders.
+#[test]
+fn several_channels() {
+    for (seed, weather) in (100..).zip([ORDERLY, UNSTEADY, STORMY]) {
+        let channels = [
+            (0, settings(0, 4, 7, 3, 4)),
+            (1, settings(1, 8, 11, 1, 6)),
+            (0, settings(2, 1, 5, 2, 5)),
+            (1, settings(3, 2, 3, 4, 1)),
+            (0, settings(4, 8, 100, 1, 3)),
+        ];
+        let (world, _) = run(&channels, weather, 5_000, seed);
+        check_settled(&world);
+    }
+}

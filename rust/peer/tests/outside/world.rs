@@ -1,0 +1,214 @@
+//! Two nodes, the links between them, and a bystander who checks them.
+
+use std::collections::BTreeSet;
+
+use peer::answer::Answer;
+use peer::node::Node;
+use peer::packet::kind;
+use peer::settings::{Direction, Settings};
+use peer::state::Reason;
+
+use crate::calls::{checked, new_node, ADDRESSES};
+use crate::link::{Link, Weather};
+use crate::noise::Noise;
+use crate::pair::{Pair, Place};
+
+mod applications;
+mod shadow;
+
+use shadow::Shadow;
+
+/// The load at which the sending applications also close their channels.
+const BUSY: usize = 60;
+
+/// Any packet and any unit fits into this buffer.
+const BUFFER: usize = 512;
+
+pub struct World {
+    pub pairs: Vec<Pair>,
+    /// All answer numbers that were given.
+    pub seen: BTreeSet<u8>,
+    pub weather: Weather,
+    /// How often the sending applications have a unit, in percent.
+    pub load: usize,
+    nodes: [Node; 2],
+    shadows: [Shadow; 2],
+    /// The links, each to the node of its index.
+    links: [Link; 2],
+    noise: Noise,
+}
+
+impl World {
+    /// A world of these channels: the sending settings of each, and the node
+    /// that sends.
+    pub fn new(channels: &[(usize, Settings)], weather: Weather, seed: u64) -> World {
+        let mut noise = Noise::new(seed);
+        let tables = [0, 1].map(|node| table_of(node, channels));
+        let nodes = [0, 1].map(|node| new_node(node, &tables[node], &mut noise));
+        let shadows = [0, 1].map(|node| Shadow::new(&nodes[node], &tables[node]));
+        World {
+            pairs: pairs_of(channels),
+            seen: BTreeSet::new(),
+            weather,
+            load: BUSY,
+            nodes,
+            shadows,
+            links: Default::default(),
+            noise,
+        }
+    }
+
+    /// One round: applications, packets out, packets in, perhaps a tick.
+    pub fn round(&mut self) {
+        self.links.iter_mut().for_each(Link::pass);
+        for pair in 0..self.pairs.len() {
+            self.sending_application(pair);
+            self.receiving_application(pair);
+        }
+        for node in [0, 1, 0, 1] {
+            self.hand_out(node);
+            self.deliver(node);
+        }
+        for node in [0, 1] {
+            if self.noise.percent(30) {
+                self.call(node, |node, _| node.tick());
+            }
+        }
+    }
+
+    /// The checks that are too slow for every call.
+    pub fn check(&self) {
+        for pair in &self.pairs {
+            pair.check(&self.nodes);
+        }
+    }
+
+    /// The node's state at an end of a pair.
+    pub fn state(&self, place: Place) -> peer::state::State {
+        self.nodes[place.node]
+            .state(place.index)
+            .expect("a channel")
+    }
+
+    /// A checked call; nothing but filing may have written the storage.
+    fn call(
+        &mut self,
+        node: usize,
+        call: impl FnOnce(&mut Node, &mut [u8]) -> Answer,
+    ) -> (Answer, Vec<u8>) {
+        let result = self.filing_call(node, call);
+        self.shadows[node].check(&self.nodes[node]);
+        result
+    }
+
+    /// A checked call that may file a segment.
+    fn filing_call(
+        &mut self,
+        node: usize,
+        call: impl FnOnce(&mut Node, &mut [u8]) -> Answer,
+    ) -> (Answer, Vec<u8>) {
+        let result = checked(&mut self.nodes[node], BUFFER, call);
+        self.seen.insert(result.0.number);
+        result
+    }
+
+    /// The next packet of a node goes on the link to the other.
+    fn hand_out(&mut self, node: usize) {
+        let (answer, packet) = self.call(node, |node, out| node.next_packet(out));
+        if answer.number == 12 {
+            return;
+        }
+        assert_eq!(answer.number, 0);
+        let channel = u16::from_be_bytes([packet[5], packet[6]]);
+        let pair = &mut self.pairs[usize::from(channel)];
+        let is_data = packet[2] & 0b111 == kind::DATA;
+        let segment = is_data.then(|| pair.segment_sent(packet[7]));
+        if let Some(segment) = segment {
+            let filed = self.shadows[node].read(pair.sender.index, segment);
+            assert_eq!(packet[10..packet.len() - 2], *filed);
+        }
+        self.links[1 - node].send(&packet, segment, self.weather, &mut self.noise);
+    }
+
+    /// The next packet on its link arrives at a node.
+    fn deliver(&mut self, node: usize) {
+        let Some(flight) = self.links[node].deliver() else {
+            return;
+        };
+        let packet = &flight.octets;
+        let (answer, reply) = self.filing_call(node, |node, out| node.arrival(packet, out));
+        if flight.damaged {
+            assert!([1, 2].contains(&answer.number));
+        } else if let (Some(segment), 0) = (flight.segment, answer.number) {
+            let payload = &packet[10..packet.len() - 2];
+            self.accepted(usize::from(flight.channel), segment, payload);
+        } else {
+            let pair = &mut self.pairs[usize::from(flight.channel)];
+            if answer.confirmed > 0 {
+                pair.opening().confirmed += answer.confirmed;
+            }
+            let reason = self.nodes[node].reason(pair.receiver.index);
+            assert!(pair.receiver.node != node || reason != Some(Reason::Flags));
+        }
+        self.shadows[node].check(&self.nodes[node]);
+        if answer.length > 0 {
+            self.links[1 - node].send(&reply, None, self.weather, &mut self.noise);
+        }
+    }
+
+    /// A unit lies in the slots of its segments until it is given away.
+    fn check_slots(&self, place: Place, first: u64, unit: &[u8], count: usize) {
+        let segments = first..first + count as u64;
+        let shadow = &self.shadows[place.node];
+        let filed = segments.flat_map(|segment| shadow.read(place.index, segment));
+        assert!(filed.eq(unit));
+    }
+
+    /// A receive end has accepted a segment of the present opening.
+    fn accepted(&mut self, pair: usize, segment: u64, payload: &[u8]) {
+        let pair = &mut self.pairs[pair];
+        let present = pair.openings.len() - 1;
+        assert_eq!(*pair.tied.get_or_insert(present), present);
+        let Place { node, index } = pair.receiver;
+        self.shadows[node].file(index, segment, payload);
+    }
+}
+
+/// The table of a node: in the other's it is the other way round, and the
+/// channel's number is its place in the list.
+fn table_of(node: usize, channels: &[(usize, Settings)]) -> Vec<Settings> {
+    let directed = |&(sender, settings): &(usize, Settings)| Settings {
+        direction: if sender == node {
+            Direction::Sending
+        } else {
+            Direction::Receiving
+        },
+        remote: ADDRESSES[1 - node],
+        ..settings
+    };
+    let mut table: Vec<Settings> = channels.iter().map(directed).collect();
+    if node == 1 {
+        table.reverse();
+    }
+    table
+}
+
+fn pairs_of(channels: &[(usize, Settings)]) -> Vec<Pair> {
+    let place = |node: usize, channel: usize| Place {
+        node,
+        index: if node == 0 {
+            channel
+        } else {
+            channels.len() - 1 - channel
+        },
+    };
+    let pair = |(channel, &(sender, settings)): (usize, &(usize, Settings))| Pair {
+        settings,
+        sender: place(sender, channel),
+        receiver: place(1 - sender, channel),
+        openings: Vec::new(),
+        tied: None,
+        taken: 0,
+    };
+    channels.iter().enumerate().map(pair).collect()
+}

@@ -1,0 +1,66 @@
+//! What the static library exports, as its C declarations say.
+
+/// `PeatFields`: the header's fields but for the payload length.
+#[repr(C)]
+#[derive(Clone, Copy, Debug, Default, PartialEq, Eq)]
+pub struct Fields {
+    /// Destination logical address.
+    pub destination: u8,
+    /// Protocol ID.
+    pub protocol: u8,
+    /// Protocol version number.
+    pub version: u8,
+    /// Secondary header flag.
+    pub secondary: u8,
+    /// Sequence flags.
+    pub flags: u8,
+    /// Packet type.
+    pub kind: u8,
+    /// Channel number.
+    pub channel: u16,
+    /// Sequence number.
+    pub number: u8,
+    /// Reserved spare.
+    pub reserved: u8,
+    /// Prefix length.
+    pub prefix: u8,
+    /// Source logical address.
+    pub source: u8,
+}
+
+/// `PeatReading`: what reading a packet gave. All but the answer is 0 when it
+/// was refused.
+#[repr(C)]
+#[derive(Clone, Copy, Debug, Default, PartialEq, Eq)]
+pub struct Reading {
+    /// The answer number of document 01.
+    pub answer: u32,
+    /// The header's fields.
+    pub fields: Fields,
+    /// The payload's first octet.
+    pub start: usize,
+    /// The payload's length.
+    pub length: usize,
+}
+
+/// `PeatWriting`: what writing a packet gave.
+#[repr(C)]
+#[derive(Clone, Copy, Debug, Default, PartialEq, Eq)]
+pub struct Writing {
+    /// The answer number of document 01.
+    pub answer: u32,
+    /// Octets written; 0 when it was refused.
+    pub length: usize,
+}
+
+extern "C" {
+    pub fn peat_crc(octets: *const u8, count: usize) -> u16;
+    pub fn peat_read_packet(packet: *const u8, count: usize) -> Reading;
+    pub fn peat_write_packet(
+        fields: Fields,
+        payload: *const u8,
+        payload_count: usize,
+        out: *mut u8,
+        out_count: usize,
+    ) -> Writing;
+}

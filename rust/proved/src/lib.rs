@@ -1,0 +1,37 @@
+//! The proved library, called through its C interface. No other crate here
+//! has unsafe code.
+
+#![deny(unsafe_op_in_unsafe_fn)]
+#![warn(missing_docs)]
+
+mod c;
+
+pub use c::{Fields, Reading, Writing};
+
+/// The check sum over these octets.
+pub fn crc(octets: &[u8]) -> u16 {
+    // SAFETY: the pointer and the count are those of one slice, which the
+    // call only reads.
+    unsafe { c::peat_crc(octets.as_ptr(), octets.len()) }
+}
+
+/// Reads a packet alone.
+pub fn read_packet(packet: &[u8]) -> Reading {
+    // SAFETY: as in `crc`.
+    unsafe { c::peat_read_packet(packet.as_ptr(), packet.len()) }
+}
+
+/// Writes a packet alone at the front of `out`.
+pub fn write_packet(fields: Fields, payload: &[u8], out: &mut [u8]) -> Writing {
+    // SAFETY: each pointer and count are those of one slice. The payload is
+    // only read; `out` is lent for writing, so the two do not overlap.
+    unsafe {
+        c::peat_write_packet(
+            fields,
+            payload.as_ptr(),
+            payload.len(),
+            out.as_mut_ptr(),
+            out.len(),
+        )
+    }
+}
