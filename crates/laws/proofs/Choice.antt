@@ -1,7 +1,7 @@
 -- Laws of a choice: where its test is settled, and what its test was where its value is known.
 -- Assumes nothing.
 use mathlib.Core.Path.{_≡_, refl, sym, ap, _∙_}
-use mathlib.Core.Bool.{Bool, true, false, _||_, true≢false}
+use mathlib.Core.Bool.{Bool, true, false, _||_, _&&_, true≢false, false≢true}
 use Rattle.laws.specs.Choice.{if_then_else_}
 
 module _ {ℓ} {A : Type ℓ} (t : Bool) (a b : A) where
@@ -22,7 +22,9 @@ module _ {ℓ} {A : Type ℓ} (t : Bool) (a b : A) where
 -- none of two tests held
 pub neither : (a b : Bool) → (a || b) ≡ false → (a ≡ false) × (b ≡ false)
 neither false b e = (refl, e)
-neither true b e = absurd (impossible e)
-  where
-    impossible : true ≡ false → ⊥
-    impossible p = true≢false p
+neither true b e = absurd (true≢false e)
+
+-- both of two tests held
+pub both : (a b : Bool) → (a && b) ≡ true → (a ≡ true) × (b ≡ true)
+both true b e = (refl, e)
+both false b e = absurd (false≢true e)

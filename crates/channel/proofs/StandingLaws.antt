@@ -1,0 +1,134 @@
+-- Laws of the standing condition: slot by slot, and from the test to the facts and back.
+-- Assumes nothing.
+use mathlib.Core.Path.{_≡_, refl, sym, ap, _∙_}
+use mathlib.Core.Bool.{Bool, true, false, _&&_}
+use mathlib.Core.List.{List}
+use Prim.Native.Nat.{ℕ, zero, suc, _+_, _-_, _≤_, _<_, zero-le, suc-le-suc}
+use native.Mathlib.Omega.{arith}
+use lib.ListN.{length, getD}
+use native.Mathlib.Nat.{not-suc-le-zero, le-of-suc-le-suc, add-zero, zero-add, add-suc, lt-irrefl}
+use borrow.Author.Tests.{ltb-true, leb-true, eqb-true, eq-eqb}
+use lib.Dec.{eqb}
+use Rattle.ring.specs.Ring.{roundOf, backOf, runOf}
+use Rattle.ring.proofs.Laws.{back-lt, run-set, run-is}
+use Rattle.channel.specs.declared.record.Channel.{Channel}
+use Rattle.channel.specs.Record.{sends, heldIn}
+use Rattle.laws.proofs.Choice.{both}
+use Rattle.channel.specs.declared.record.Limits.{Limits}
+use Rattle.channel.specs.declared.record.Window.{Window}
+use Rattle.channel.specs.Standing.{inRing, inFlight, marked, oldestOf, slotFit, slotsFit, standing, Standing, Counted}
+
+module _ (sending : Bool) (most : ℕ) (marks lens : List ℕ) where
+  pub slots-none : (n i : ℕ) → n ≤ i → slotsFit sending most marks lens (n - i) i ≡ true
+  unfolding slotsFit
+  slots-none n i h = let e : n - i ≡ 0 = omega arith in rw e
+
+  pub slots-more : (n i : ℕ) → i < n → slotFit sending most (getD marks i 0) (getD lens i 0) ≡ true
+      → slotsFit sending most marks lens (n - i) i ≡ slotsFit sending most marks lens (n - (i + 1)) (i + 1)
+  unfolding slotsFit
+  slots-more n i l t = let e : n - i ≡ suc (n - (i + 1)) = omega arith in rw (e, t)
+
+  pub slots-no : (n i : ℕ) → i < n → slotFit sending most (getD marks i 0) (getD lens i 0) ≡ false → slotsFit sending most marks lens (n - i) i ≡ false
+  unfolding slotsFit
+  slots-no n i l t = let e : n - i ≡ suc (n - (i + 1)) = omega arith in rw (e, t)
+
+-- every slot fits exactly if each does
+pub slots-each : (sending : Bool) (most : ℕ) (marks lens : List ℕ) (n i : ℕ)
+    → slotsFit sending most marks lens n i ≡ true
+    → (k : ℕ) → k < n → slotFit sending most (getD marks (i + k) 0) (getD lens (i + k) 0) ≡ true
+unfolding slotsFit
+slots-each sending most marks lens zero i e k h = absurd (not-suc-le-zero h)
+slots-each sending most marks lens (suc n) i e zero h =
+    ap (λ (j : ℕ). slotFit sending most (getD marks j 0) (getD lens j 0)) (add-zero i) ∙ both _ _ e .0
+slots-each sending most marks lens (suc n) i e (suc k) h =
+    let p : i + suc k ≡ i + 1 + k = omega (arith, add-suc i k) in
+    ap (λ (j : ℕ). slotFit sending most (getD marks j 0) (getD lens j 0)) p
+    ∙ slots-each sending most marks lens n (i + 1) (both (slotFit sending most (getD marks i 0) (getD lens i 0)) _ e .1) k (le-of-suc-le-suc h)
+
+pub slots-all : (sending : Bool) (most : ℕ) (marks lens : List ℕ) (n i : ℕ)
+    → ((k : ℕ) → k < n → slotFit sending most (getD marks (i + k) 0) (getD lens (i + k) 0) ≡ true)
+    → slotsFit sending most marks lens n i ≡ true
+unfolding slotsFit
+slots-all sending most marks lens zero i f = refl
+slots-all sending most marks lens (suc n) i f =
+    let here : slotFit sending most (getD marks i 0) (getD lens i 0) ≡ true =
+    ap (λ (j : ℕ). slotFit sending most (getD marks j 0) (getD lens j 0)) (sym (add-zero i)) ∙ f 0 (suc-le-suc zero-le) in
+    let rest : slotsFit sending most marks lens n (i + 1) ≡ true =
+    slots-all sending most marks lens n (i + 1)
+    (λ k h.
+    let p : i + 1 + k ≡ i + suc k = omega (arith, add-suc i k) in
+    ap (λ (j : ℕ). slotFit sending most (getD marks j 0) (getD lens j 0)) p ∙ f (suc k) (suc-le-suc h)) in
+    simp (here, rest)
+
+-- ---- from the test to the facts
+
+pub ring-is : (l : Limits) (w : Window) → inRing l w ≡ true → (w .place < l .slots) × (w .behind ≤ l .slots) × (w .ahead ≤ l .slots - w .behind)
+unfolding inRing
+ring-is l w e =
+    let p = both _ _ e in
+    let q = both _ _ (p .0) in
+    (ltb-true _ _ (q .0), leb-true _ _ (q .1), leb-true _ _ (p .1))
+
+pub ring-held : (l : Limits) (w : Window) → inRing l w ≡ true → heldIn w ≤ l .slots
+ring-held l w e = let q = ring-is l w e in omega arith
+
+pub counted-is : (l : Limits) (w : Window) → inRing l w ≡ true → inFlight l w ≡ true → Counted l w
+unfolding inFlight
+counted-is l w r f =
+    let q = ring-is l w r in
+    let p = both _ _ f in
+    let p2 = both _ _ (p .0) in
+    let p3 = both _ _ (p2 .0) in
+    record {
+      place = q .0;
+      held = ring-held l w r;
+      flight = leb-true _ _ (p3 .0);
+      window = leb-true _ _ (p3 .1);
+      way = leb-true _ _ (p2 .1);
+      unit = ltb-true _ _ (p .1);
+    }
+
+pub stands-is : (c : Channel) (lens : List ℕ) → standing c lens ≡ true → Standing c lens
+unfolding standing marked
+stands-is c lens e =
+    let l = c .limits in
+    let w = c .window in
+    let p7 = both _ _ e in
+    let p6 = both _ _ (p7 .0) in
+    let p5 = both _ _ (p6 .0) in
+    let p4 = both _ _ (p5 .0) in
+    let p3 = both _ _ (p4 .0) in
+    let p2 = both _ _ (p3 .0) in
+    let p1 = both _ _ (p2 .0) in
+    let ring : inRing l w ≡ true = p3 .1 in
+    let count : length lens ≡ l .slots = eqb-true _ _ (p1 .1) in
+    let q = ring-is l w ring in
+    let run : runOf (c .marks) (l .slots) (heldIn w) (oldestOf (l .slots) w) ≡ heldIn w = eqb-true _ _ (p6 .1) in
+    record {
+      fit = p1 .0;
+      count = count;
+      named = p2 .1;
+      ring = ring;
+      flight = p4 .1;
+      sided = p5 .1;
+      held = λ i h. run-set (c .marks) (l .slots) (heldIn w) (oldestOf (l .slots) w) i (back-lt (l .slots) (w .place) (w .behind) (q .0)) (omega arith) (omega arith);
+      slots = λ i h.
+          ap (λ (j : ℕ). slotFit (eqb (c .addresses .direction) sends) (l .payload) (getD (c .marks) j 0) (getD lens j 0)) (sym (zero-add i))
+          ∙ slots-each (eqb (c .addresses .direction) sends) (l .payload) (c .marks) lens (length lens) 0 (p7 .1) i (omega arith);
+    }
+
+-- ---- and back: true exactly if it holds
+
+pub is-stands : (c : Channel) (lens : List ℕ) → Standing c lens → standing c lens ≡ true
+unfolding standing marked
+is-stands c lens h =
+    let l = c .limits in
+    let w = c .window in
+    let q = ring-is l w (h .ring) in
+    let run : runOf (c .marks) (l .slots) (heldIn w) (oldestOf (l .slots) w) ≡ heldIn w =
+    run-is (c .marks) (l .slots) (heldIn w) (oldestOf (l .slots) w) (heldIn w) (back-lt (l .slots) (w .place) (w .behind) (q .0)) (omega arith) (omega arith) (h .held)
+    (λ more. absurd (lt-irrefl _ more)) in
+    let all : slotsFit (eqb (c .addresses .direction) sends) (l .payload) (c .marks) lens (length lens) 0 ≡ true =
+    slots-all (eqb (c .addresses .direction) sends) (l .payload) (c .marks) lens (length lens) 0
+    (λ k less. ap (λ (j : ℕ). slotFit (eqb (c .addresses .direction) sends) (l .payload) (getD (c .marks) j 0) (getD lens j 0)) (zero-add k) ∙ h .slots k (omega (arith, h .count))) in
+    simp (h .fit, eq-eqb _ _ (h .count), h .named, h .ring, h .flight, h .sided, eq-eqb _ _ run, all)

@@ -1,0 +1,6 @@
+pub mod Record
+pub mod Answers
+pub mod Settings
+pub mod Lone
+pub mod Standing
+pub mod Steps

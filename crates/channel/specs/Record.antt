@@ -1,0 +1,245 @@
+-- A channel's record: what its numbers mean, what settings make, and how one part of it is changed.
+use Prim.Native.Nat.{ℕ, _+_}
+use mathlib.Core.List.{List}
+use lib.ListN.{replicate}
+use Rattle.channel.specs.declared.record.Settings.{Settings}
+use Rattle.channel.specs.declared.record.Channel.{Channel}
+use Rattle.channel.specs.declared.record.Lone.{Lone}
+use Rattle.channel.specs.declared.record.Window.{Window}
+use Rattle.channel.specs.declared.record.Timers.{Timers}
+
+-- ---- directions
+
+abbrev pub sends : ℕ
+sends = 0
+
+abbrev pub receives : ℕ
+receives = 1
+
+-- ---- states (000, 4.4.2 and 4.5.2)
+
+abbrev pub closed : ℕ
+closed = 0
+
+abbrev pub enabled : ℕ
+enabled = 1
+
+abbrev pub opened : ℕ
+opened = 2
+
+abbrev pub closing : ℕ
+closing = 3
+
+-- ---- why a channel went inactive (document 01, Receiving)
+
+abbrev pub noReason : ℕ
+noReason = 0
+
+abbrev pub retriesOut : ℕ
+retriesOut = 1
+
+abbrev pub lateOpen : ℕ
+lateOpen = 2
+
+abbrev pub controlNumber : ℕ
+controlNumber = 3
+
+abbrev pub dataNumber : ℕ
+dataNumber = 4
+
+abbrev pub brokenFlags : ℕ
+brokenFlags = 5
+
+-- ---- a packet sent alone
+
+abbrev pub loneNone : ℕ
+loneNone = 0
+
+abbrev pub loneReady : ℕ
+loneReady = 1
+
+abbrev pub loneOut : ℕ
+loneOut = 2
+
+abbrev pub loneAgain : ℕ
+loneAgain = 3
+
+-- ---- fresh parts, and what settings make: CLOSED and empty (document 01, A channel's record and memory)
+
+abbrev pub noLone : Lone
+noLone = record { state = loneNone; timer = 0; tries = 0 }
+
+abbrev pub freshWindow : Window
+freshWindow = record { start = 1; place = 0; behind = 0; ahead = 0; flight = 0; way = 0 }
+
+abbrev pub noTimers : Timers
+noTimers = record { closing = 0; left = replicate 128 0; tries = replicate 128 0 }
+
+abbrev pub noMarks : List ℕ
+noMarks = replicate 128 0
+
+abbrev pub madeOf : Settings → Channel
+madeOf s =
+    record {
+      addresses = s .addresses;
+      limits = s .limits;
+      state = closed;
+      reason = noReason;
+      kept = 0;
+      accepted = 0;
+      control = noLone;
+      window = freshWindow;
+      timers = noTimers;
+      marks = noMarks;
+      acked = noMarks;
+    }
+
+-- how many segments are held: before the start, and from it on
+abbrev pub heldIn : Window → ℕ
+heldIn w = w .behind + w .ahead
+
+-- ---- the record with one part changed
+
+abbrev pub withState : Channel → ℕ → Channel
+withState c x =
+    record {
+      addresses = c .addresses;
+      limits = c .limits;
+      state = x;
+      reason = c .reason;
+      kept = c .kept;
+      accepted = c .accepted;
+      control = c .control;
+      window = c .window;
+      timers = c .timers;
+      marks = c .marks;
+      acked = c .acked;
+    }
+
+abbrev pub withReason : Channel → ℕ → Channel
+withReason c x =
+    record {
+      addresses = c .addresses;
+      limits = c .limits;
+      state = c .state;
+      reason = x;
+      kept = c .kept;
+      accepted = c .accepted;
+      control = c .control;
+      window = c .window;
+      timers = c .timers;
+      marks = c .marks;
+      acked = c .acked;
+    }
+
+abbrev pub withKept : Channel → ℕ → Channel
+withKept c x =
+    record {
+      addresses = c .addresses;
+      limits = c .limits;
+      state = c .state;
+      reason = c .reason;
+      kept = x;
+      accepted = c .accepted;
+      control = c .control;
+      window = c .window;
+      timers = c .timers;
+      marks = c .marks;
+      acked = c .acked;
+    }
+
+abbrev pub withAccepted : Channel → ℕ → Channel
+withAccepted c x =
+    record {
+      addresses = c .addresses;
+      limits = c .limits;
+      state = c .state;
+      reason = c .reason;
+      kept = c .kept;
+      accepted = x;
+      control = c .control;
+      window = c .window;
+      timers = c .timers;
+      marks = c .marks;
+      acked = c .acked;
+    }
+
+abbrev pub withControl : Channel → Lone → Channel
+withControl c x =
+    record {
+      addresses = c .addresses;
+      limits = c .limits;
+      state = c .state;
+      reason = c .reason;
+      kept = c .kept;
+      accepted = c .accepted;
+      control = x;
+      window = c .window;
+      timers = c .timers;
+      marks = c .marks;
+      acked = c .acked;
+    }
+
+abbrev pub withWindow : Channel → Window → Channel
+withWindow c x =
+    record {
+      addresses = c .addresses;
+      limits = c .limits;
+      state = c .state;
+      reason = c .reason;
+      kept = c .kept;
+      accepted = c .accepted;
+      control = c .control;
+      window = x;
+      timers = c .timers;
+      marks = c .marks;
+      acked = c .acked;
+    }
+
+abbrev pub withTimers : Channel → Timers → Channel
+withTimers c x =
+    record {
+      addresses = c .addresses;
+      limits = c .limits;
+      state = c .state;
+      reason = c .reason;
+      kept = c .kept;
+      accepted = c .accepted;
+      control = c .control;
+      window = c .window;
+      timers = x;
+      marks = c .marks;
+      acked = c .acked;
+    }
+
+abbrev pub withMarks : Channel → List ℕ → Channel
+withMarks c x =
+    record {
+      addresses = c .addresses;
+      limits = c .limits;
+      state = c .state;
+      reason = c .reason;
+      kept = c .kept;
+      accepted = c .accepted;
+      control = c .control;
+      window = c .window;
+      timers = c .timers;
+      marks = x;
+      acked = c .acked;
+    }
+
+abbrev pub withAcked : Channel → List ℕ → Channel
+withAcked c x =
+    record {
+      addresses = c .addresses;
+      limits = c .limits;
+      state = c .state;
+      reason = c .reason;
+      kept = c .kept;
+      accepted = c .accepted;
+      control = c .control;
+      window = c .window;
+      timers = c .timers;
+      marks = c .marks;
+      acked = x;
+    }

@@ -1,0 +1,54 @@
+-- Which settings are fit; all others are refused with 13 (document 01, A channel's record and memory).
+use mathlib.Core.Path.{_≡_}
+use Prim.Native.Nat.{ℕ, _%_, _≤_}
+use mathlib.Core.Bool.{Bool, true, false, _&&_}
+use lib.Dec.{leb, eqb}
+use Rattle.channel.specs.declared.record.Addresses.{Addresses}
+use Rattle.channel.specs.declared.record.Limits.{Limits}
+use Rattle.channel.specs.declared.record.Settings.{Settings}
+use Rattle.channel.specs.Record.{receives}
+
+-- house cap: the most for the window. Every law of the window holds to 128
+abbrev pub mostWindow : ℕ
+mostWindow = 64
+
+-- window k a power of two, 1 to 64 (what divides 128 is a power of two); slots from k to 128
+unfoldable pub fitWindow : Limits → Bool
+fitWindow l =
+    leb 1 (l .window)
+    && leb (l .window) mostWindow
+    && eqb (128 % l .window) 0
+    && leb (l .window) (l .slots)
+    && leb (l .slots) 128
+
+-- P, the most payload octets, 1 to 1,024; M, the most segments in a unit, 1 to slots
+unfoldable pub fitUnits : Limits → Bool
+fitUnits l = leb 1 (l .payload) && leb (l .payload) 1024 && leb 1 (l .segments) && leb (l .segments) (l .slots)
+
+-- timeout and close timeout 1 to 65,535 ticks; retries 0 to 255
+unfoldable pub fitTimers : Limits → Bool
+fitTimers l = leb 1 (l .timeout) && leb 1 (l .closing) && leb (l .retries) 255
+
+unfoldable pub fitLimits : Limits → Bool
+fitLimits l = fitWindow l && fitUnits l && fitTimers l
+
+unfoldable pub fit : Settings → Bool
+fit s = leb (s .addresses .direction) receives && fitLimits (s .limits)
+
+-- the same as facts, as far as the laws need them
+pub record Fit (l : Limits) : Type 0 where
+  pub some : 1 ≤ l .window
+  pub window : l .window ≤ 128
+  pub slots : l .window ≤ l .slots
+  pub most : l .slots ≤ 128
+  pub octet : 1 ≤ l .payload
+  pub payload : l .payload ≤ 1024
+  pub segment : 1 ≤ l .segments
+  pub segments : l .segments ≤ l .slots
+  pub timeout : 1 ≤ l .timeout
+  pub closing : 1 ≤ l .closing
+  pub retries : l .retries ≤ 255
+
+-- two records that may not stand in one table: equal channel number, remote address and direction
+unfoldable pub clash : Addresses → Addresses → Bool
+clash a b = eqb (a .channel) (b .channel) && eqb (a .remote) (b .remote) && eqb (a .direction) (b .direction)

@@ -1,0 +1,20 @@
+// A channel's record with its nested parts, the settings it is made from, its standing condition, and the answers of its calls
+// (document 01, A channel's record and memory).
+pub mod answer;
+pub mod lone;
+pub mod record;
+pub mod settings;
+pub mod standing;
+pub mod step;
+
+pub use answer::Answer;
+pub use answer::Refusal;
+pub use record::Addresses;
+pub use record::Channel;
+pub use record::Limits;
+pub use record::Lone;
+pub use record::Node;
+pub use record::Settings;
+pub use record::Timers;
+pub use record::Window;
+pub use step::Stepped;

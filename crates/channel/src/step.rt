@@ -1,0 +1,94 @@
+// What every step of a channel is made of: the channel and an answer; an opening begun; the fields of a packet that goes out.
+use crate::answer::Answer;
+use crate::answer::Refusal;
+use crate::record::Addresses;
+use crate::record::Channel;
+use crate::record::ENABLED;
+use crate::record::Lone;
+use crate::record::NO_REASON;
+use crate::record::Node;
+use crate::record::Timers;
+use crate::record::Window;
+use packet::Fields;
+ghost use mathlib.Core.Path.{_≡_};
+ghost use Rattle.channel.specs.Steps.{refusing, doing, enabledOf, outgoingOf};
+
+// The channel after a step, and what the step answers.
+pub struct Stepped {
+    pub channel: Channel,
+    pub answer: Answer,
+}
+
+// Nothing has changed.
+pub fn refused(c: Channel, why: Refusal) -> Stepped
+    ensures { λ r. ⌜ r ≡ refusing c why ⌝ }
+{
+    Stepped {
+        channel: c,
+        answer: Answer::Refused(why),
+    }
+}
+
+// Done, with so many octets written.
+pub fn done(c: Channel, length: usize) -> Stepped
+    ensures { λ r. ⌜ r ≡ doing c length ⌝ }
+{
+    Stepped {
+        channel: c,
+        answer: Answer::Done {
+            length,
+            confirmed: 0,
+        },
+    }
+}
+
+// An opening begins: ENABLED, with a fresh window and nothing held. The reason of the last one goes.
+pub fn enabled(c: Channel, control: Lone) -> Channel
+    ensures { λ r. ⌜ r ≡ enabledOf c control ⌝ }
+{
+    let addresses = c.addresses;
+    let limits = c.limits;
+    Channel {
+        addresses,
+        limits,
+        state: ENABLED,
+        reason: NO_REASON,
+        kept: 0,
+        accepted: 0,
+        control,
+        window: Window {
+            start: 1,
+            place: 0,
+            behind: 0,
+            ahead: 0,
+            flight: 0,
+            way: 0,
+        },
+        timers: Timers {
+            closing: 0,
+            left: [0; 128],
+            tries: [0; 128],
+        },
+        marks: [0; 128],
+        acked: [0; 128],
+    }
+}
+
+// From this node to the channel's other end.
+pub fn outgoing(node: Node, a: Addresses, kind: u8, flags: u8, number: u8) -> Fields
+    ensures { λ r. ⌜ r ≡ outgoingOf node a kind flags number ⌝ }
+{
+    Fields {
+        destination: a.remote,
+        protocol: node.protocol,
+        version: 1,
+        secondary: 0,
+        flags,
+        kind,
+        channel: a.channel,
+        number,
+        reserved: 0,
+        prefix: 0,
+        source: node.address,
+    }
+}

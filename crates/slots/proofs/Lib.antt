@@ -1,0 +1,3 @@
+pub mod Laws
+pub mod Units
+pub mod Starred

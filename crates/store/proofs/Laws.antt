@@ -1,0 +1,574 @@
+-- Laws of units on the ring of slots: where they end, the octets of their segments, and a unit filed: its places hold it, and the others
+-- what they held.
+-- Assumes nothing.
+use mathlib.Core.Path.{_≡_, refl, sym, ap, ap₂, _∙_, subst}
+use mathlib.Core.Bool.{Bool, true, false}
+use mathlib.Core.List.{List, _++_}
+use Prim.Native.Nat.{ℕ, zero, suc, _+_, _-_, _*_, _/_, _≤_, _<_, zero-le}
+use native.Mathlib.Nat.{add-zero, zero-mul, suc-mul, mul-le-mul-right, div-mul-le-self}
+use native.Mathlib.Omega.{arith}
+use borrow.Author.Tests.{ltb-true, ltb-false, le-leb, lt-leb}
+use lib.Dec.{eqb, ltb}
+use lib.ListN.{length, getD, set, take, drop, length-append, length-drop, length-set}
+use lib.Seq.{length-take-le, take-all, getD-set-same, getD-set-other}
+use Rattle.laws.specs.Choice.{if_then_else_}
+use Rattle.ring.specs.Ring.{roundOf}
+use Rattle.ring.proofs.Laws.{round-in, round-out, round-lt, round-add, round-apart}
+use Rattle.slots.specs.Marks.{markOf, ends}
+use Rattle.slots.specs.Slots.{Sized, laid, segmentIn}
+use Rattle.slots.specs.Units.{segmentsOf, segmentOf, flagsOf, joined}
+use Rattle.slots.proofs.Laws.{slot-in, laid-length, laid-on, laid-none, filed-same, filed-other}
+use Rattle.slots.proofs.Laws as slot
+use Rattle.slots.proofs.Units.{fits, rejoined}
+use Rattle.store.specs.Store.{unitOf, endsIn, lastWith, lastEndIn, EachFits, sizeIn, octetsIn, filedMem, filedBy, filedLens, filedMarks}
+
+-- ---- places: the first of n is the place itself, the next ones are those from the place after it on, and it is the last of the others' turn
+
+pub first-place : (slots from : ℕ) → from < slots → roundOf slots (from + 0) ≡ from
+first-place slots from p = ap (roundOf slots) (add-zero from) ∙ round-in slots from p
+
+pub next-place : (slots from i : ℕ) → from < slots → i < slots
+    → roundOf slots (roundOf slots (from + 1) + i) ≡ roundOf slots (from + suc i)
+next-place slots from i p h =
+    let e : from + (1 + i) ≡ from + suc i = omega arith in
+    round-add slots from 1 i (omega arith) ∙ ap (roundOf slots) e
+
+next-lt : (slots from : ℕ) → from < slots → roundOf slots (from + 1) < slots
+next-lt slots from p = round-lt slots (from + 1) (omega arith)
+
+last-place : (slots from : ℕ) → from < slots → roundOf slots (roundOf slots (from + 1) + (slots - 1)) ≡ from
+last-place slots from p =
+    let e : from + (1 + (slots - 1)) ≡ slots + from = omega arith in
+    round-add slots from 1 (slots - 1) (omega arith)
+    ∙ ap (roundOf slots) e
+    ∙ round-out slots (slots + from) (omega arith)
+    ∙ (omega arith)
+
+later-place : (slots from i : ℕ) → from < slots → suc i < slots → roundOf slots (from + suc i) ≡ from → ⊥
+later-place slots from i p h q =
+    let z : suc i ≡ 0 = round-apart slots from (suc i) 0 p h (omega arith) (q ∙ sym (first-place slots from p)) in
+    omega arith
+
+-- ---- up to the first end: at a segment that ends a unit, at one that does not, and where none is left
+
+pub unit-stop : (marks : List ℕ) (slots n i s : ℕ) → i < n → 3 ≤ getD marks s 0 → unitOf marks slots (n - i) s ≡ 1
+unfolding unitOf
+unit-stop marks slots n i s l h = let e : n - i ≡ suc (n - (i + 1)) = omega arith in rw e (simp (le-leb _ _ h))
+
+pub unit-more : (marks : List ℕ) (slots n i s : ℕ) → i < n → getD marks s 0 < 3
+    → unitOf marks slots (n - i) s ≡ suc (unitOf marks slots (n - (i + 1)) (roundOf slots (s + 1)))
+unfolding unitOf
+unit-more marks slots n i s l h = let e : n - i ≡ suc (n - (i + 1)) = omega arith in rw e (simp (lt-leb _ _ h))
+
+pub unit-none : (marks : List ℕ) (slots n i s : ℕ) → n ≤ i → unitOf marks slots (n - i) s ≡ 0
+unfolding unitOf
+unit-none marks slots n i s h = let e : n - i ≡ 0 = omega arith in rw e
+
+pub unit-some : (marks : List ℕ) (slots n from : ℕ) → 1 ≤ n → 1 ≤ unitOf marks slots n from
+unfolding unitOf
+unit-some marks slots zero from h = h
+unit-some marks slots (suc n) from h = by (ends (getD marks from 0)) (unitOf marks slots n (roundOf slots (from + 1)))
+  where
+    by : (t : Bool) (r : ℕ) → 1 ≤ (if t then 1 else suc r)
+    by true r = omega arith
+    by false r = omega arith
+
+pub unit-le : (marks : List ℕ) (slots n from : ℕ) → unitOf marks slots n from ≤ n
+unfolding unitOf
+unit-le marks slots zero from = zero-le
+unit-le marks slots (suc n) from =
+    by (ends (getD marks from 0)) (unitOf marks slots n (roundOf slots (from + 1))) (unit-le marks slots n (roundOf slots (from + 1)))
+  where
+    by : (t : Bool) (r : ℕ) → r ≤ n → (if t then 1 else suc r) ≤ suc n
+    by true r h = omega arith
+    by false r h = omega arith
+
+-- ---- how many end a unit: one segment more, and none left
+
+pub ends-more : (marks : List ℕ) (slots n i s : ℕ) → i < n
+    → endsIn marks slots (n - i) s ≡ (if ends (getD marks s 0) then 1 else 0) + endsIn marks slots (n - (i + 1)) (roundOf slots (s + 1))
+unfolding endsIn
+ends-more marks slots n i s l = let e : n - i ≡ suc (n - (i + 1)) = omega arith in rw e
+
+pub ends-none : (marks : List ℕ) (slots n i s : ℕ) → n ≤ i → endsIn marks slots (n - i) s ≡ 0
+unfolding endsIn
+ends-none marks slots n i s h = let e : n - i ≡ 0 = omega arith in rw e
+
+pub ends-one : (t : Bool) → (if t then 1 else 0) ≤ 1
+ends-one true = omega arith
+ends-one false = omega arith
+
+pub ends-le : (marks : List ℕ) (slots n from : ℕ) → endsIn marks slots n from ≤ n
+unfolding endsIn
+ends-le marks slots zero from = zero-le
+ends-le marks slots (suc n) from =
+    omega (arith, ends-one (ends (getD marks from 0)), ends-le marks slots n (roundOf slots (from + 1)))
+
+-- ---- up to the last end: i segments passed, of which the last end was the one with so many up to it, and r up to the last end of the rest
+
+abbrev pub carried : ℕ → ℕ → ℕ → ℕ
+carried last i zero = last
+carried last i (suc r) = i + suc r
+
+pub carried-first : (r : ℕ) → carried 0 0 r ≡ r
+carried-first zero = refl
+carried-first (suc r) = omega arith
+
+-- one segment more
+carried-turn : (here : Bool) (last i r : ℕ) → carried last i (lastWith here r) ≡ carried (if here then i + 1 else last) (i + 1) r
+carried-turn true last i zero = refl
+carried-turn false last i zero = refl
+carried-turn true last i (suc r) = omega arith
+carried-turn false last i (suc r) = omega arith
+
+pub last-more : (marks : List ℕ) (slots n i s last : ℕ) → i < n
+    → carried last i (lastEndIn marks slots (n - i) s)
+    ≡ carried (if ends (getD marks s 0) then i + 1 else last) (i + 1) (lastEndIn marks slots (n - (i + 1)) (roundOf slots (s + 1)))
+unfolding lastEndIn
+last-more marks slots n i s last l =
+    let e : n - i ≡ suc (n - (i + 1)) = omega arith in
+    rw e (carried-turn (ends (getD marks s 0)) last i (lastEndIn marks slots (n - (i + 1)) (roundOf slots (s + 1))))
+
+pub last-end : (marks : List ℕ) (slots n i s last : ℕ) → n ≤ i → carried last i (lastEndIn marks slots (n - i) s) ≡ last
+unfolding lastEndIn
+last-end marks slots n i s last h = let e : n - i ≡ 0 = omega arith in rw e
+
+pub last-le : (marks : List ℕ) (slots n from : ℕ) → lastEndIn marks slots n from ≤ n
+unfolding lastEndIn
+last-le marks slots zero from = zero-le
+last-le marks slots (suc n) from =
+    by (ends (getD marks from 0)) (lastEndIn marks slots n (roundOf slots (from + 1))) (last-le marks slots n (roundOf slots (from + 1)))
+  where
+    by : (t : Bool) (r : ℕ) → r ≤ n → lastWith t r ≤ suc n
+    by true zero h = omega arith
+    by false zero h = omega arith
+    by t (suc r) h = omega arith
+
+-- no last end: none ends a unit
+pub last-none : (marks : List ℕ) (slots n from : ℕ) → lastEndIn marks slots n from ≡ 0 → endsIn marks slots n from ≡ 0
+unfolding lastEndIn endsIn
+last-none marks slots zero from h = refl
+last-none marks slots (suc n) from h =
+    let next = roundOf slots (from + 1) in
+    by (ends (getD marks from 0)) (lastEndIn marks slots n next) (endsIn marks slots n next) (last-none marks slots n next) h
+  where
+    by : (t : Bool) (r k : ℕ) → (r ≡ 0 → k ≡ 0) → lastWith t r ≡ 0
+        → (if t then 1 else 0) + k ≡ 0
+    by true zero k f h = absurd (omega arith)
+    by false zero k f h = omega (arith, f refl)
+    by t (suc r) k f h = absurd (omega arith)
+
+-- and conversely
+pub none-last : (marks : List ℕ) (slots n from : ℕ) → endsIn marks slots n from ≡ 0 → lastEndIn marks slots n from ≡ 0
+unfolding lastEndIn endsIn
+none-last marks slots zero from h = refl
+none-last marks slots (suc n) from h =
+    let next = roundOf slots (from + 1) in
+    by (ends (getD marks from 0)) (lastEndIn marks slots n next) (endsIn marks slots n next) (none-last marks slots n next) h
+  where
+    by : (t : Bool) (r k : ℕ) → (k ≡ 0 → r ≡ 0) → (if t then 1 else 0) + k ≡ 0
+        → lastWith t r ≡ 0
+    by true r k f h = absurd (omega arith)
+    by false zero k f h = refl
+    by false (suc r) k f h = absurd (omega (arith, f (omega arith)))
+
+-- ---- the n lengths: one more, none left, and all
+
+-- each of the rest fits too
+pub rest-fits : (most : ℕ) (lens : List ℕ) (slots n from : ℕ) → from < slots → suc n ≤ slots
+    → EachFits most lens slots (suc n) from → EachFits most lens slots n (roundOf slots (from + 1))
+rest-fits most lens slots n from p b each i h =
+    subst (λ (k : ℕ). getD lens k 0 ≤ most) (sym (next-place slots from i p (omega arith))) (each (suc i) (omega arith))
+
+-- and so does the first
+pub first-fits : (most : ℕ) (lens : List ℕ) (slots n from : ℕ) → from < slots
+    → EachFits most lens slots (suc n) from → getD lens from 0 ≤ most
+first-fits most lens slots n from p each =
+    subst (λ (k : ℕ). getD lens k 0 ≤ most) (first-place slots from p) (each 0 (omega arith))
+
+-- and the one at a place
+pub place-fits : (most : ℕ) (lens : List ℕ) (slots n from i s : ℕ) → s ≡ roundOf slots (from + i) → EachFits most lens slots n from → i < n
+    → getD lens s 0 ≤ most
+place-fits most lens slots n from i s e each h = subst (λ (k : ℕ). getD lens k 0 ≤ most) (sym e) (each i h)
+
+pub size-more : (lens : List ℕ) (slots n i s : ℕ) → i < n
+    → sizeIn lens slots (n - i) s ≡ getD lens s 0 + sizeIn lens slots (n - (i + 1)) (roundOf slots (s + 1))
+unfolding sizeIn
+size-more lens slots n i s l = let e : n - i ≡ suc (n - (i + 1)) = omega arith in rw e
+
+pub size-none : (lens : List ℕ) (slots n i s : ℕ) → n ≤ i → sizeIn lens slots (n - i) s ≡ 0
+unfolding sizeIn
+size-none lens slots n i s h = let e : n - i ≡ 0 = omega arith in rw e
+
+pub size-le : (most : ℕ) (lens : List ℕ) (slots n from : ℕ) → from < slots → n ≤ slots → EachFits most lens slots n from
+    → sizeIn lens slots n from ≤ n * most
+unfolding sizeIn
+size-le most lens slots zero from p b each = zero-le
+size-le most lens slots (suc n) from p b each =
+    omega (
+      arith,
+      suc-mul n most,
+      first-fits most lens slots n from p each,
+      size-le most lens slots n (roundOf slots (from + 1)) (next-lt slots from p) (omega arith) (rest-fits most lens slots n from p b each),
+    )
+
+-- ---- the octets of n segments
+
+-- a slot's segment has the slot's length
+pub segment-length : (slots most : ℕ) (m lens : List ℕ) (s : ℕ) → Sized slots most m lens → s < slots → getD lens s 0 ≤ most
+    → length (segmentIn most m lens s) ≡ getD lens s 0
+segment-length slots most m lens s sized p h =
+    length-take-le (getD lens s 0) (drop (s * most) m) (omega (arith, length-drop (s * most) m, slot-in s slots most p))
+
+pub octets-length : (most : ℕ) (m lens : List ℕ) (slots n from : ℕ) → Sized slots most m lens → from < slots → n ≤ slots
+    → EachFits most lens slots n from → length (octetsIn most m lens slots n from) ≡ sizeIn lens slots n from
+unfolding octetsIn sizeIn
+octets-length most m lens slots zero from sized p b each = refl
+octets-length most m lens slots (suc n) from sized p b each =
+    let next = roundOf slots (from + 1) in
+    simp length-append
+    (omega (
+      arith,
+      segment-length slots most m lens from sized p (first-fits most lens slots n from p each),
+      octets-length most m lens slots n next sized (next-lt slots from p) (omega arith) (rest-fits most lens slots n from p b each),
+    ))
+
+-- one segment more laid behind those that are there: to lay what is left is what it was
+module _ (most : ℕ) (m lens : List ℕ) (slots n i s : ℕ) (out : List ℕ) (at : ℕ) (out1 : List ℕ) (next : ℕ)
+    (sized : Sized slots most m lens) (p : s < slots) (l : i < n) (short : getD lens s 0 ≤ most)
+    (room : at + getD lens s 0 ≤ length out) (in-out : out1 ≡ laid out at (segmentIn most m lens s)) (on : next ≡ roundOf slots (s + 1)) where
+  long : length (segmentIn most m lens s) ≡ getD lens s 0
+  long = segment-length slots most m lens s sized p short
+
+  pub gather-length : length out1 ≡ length out
+  gather-length = ap length in-out ∙ laid-length out at (segmentIn most m lens s) (omega (arith, long))
+
+  pub gather-more : laid out1 (at + getD lens s 0) (octetsIn most m lens slots (n - (i + 1)) next)
+      ≡ laid out at (octetsIn most m lens slots (n - i) s)
+  unfolding octetsIn
+  gather-more =
+      let e : n - i ≡ suc (n - (i + 1)) = omega arith in
+      let seg = segmentIn most m lens s in
+      let left = octetsIn most m lens slots (n - (i + 1)) in
+      ap₂ (λ (o : List ℕ) (k : ℕ). laid o (at + getD lens s 0) (left k)) in-out on
+      ∙ ap (λ (k : ℕ). laid (laid out at seg) (at + k) (left (roundOf slots (s + 1)))) (sym long)
+      ∙ laid-on out at seg (omega (arith, long)) (left (roundOf slots (s + 1)))
+      ∙ ap (λ (k : ℕ). laid out at (octetsIn most m lens slots k s)) (sym e)
+
+-- none left
+pub gather-none : (most : ℕ) (m lens : List ℕ) (slots n i s : ℕ) (out : List ℕ) (at : ℕ) → n ≤ i
+    → laid out at (octetsIn most m lens slots (n - i) s) ≡ out
+unfolding octetsIn
+gather-none most m lens slots n i s out at h =
+    let e : n - i ≡ 0 = omega arith in
+    ap (λ (k : ℕ). laid out at (octetsIn most m lens slots k s)) e ∙ laid-none out at
+
+-- ---- values filed round the ring: one more, none left; the places that have them, and the others
+
+module _ (f : ℕ → ℕ) (slots : ℕ) where
+  by-more : (l : List ℕ) (n i s : ℕ) → i < n
+      → filedBy f slots l (n - i) i s ≡ filedBy f slots (set l s (f i)) (n - (i + 1)) (i + 1) (roundOf slots (s + 1))
+  unfolding filedBy
+  by-more l n i s h = let e : n - i ≡ suc (n - (i + 1)) = omega arith in rw e
+
+  by-none : (l : List ℕ) (n i s : ℕ) → n ≤ i → filedBy f slots l (n - i) i s ≡ l
+  unfolding filedBy
+  by-none l n i s h = let e : n - i ≡ 0 = omega arith in rw e
+
+  by-length : (l : List ℕ) (n j from : ℕ) → length (filedBy f slots l n j from) ≡ length l
+  unfolding filedBy
+  by-length l zero j from = refl
+  by-length l (suc n) j from = by-length (set l from (f j)) n (j + 1) (roundOf slots (from + 1)) ∙ length-set l from (f j)
+
+  by-out : (l : List ℕ) (n j from i : ℕ) → from < slots → i < slots → n ≤ i
+      → getD (filedBy f slots l n j from) (roundOf slots (from + i)) 0 ≡ getD l (roundOf slots (from + i)) 0
+  unfolding filedBy
+  by-out l zero j from i p b h = refl
+  by-out l (suc n) j from zero p b h = absurd (omega arith)
+  by-out l (suc n) j from (suc i) p b h =
+      let next = roundOf slots (from + 1) in
+      let e = next-place slots from i p (omega arith) in
+      ap (λ (k : ℕ). getD (filedBy f slots (set l from (f j)) n (j + 1) next) k 0) (sym e)
+      ∙ by-out (set l from (f j)) n (j + 1) next i (next-lt slots from p) (omega arith) (omega arith)
+      ∙ ap (λ (k : ℕ). getD (set l from (f j)) k 0) e
+      ∙ getD-set-other l from (roundOf slots (from + suc i)) (f j) 0 (later-place slots from i p b)
+
+  by-in : (l : List ℕ) (n j from i : ℕ) → from < slots → slots ≤ length l → n ≤ slots → i < n
+      → getD (filedBy f slots l n j from) (roundOf slots (from + i)) 0 ≡ f (j + i)
+  unfolding filedBy
+  by-in l zero j from i p b k h = absurd (omega arith)
+  by-in l (suc n) j from zero p b k h =
+      let next = roundOf slots (from + 1) in
+      let to = filedBy f slots (set l from (f j)) n (j + 1) next in
+      let e = last-place slots from p in
+      let z : j ≡ j + 0 = omega arith in
+      ap (λ (k : ℕ). getD to k 0) (first-place slots from p ∙ sym e)
+      ∙ by-out (set l from (f j)) n (j + 1) next (slots - 1) (next-lt slots from p) (omega arith) (omega arith)
+      ∙ ap (λ (k : ℕ). getD (set l from (f j)) k 0) e
+      ∙ getD-set-same l from (f j) 0 (omega arith)
+      ∙ ap f z
+  by-in l (suc n) j from (suc i) p b k h =
+      let next = roundOf slots (from + 1) in
+      let to = filedBy f slots (set l from (f j)) n (j + 1) next in
+      let z : j + 1 + i ≡ j + suc i = omega arith in
+      ap (λ (k : ℕ). getD to k 0) (sym (next-place slots from i p (omega arith)))
+      ∙ by-in (set l from (f j)) n (j + 1) next i (next-lt slots from p) (omega (arith, length-set l from (f j))) (omega arith) (omega arith)
+      ∙ ap f z
+
+-- the marks
+module _ (slots count : ℕ) (marks : List ℕ) where
+  pub filed-marks-more : (n i s : ℕ) → i < n
+      → filedMarks slots count marks (n - i) i s
+      ≡ filedMarks slots count (set marks s (markOf (flagsOf count i))) (n - (i + 1)) (i + 1) (roundOf slots (s + 1))
+  unfolding filedMarks
+  filed-marks-more n i s h = by-more (λ (k : ℕ). markOf (flagsOf count k)) slots marks n i s h
+
+  pub filed-marks-none : (n i s : ℕ) → n ≤ i → filedMarks slots count marks (n - i) i s ≡ marks
+  unfolding filedMarks
+  filed-marks-none n i s h = by-none (λ (k : ℕ). markOf (flagsOf count k)) slots marks n i s h
+
+  pub filed-marks-length : (n j from : ℕ) → length (filedMarks slots count marks n j from) ≡ length marks
+  unfolding filedMarks
+  filed-marks-length n j from = by-length (λ (k : ℕ). markOf (flagsOf count k)) slots marks n j from
+
+  pub filed-marks-in : (n j from i : ℕ) → from < slots → slots ≤ length marks → n ≤ slots → i < n
+      → getD (filedMarks slots count marks n j from) (roundOf slots (from + i)) 0 ≡ markOf (flagsOf count (j + i))
+  unfolding filedMarks
+  filed-marks-in n j from i p b k h = by-in (λ (k : ℕ). markOf (flagsOf count k)) slots marks n j from i p b k h
+
+  pub filed-marks-out : (n j from i : ℕ) → from < slots → i < slots → n ≤ i
+      → getD (filedMarks slots count marks n j from) (roundOf slots (from + i)) 0 ≡ getD marks (roundOf slots (from + i)) 0
+  unfolding filedMarks
+  filed-marks-out n j from i p b h = by-out (λ (k : ℕ). markOf (flagsOf count k)) slots marks n j from i p b h
+
+-- the lengths
+module _ (most slots : ℕ) (u lens : List ℕ) where
+  pub filed-lens-more : (n i s : ℕ) → i < n
+      → filedLens most slots u lens (n - i) i s
+      ≡ filedLens most slots u (set lens s (length (segmentOf most u i))) (n - (i + 1)) (i + 1) (roundOf slots (s + 1))
+  unfolding filedLens
+  filed-lens-more n i s h = by-more (λ (k : ℕ). length (segmentOf most u k)) slots lens n i s h
+
+  pub filed-lens-none : (n i s : ℕ) → n ≤ i → filedLens most slots u lens (n - i) i s ≡ lens
+  unfolding filedLens
+  filed-lens-none n i s h = by-none (λ (k : ℕ). length (segmentOf most u k)) slots lens n i s h
+
+  pub filed-lens-length : (n j from : ℕ) → length (filedLens most slots u lens n j from) ≡ length lens
+  unfolding filedLens
+  filed-lens-length n j from = by-length (λ (k : ℕ). length (segmentOf most u k)) slots lens n j from
+
+  pub filed-lens-in : (n j from i : ℕ) → from < slots → slots ≤ length lens → n ≤ slots → i < n
+      → getD (filedLens most slots u lens n j from) (roundOf slots (from + i)) 0 ≡ length (segmentOf most u (j + i))
+  unfolding filedLens
+  filed-lens-in n j from i p b k h = by-in (λ (k : ℕ). length (segmentOf most u k)) slots lens n j from i p b k h
+
+  pub filed-lens-out : (n j from i : ℕ) → from < slots → i < slots → n ≤ i
+      → getD (filedLens most slots u lens n j from) (roundOf slots (from + i)) 0 ≡ getD lens (roundOf slots (from + i)) 0
+  unfolding filedLens
+  filed-lens-out n j from i p b h = by-out (λ (k : ℕ). length (segmentOf most u k)) slots lens n j from i p b h
+
+-- ---- the octets: the memory and the lengths together
+
+module _ (most slots : ℕ) (u : List ℕ) where
+  pub filed-mem-more : (m : List ℕ) (n i s : ℕ) → i < n
+      → filedMem most slots u m (n - i) i s
+      ≡ filedMem most slots u (laid m (s * most) (segmentOf most u i)) (n - (i + 1)) (i + 1) (roundOf slots (s + 1))
+  unfolding filedMem
+  filed-mem-more m n i s h = let e : n - i ≡ suc (n - (i + 1)) = omega arith in rw e
+
+  pub filed-mem-none : (m : List ℕ) (n i s : ℕ) → n ≤ i → filedMem most slots u m (n - i) i s ≡ m
+  unfolding filedMem
+  filed-mem-none m n i s h = let e : n - i ≡ 0 = omega arith in rw e
+
+  pub filed-sized : (m lens : List ℕ) (n j from : ℕ) → Sized slots most m lens → from < slots
+      → Sized slots most (filedMem most slots u m n j from) (filedLens most slots u lens n j from)
+  unfolding filedMem filedLens filedBy
+  filed-sized m lens zero j from sized p = sized
+  filed-sized m lens (suc n) j from sized p =
+      filed-sized (laid m (from * most) (segmentOf most u j)) (set lens from (length (segmentOf most u j))) n (j + 1) (roundOf slots (from + 1))
+      (slot.filed-sized slots most m lens from (segmentOf most u j) sized p (fits most u j))
+      (next-lt slots from p)
+
+  -- what is filed at another place stays
+  pub filed-octets-out : (m lens : List ℕ) (n j from i : ℕ) → Sized slots most m lens → from < slots → i < slots → n ≤ i
+      → getD lens (roundOf slots (from + i)) 0 ≤ most
+      → segmentIn most (filedMem most slots u m n j from) (filedLens most slots u lens n j from) (roundOf slots (from + i))
+      ≡ segmentIn most m lens (roundOf slots (from + i))
+  unfolding filedMem filedLens filedBy
+  filed-octets-out m lens zero j from i sized p b h short = refl
+  filed-octets-out m lens (suc n) j from zero sized p b h short = absurd (omega arith)
+  filed-octets-out m lens (suc n) j from (suc i) sized p b h short =
+      let next = roundOf slots (from + 1) in
+      let part = segmentOf most u j in
+      let m1 = laid m (from * most) part in
+      let lens1 = set lens from (length part) in
+      let e = next-place slots from i p (omega arith) in
+      let d = later-place slots from i p b in
+      let place = roundOf slots (from + suc i) in
+      let kept : getD lens1 (roundOf slots (next + i)) 0 ≤ most =
+      subst (λ (k : ℕ). k ≤ most) (sym (ap (λ (k : ℕ). getD lens1 k 0) e ∙ getD-set-other lens from place (length part) 0 d)) short in
+      ap (λ (k : ℕ). segmentIn most (filedMem most slots u m1 n (j + 1) next) (filedLens most slots u lens1 n (j + 1) next) k) (sym e)
+      ∙ filed-octets-out m1 lens1 n (j + 1) next i
+      (slot.filed-sized slots most m lens from part sized p (fits most u j))
+      (next-lt slots from p)
+      (omega arith)
+      (omega arith)
+      kept
+      ∙ ap (λ (k : ℕ). segmentIn most m1 lens1 k) e
+      ∙ filed-other slots most m lens from part sized p (fits most u j) place d short
+
+  -- the i-th place holds the i-th segment
+  pub filed-octets-in : (m lens : List ℕ) (n j from i : ℕ) → Sized slots most m lens → from < slots → n ≤ slots → i < n
+      → segmentIn most (filedMem most slots u m n j from) (filedLens most slots u lens n j from) (roundOf slots (from + i))
+      ≡ segmentOf most u (j + i)
+  unfolding filedMem filedLens filedBy
+  filed-octets-in m lens zero j from i sized p b h = absurd (omega arith)
+  filed-octets-in m lens (suc n) j from zero sized p b h =
+      let next = roundOf slots (from + 1) in
+      let part = segmentOf most u j in
+      let m1 = laid m (from * most) part in
+      let lens1 = set lens from (length part) in
+      let e = last-place slots from p in
+      let z : j ≡ j + 0 = omega arith in
+      let same : getD lens1 from 0 ≡ length part = getD-set-same lens from (length part) 0 (omega arith) in
+      let kept : getD lens1 (roundOf slots (next + (slots - 1))) 0 ≤ most =
+      subst (λ (k : ℕ). k ≤ most) (sym (ap (λ (k : ℕ). getD lens1 k 0) e ∙ same)) (fits most u j) in
+      ap (λ (k : ℕ). segmentIn most (filedMem most slots u m1 n (j + 1) next) (filedLens most slots u lens1 n (j + 1) next) k)
+      (first-place slots from p ∙ sym e)
+      ∙ filed-octets-out m1 lens1 n (j + 1) next (slots - 1)
+      (slot.filed-sized slots most m lens from part sized p (fits most u j))
+      (next-lt slots from p)
+      (omega arith)
+      (omega arith)
+      kept
+      ∙ ap (λ (k : ℕ). segmentIn most m1 lens1 k) e
+      ∙ filed-same slots most m lens from part sized p (fits most u j)
+      ∙ ap (segmentOf most u) z
+  filed-octets-in m lens (suc n) j from (suc i) sized p b h =
+      let next = roundOf slots (from + 1) in
+      let part = segmentOf most u j in
+      let m1 = laid m (from * most) part in
+      let lens1 = set lens from (length part) in
+      let z : j + 1 + i ≡ j + suc i = omega arith in
+      ap (λ (k : ℕ). segmentIn most (filedMem most slots u m1 n (j + 1) next) (filedLens most slots u lens1 n (j + 1) next) k)
+      (sym (next-place slots from i p (omega arith)))
+      ∙ filed-octets-in m1 lens1 n (j + 1) next i
+      (slot.filed-sized slots most m lens from part sized p (fits most u j))
+      (next-lt slots from p)
+      (omega arith)
+      (omega arith)
+      ∙ ap (segmentOf most u) z
+
+-- ---- segments of a unit, place by place, are the unit's octets
+
+pub octets-joined : (most : ℕ) (u m lens : List ℕ) (slots n j from : ℕ) → from < slots → n ≤ slots
+    → ((i : ℕ) → i < n → segmentIn most m lens (roundOf slots (from + i)) ≡ segmentOf most u (j + i))
+    → octetsIn most m lens slots n from ≡ joined most u n j
+unfolding octetsIn joined
+octets-joined most u m lens slots zero j from p b each = refl
+octets-joined most u m lens slots (suc n) j from p b each =
+    let next = roundOf slots (from + 1) in
+    let z : j + 0 ≡ j = omega arith in
+    let first : segmentIn most m lens from ≡ segmentOf most u j =
+    ap (segmentIn most m lens) (sym (first-place slots from p)) ∙ each 0 (omega arith) ∙ ap (segmentOf most u) z in
+    ap₂ (λ (a b : List ℕ). a ++ b) first
+    (octets-joined most u m lens slots n (j + 1) next (next-lt slots from p) (omega arith)
+    (λ i h.
+    let y : j + suc i ≡ j + 1 + i = omega arith in
+    ap (segmentIn most m lens) (next-place slots from i p (omega arith)) ∙ each (suc i) (omega arith) ∙ ap (segmentOf most u) y))
+
+-- a unit that is filed and gathered is the unit
+pub filed-gathered : (most slots : ℕ) (u m lens : List ℕ) (from : ℕ) → Sized slots most m lens → 1 ≤ most → from < slots
+    → segmentsOf most (length u) ≤ slots
+    → octetsIn most (filedMem most slots u m (segmentsOf most (length u)) 0 from)
+    (filedLens most slots u lens (segmentsOf most (length u)) 0 from) slots (segmentsOf most (length u)) from
+    ≡ u
+filed-gathered most slots u m lens from sized h p b =
+    let n = segmentsOf most (length u) in
+    octets-joined most u (filedMem most slots u m n 0 from) (filedLens most slots u lens n 0 from) slots n 0 from p b
+    (λ i l. filed-octets-in most slots u m lens n 0 from i sized p b l)
+    ∙ rejoined most u h
+
+-- ---- the i-th segment as a part of the unit, and its flags
+
+-- it starts within the unit
+pub segment-starts : (most n i : ℕ) → i < segmentsOf most n → i * most ≤ n
+segment-starts most n i = by (eqb n 0)
+  where
+    by : (t : Bool) → i < (if t then 1 else (n - 1) / most + 1) → i * most ≤ n
+    by true h = let z : i ≡ 0 = omega arith in subst (λ (k : ℕ). k ≤ n) (sym (ap (λ (k : ℕ). k * most) z ∙ zero-mul most)) zero-le
+    by false h =
+        let k : i ≤ (n - 1) / most = omega arith in
+        omega (arith, mul-le-mul-right most k, div-mul-le-self (n - 1) most)
+
+-- the part up to its end is it
+part-is : (most : ℕ) (u : List ℕ) (start : ℕ) → start ≤ length u
+    → take ((if ltb (length u - start) most then length u else start + most) - start) (drop start u) ≡ take most (drop start u)
+part-is most u start h = by (ltb (length u - start) most) refl
+  where
+    by : (t : Bool) → ltb (length u - start) most ≡ t
+        → take ((if t then length u else start + most) - start) (drop start u) ≡ take most (drop start u)
+    by true e =
+        take-all (length u - start) (drop start u) (omega (arith, length-drop start u))
+        ∙ sym (take-all most (drop start u) (omega (arith, length-drop start u, ltb-true (length u - start) most e)))
+    by false e = let z : start + most - start ≡ most = omega arith in ap (λ (k : ℕ). take k (drop start u)) z
+
+pub part-of : (most : ℕ) (u : List ℕ) (start end : ℕ) → start ≤ length u
+    → end ≡ (if ltb (length u - start) most then length u else start + most)
+    → take (end - start) (drop start u) ≡ take most (drop start u)
+part-of most u start end h e = ap (λ (k : ℕ). take (k - start) (drop start u)) e ∙ part-is most u start h
+
+pub end-after : (n start most : ℕ) → start ≤ n → start ≤ (if ltb (n - start) most then n else start + most)
+end-after n start most h = by (ltb (n - start) most)
+  where
+    by : (t : Bool) → start ≤ (if t then n else start + most)
+    by true = h
+    by false = omega arith
+
+pub end-within : (n start most : ℕ) → start ≤ n → (if ltb (n - start) most then n else start + most) ≤ n
+end-within n start most h = by (ltb (n - start) most) refl
+  where
+    by : (t : Bool) → ltb (n - start) most ≡ t → (if t then n else start + most) ≤ n
+    by true e = omega arith
+    by false e = omega (arith, ltb-false (n - start) most e)
+
+pub flags-le : (count i : ℕ) → flagsOf count i ≤ 3
+flags-le count i = by (eqb count 1) (eqb i 0) (eqb (i + 1) count)
+  where
+    by : (a b c : Bool) → (if a then 3 else if b then 1 else if c then 2 else 0) ≤ 3
+    by true b c = omega arith
+    by false true c = omega arith
+    by false false true = omega arith
+    by false false false = omega arith
+
+-- ---- one segment more filed, and the place goes on: to file what is left is what it was
+module _ (most slots : ℕ) (u m lens : List ℕ) (n i s : ℕ) (part m1 lens1 : List ℕ) (next : ℕ)
+    (sized : Sized slots most m lens) (p : s < slots) (l : i < n) (is : part ≡ segmentOf most u i)
+    (in-mem : m1 ≡ laid m (s * most) part) (in-lens : lens1 ≡ set lens s (length part)) (on : next ≡ roundOf slots (s + 1)) where
+  mem-is : m1 ≡ laid m (s * most) (segmentOf most u i)
+  mem-is = in-mem ∙ ap (laid m (s * most)) is
+
+  lens-is : lens1 ≡ set lens s (length (segmentOf most u i))
+  lens-is = in-lens ∙ ap (λ (q : List ℕ). set lens s (length q)) is
+
+  pub turn-sized : Sized slots most m1 lens1
+  turn-sized =
+      subst (λ (k : List ℕ). Sized slots most k lens1) (sym mem-is)
+      (subst (λ (k : List ℕ). Sized slots most (laid m (s * most) (segmentOf most u i)) k) (sym lens-is)
+      (slot.filed-sized slots most m lens s (segmentOf most u i) sized p (fits most u i)))
+
+  pub turn-mem : filedMem most slots u m1 (n - (i + 1)) (i + 1) next ≡ filedMem most slots u m (n - i) i s
+  turn-mem =
+      ap₂ (λ (k : List ℕ) (j : ℕ). filedMem most slots u k (n - (i + 1)) (i + 1) j) mem-is on
+      ∙ sym (filed-mem-more most slots u m n i s l)
+
+  pub turn-lens : filedLens most slots u lens1 (n - (i + 1)) (i + 1) next ≡ filedLens most slots u lens (n - i) i s
+  turn-lens =
+      ap₂ (λ (k : List ℕ) (j : ℕ). filedLens most slots u k (n - (i + 1)) (i + 1) j) lens-is on
+      ∙ sym (filed-lens-more most slots u lens n i s l)
+
+pub turn-marks : (slots count : ℕ) (marks : List ℕ) (n i s flags next : ℕ) → i < n → flags ≡ flagsOf count i → next ≡ roundOf slots (s + 1)
+    → filedMarks slots count (set marks s (flags + 1)) (n - (i + 1)) (i + 1) next ≡ filedMarks slots count marks (n - i) i s
+turn-marks slots count marks n i s flags next l is on =
+    ap₂ (λ (k j : ℕ). filedMarks slots count (set marks s (markOf k)) (n - (i + 1)) (i + 1) j) is on
+    ∙ sym (filed-marks-more slots count marks n i s l)

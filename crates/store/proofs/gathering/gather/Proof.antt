@@ -1,0 +1,126 @@
+-- `store::gathering::gather` meets its contract. The invariant: to lay what is left behind what is there is to lay the whole.
+-- Assumes nothing.
+use Prim.Native.Nat.{ℕ, _≤_, _<_, _-_, _+_}
+use mathlib.Core.Path.{_≡_, sym, ap, _∙_}
+use native.Mathlib.Omega.{arith}
+use lib.ListN.{length, getD}
+use Rattle.ring.specs.Ring.{roundOf}
+use Rattle.ring.proofs.Laws.{round-lt, round-add}
+use Rattle.slots.specs.Slots.{laid}
+use Rattle.store.specs.Store.{sizeIn, octetsIn}
+use Rattle.store.proofs.Laws.{first-place, place-fits, size-more, gather-length, gather-more, gather-none}
+use Rattle.store.proofs.gathering.gather.Statement.{statement}
+use Rattle.store.proofs.gathering.gather.Tie as tie
+use Rattle.store.proofs.gathering.gather.Reads as reads
+use Rattle.store.proofs.gathering.gather.Lts as lts
+use Rattle.ring.proofs.round.Reads as round-reads
+use Rattle.slots.proofs.read_segment.Reads as read-segment-reads
+
+abbrev Inv-loop : tie.InvT-loop
+Inv-loop mem lens slots most n from out₀ at₀ i₀ s₀ out at i s =
+    (i ≤ n)
+    × (s < slots)
+    × (s ≡ roundOf slots (from + i))
+    × (length out ≡ length out₀)
+    × (at + sizeIn lens slots (n - i) s ≤ length out₀)
+    × (laid out at (octetsIn most mem lens slots (n - i) s) ≡ laid out₀ 0 (octetsIn most mem lens slots n from))
+
+abbrev μ-loop : tie.MeasureT-loop
+μ-loop mem lens slots most n from out₀ at₀ i₀ s₀ out at i s = n - i
+
+loop-holds : tie.Need-loop-holds Inv-loop μ-loop
+loop-holds c =
+    let a = c .before .before .before .args in
+    let e : a .n - 0 ≡ a .n = omega arith in (
+      omega arith,
+      omega arith,
+      sym (first-place (a .slots) (a .from) (omega arith)),
+      omega arith,
+      omega (arith, ap (λ (k : ℕ). sizeIn (a .lens .now) (a .slots) k (a .from)) e),
+      ap (λ (k : ℕ). laid (a .out .now) 0 (octetsIn (a .most) (a .mem .now) (a .lens .now) (a .slots) k (a .from))) e,
+    )
+
+read-segment-requires : tie.Need-read-segment-requires Inv-loop μ-loop
+read-segment-requires c κs =
+    let at = c .before .before .loop in
+    let a = c .before .before .before .before .before .before .args in
+    let pre = c .before .before .before .before .before .before .pre in
+    let short = place-fits (a .most) (a .lens .now) (a .slots) (a .n) (a .from) (at .i) (at .s) (at .inv .2) (pre .1 .1) (c .before .loop-test .taken) in
+    let more = size-more (a .lens .now) (a .slots) (a .n) (at .i) (at .s) (c .before .loop-test .taken) in
+    (pre .0, (omega arith, short, omega arith))
+
+mul-at : tie.Need-mul-at Inv-loop μ-loop
+mul-at c = omega arith
+
+shared-slice-read-at : tie.Need-shared-slice-read-at Inv-loop μ-loop
+shared-slice-read-at c = omega arith
+
+cast-at : tie.Need-cast-at Inv-loop μ-loop
+cast-at c = omega (arith, c .shared-slice-known3 .given (c .before .before .before .before .before .before .loop .s))
+
+add-at : tie.Need-add-at Inv-loop μ-loop
+add-at c =
+    let at = c .before .before .before .before .before .before .loop in
+    let a = c .before .before .before .before .before .before .before .before .before .before .args in
+    omega (arith, size-more (a .lens .now) (a .slots) (a .n) (at .i) (at .s) (c .before .before .before .before .before .loop-test .taken))
+
+add-i : tie.Need-add-i Inv-loop μ-loop
+add-i c = omega arith
+
+add-round : tie.Need-add-round Inv-loop μ-loop
+add-round c = omega arith
+
+round-requires : tie.Need-round-requires Inv-loop μ-loop
+round-requires c κs = tt
+
+loop-less : tie.Need-loop-less Inv-loop μ-loop
+loop-less c = omega arith
+
+loop-again : tie.Need-loop-again Inv-loop μ-loop
+loop-again c =
+    let at = c .before .before .before .before .before .before .before .loop in
+    let a = c .before .before .before .before .before .before .before .before .before .before .before .args in
+    let pre = c .before .before .before .before .before .before .before .before .before .before .before .pre in
+    let taken = c .before .before .before .before .before .before .loop-test .taken in
+    let laid-now = c .before .before .before .before .read-segment .ensures in
+    let short = place-fits (a .most) (a .lens .now) (a .slots) (a .n) (a .from) (at .i) (at .s) (at .inv .2) (pre .1 .1) taken in
+    let more = size-more (a .lens .now) (a .slots) (a .n) (at .i) (at .s) taken in
+    let room : at .at + getD (a .lens .now) (at .s) 0 ≤ length (at .out) = omega arith in (
+      omega arith,
+      rw (c .round .ensures) (round-lt _ _ (omega arith)),
+      c .round .ensures
+          ∙ ap (λ (k : ℕ). roundOf (a .slots) (k + 1)) (at .inv .2)
+          ∙ round-add (a .slots) (a .from) (at .i) 1 (omega arith),
+      gather-length (a .most) (a .mem .now) (a .lens .now) (a .slots) (a .n) (at .i) (at .s) (at .out) (at .at) _ _ (pre .0) (at .inv .1) taken short room laid-now (c .round .ensures) ∙ at .inv .3,
+      rw (c .round .ensures) (omega arith),
+      gather-more (a .most) (a .mem .now) (a .lens .now) (a .slots) (a .n) (at .i) (at .s) (at .out) (at .at) _ _ (pre .0) (at .inv .1) taken short room laid-now (c .round .ensures) ∙ at .inv .5,
+    )
+
+same-length : tie.Need-same-length Inv-loop μ-loop
+same-length c = c .before .loop .inv .3
+
+returns : tie.Need-returns Inv-loop μ-loop
+returns c =
+    let at = c .before .loop in
+    let a = c .before .before .before .before .before .args in
+    sym (gather-none (a .most) (a .mem .now) (a .lens .now) (a .slots) (a .n) (at .i) (at .s) (at .out) (at .at) (c .loop-test .left)) ∙ at .inv .5
+
+pub gather-spec : {M : Type 1} → statement M
+gather-spec =
+    tie.close
+    (tie.spec
+    Inv-loop
+    μ-loop
+    loop-holds
+    read-segment-requires
+    mul-at
+    shared-slice-read-at
+    cast-at
+    add-at
+    add-i
+    add-round
+    round-requires
+    loop-less
+    loop-again
+    same-length
+    returns)

@@ -1,0 +1,82 @@
+-- `store::gathering::size_in` meets its contract. The invariant: the lengths that were passed and those from here on make the sum, and each is below 65536.
+-- Assumes nothing.
+use Prim.Native.Nat.{ℕ, _≤_, _<_, _-_, _+_, _*_}
+use mathlib.Core.Path.{_≡_, ap, _∙_}
+use native.Mathlib.Omega.{arith}
+use native.Mathlib.Nat.{zero-add}
+use Rattle.ring.proofs.Laws.{round-lt}
+use Rattle.store.specs.Store.{sizeIn}
+use Rattle.store.proofs.Laws.{size-more, size-none}
+use Rattle.store.proofs.gathering.size_in.Statement.{statement}
+use Rattle.store.proofs.gathering.size_in.Tie as tie
+use Rattle.store.proofs.gathering.size_in.Reads as reads
+use Rattle.store.proofs.gathering.size_in.Lts as lts
+use Rattle.ring.proofs.round.Reads as round-reads
+
+abbrev Inv-loop : tie.InvT-loop
+Inv-loop lens slots n from sum₀ i₀ s₀ sum i s = (i ≤ n) × (s < slots) × (sum ≤ 65535 * i) × (sum + sizeIn lens slots (n - i) s ≡ sizeIn lens slots n from)
+
+abbrev μ-loop : tie.MeasureT-loop
+μ-loop lens slots n from sum₀ i₀ s₀ sum i s = n - i
+
+loop-holds : tie.Need-loop-holds Inv-loop μ-loop
+loop-holds c =
+    let a = c .before .args in
+    let e : a .n - 0 ≡ a .n = omega arith in
+    (omega arith, omega arith, omega arith, zero-add _ ∙ ap (λ (k : ℕ). sizeIn (a .lens .now) (a .slots) k (a .from)) e)
+
+mul-sum : tie.Need-mul-sum Inv-loop μ-loop
+mul-sum c = omega arith
+
+shared-slice-read-sum : tie.Need-shared-slice-read-sum Inv-loop μ-loop
+shared-slice-read-sum c = omega arith
+
+cast-sum : tie.Need-cast-sum Inv-loop μ-loop
+cast-sum c = omega (arith, c .shared-slice-known2 .given (c .before .before .loop .s))
+
+add-sum : tie.Need-add-sum Inv-loop μ-loop
+add-sum c = omega (arith, c .shared-slice-known2 .given (c .before .before .loop .s))
+
+add-i : tie.Need-add-i Inv-loop μ-loop
+add-i c = omega arith
+
+add-round : tie.Need-add-round Inv-loop μ-loop
+add-round c = omega arith
+
+round-requires : tie.Need-round-requires Inv-loop μ-loop
+round-requires c κs = tt
+
+loop-less : tie.Need-loop-less Inv-loop μ-loop
+loop-less c = omega arith
+
+loop-again : tie.Need-loop-again Inv-loop μ-loop
+loop-again c =
+    let at = c .before .before .before .loop in
+    let a = c .before .before .before .before .before .args in
+    let small = c .before .shared-slice-known2 .given (at .s) in
+    let more = size-more (a .lens .now) (a .slots) (a .n) (at .i) (at .s) (c .before .before .loop-test .taken) in
+    (omega arith, rw (c .round .ensures) (round-lt _ _ (omega arith)), omega arith, rw (c .round .ensures) (omega arith))
+
+returns : tie.Need-returns Inv-loop μ-loop
+returns c =
+    let at = c .before .loop in
+    let a = c .before .before .before .args in
+    omega (arith, size-none (a .lens .now) (a .slots) (a .n) (at .i) (at .s) (c .loop-test .left))
+
+pub size-in-spec : {M : Type 1} → statement M
+size-in-spec =
+    tie.close
+    (tie.spec
+    Inv-loop
+    μ-loop
+    loop-holds
+    mul-sum
+    shared-slice-read-sum
+    cast-sum
+    add-sum
+    add-i
+    add-round
+    round-requires
+    loop-less
+    loop-again
+    returns)
