@@ -1,0 +1,5 @@
+pub mod Asked
+pub mod Sorting
+pub mod Moving
+pub mod Receiving
+pub mod Taking

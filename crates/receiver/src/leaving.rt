@@ -1,0 +1,65 @@
+// A channel leaves OPEN: complete units stay to be taken (house), unfinished ones and segments past the start are dropped.
+use channel::Answer;
+use channel::Channel;
+use channel::Stepped;
+use channel::record::CLOSED;
+ghost use mathlib.Core.Path.{_≡_};
+ghost use Rattle.channel.specs.Steps.{repeating, failing};
+ghost use Rattle.receiver.specs.Asked.{Ringed};
+ghost use Rattle.receiver.specs.Receiving.{ackLength, leaving, shutFor};
+
+// The octets of an ack.
+pub const ACK: usize = 12;
+
+// Into another state, with the close timer at so many ticks. What is kept ends where the unit on the way begins.
+pub fn leave(c: Channel, state: u8, ticks: u16) -> Channel
+    requires { ⌜ Ringed (c .limits) (c .window) ⌝ }
+    ensures { λ r. ⌜ r ≡ leaving c state ticks ⌝ }
+{
+    let slots = c.limits.slots;
+    let kept = c.window.behind - c.window.way;
+    let place = ring::back(slots, c.window.place, c.window.way);
+    let held = c.marks;
+    let marks = ring::clear(held, slots, slots - kept, place);
+    let mut d = c;
+    d.state = state;
+    d.window.start = 1;
+    d.window.place = place;
+    d.window.behind = kept;
+    d.window.way = 0;
+    d.timers.closing = ticks;
+    d.marks = marks;
+    d
+}
+
+// Inactive: CLOSED, and the record says why.
+pub fn shut(c: Channel, why: u8) -> Channel
+    requires { ⌜ Ringed (c .limits) (c .window) ⌝ }
+    ensures { λ r. ⌜ r ≡ shutFor c why ⌝ }
+{
+    let mut d = leave(c, CLOSED, 0);
+    d.reason = why;
+    d
+}
+
+// The answer of a step that makes the channel inactive: no ack goes out.
+pub fn failed(c: Channel, why: u8) -> Stepped
+    requires { ⌜ Ringed (c .limits) (c .window) ⌝ }
+    ensures { λ r. ⌜ r ≡ failing (shutFor c why) why ⌝ }
+{
+    let d = shut(c, why);
+    Stepped {
+        channel: d,
+        answer: Answer::Inactive(why),
+    }
+}
+
+// Acknowledged once more, and nothing has changed.
+pub fn repeated(c: Channel) -> Stepped
+    ensures { λ r. ⌜ r ≡ repeating c ackLength ⌝ }
+{
+    Stepped {
+        channel: c,
+        answer: Answer::Repeated { length: ACK },
+    }
+}
