@@ -2,6 +2,8 @@
 use Prim.Native.Nat.{ℕ, _+_}
 use mathlib.Core.List.{List}
 use lib.ListN.{replicate}
+use Rattle.channel.specs.declared.record.Addresses.{Addresses}
+use Rattle.channel.specs.declared.record.Limits.{Limits}
 use Rattle.channel.specs.declared.record.Settings.{Settings}
 use Rattle.channel.specs.declared.record.Channel.{Channel}
 use Rattle.channel.specs.declared.record.Lone.{Lone}
@@ -78,21 +80,24 @@ noTimers = record { closing = 0; left = replicate 128 0; tries = replicate 128 0
 abbrev pub noMarks : List ℕ
 noMarks = replicate 128 0
 
-abbrev pub madeOf : Settings → Channel
-madeOf s =
+abbrev pub freshOf : Addresses → Limits → ℕ → Lone → Channel
+freshOf addresses limits state control =
     record {
-      addresses = s .addresses;
-      limits = s .limits;
-      state = closed;
+      addresses = addresses;
+      limits = limits;
+      state = state;
       reason = noReason;
       kept = 0;
       accepted = 0;
-      control = noLone;
+      control = control;
       window = freshWindow;
       timers = noTimers;
       marks = noMarks;
       acked = noMarks;
     }
+
+abbrev pub madeOf : Settings → Channel
+madeOf s = freshOf (s .addresses) (s .limits) closed noLone
 
 -- how many segments are held: before the start, and from it on
 abbrev pub heldIn : Window → ℕ

@@ -8,7 +8,7 @@ use Rattle.channel.specs.declared.record.Lone.{Lone}
 use Rattle.channel.specs.declared.answer.Refusal.{Refusal}
 use Rattle.channel.specs.declared.answer.Answer.the-variants.{Done, Repeated, Inactive, Refused}
 use Rattle.channel.specs.declared.step.Stepped.{Stepped}
-use Rattle.channel.specs.Record.{enabled, noReason, freshWindow, noTimers, noMarks}
+use Rattle.channel.specs.Record.{enabled, freshOf}
 
 -- nothing has changed
 abbrev pub refusing : Channel → Refusal → Stepped
@@ -28,20 +28,7 @@ failing c why = record { channel = c; answer = Inactive why }
 
 -- an opening begins: ENABLED, with a fresh window and nothing held; the reason of the last one goes
 abbrev pub enabledOf : Channel → Lone → Channel
-enabledOf c control =
-    record {
-      addresses = c .addresses;
-      limits = c .limits;
-      state = enabled;
-      reason = noReason;
-      kept = 0;
-      accepted = 0;
-      control = control;
-      window = freshWindow;
-      timers = noTimers;
-      marks = noMarks;
-      acked = noMarks;
-    }
+enabledOf c control = freshOf (c .addresses) (c .limits) enabled control
 
 -- a packet's fields, from this node to the channel's other end
 abbrev pub outgoingOf : Node → Addresses → ℕ → ℕ → ℕ → Fields

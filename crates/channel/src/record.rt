@@ -1,6 +1,6 @@
 // The record: unsigned numbers and arrays of them only, so that every bit pattern is a value, and a spoilt record is refused.
 ghost use mathlib.Core.Path.{_≡_};
-ghost use Rattle.channel.specs.Record.{madeOf};
+ghost use Rattle.channel.specs.Record.{freshOf, madeOf};
 
 // Directions.
 pub const SENDS: u8 = 0;
@@ -110,24 +110,18 @@ pub struct Channel {
     pub acked: [u8; 128],
 }
 
-// A channel as settings make it: CLOSED and empty.
-pub fn made(s: Settings) -> Channel
-    ensures { λ r. ⌜ r ≡ madeOf s ⌝ }
+// A channel with nothing held: its window at number 1, no mark, no timer and no reason.
+pub fn fresh(addresses: Addresses, limits: Limits, state: u8, control: Lone) -> Channel
+    ensures { λ r. ⌜ r ≡ freshOf addresses limits state control ⌝ }
 {
-    let addresses = s.addresses;
-    let limits = s.limits;
     Channel {
         addresses,
         limits,
-        state: CLOSED,
+        state,
         reason: NO_REASON,
         kept: 0,
         accepted: 0,
-        control: Lone {
-            state: 0,
-            timer: 0,
-            tries: 0,
-        },
+        control,
         window: Window {
             start: 1,
             place: 0,
@@ -144,4 +138,18 @@ pub fn made(s: Settings) -> Channel
         marks: [0; 128],
         acked: [0; 128],
     }
+}
+
+// As settings make it: CLOSED and empty.
+pub fn made(s: Settings) -> Channel
+    ensures { λ r. ⌜ r ≡ madeOf s ⌝ }
+{
+    let addresses = s.addresses;
+    let limits = s.limits;
+    let control = Lone {
+        state: 0,
+        timer: 0,
+        tries: 0,
+    };
+    fresh(addresses, limits, CLOSED, control)
 }

@@ -5,10 +5,8 @@ use crate::record::Addresses;
 use crate::record::Channel;
 use crate::record::ENABLED;
 use crate::record::Lone;
-use crate::record::NO_REASON;
 use crate::record::Node;
-use crate::record::Timers;
-use crate::record::Window;
+use crate::record::fresh;
 use packet::Fields;
 ghost use mathlib.Core.Path.{_≡_};
 ghost use Rattle.channel.specs.Steps.{refusing, doing, enabledOf, outgoingOf};
@@ -48,30 +46,7 @@ pub fn enabled(c: Channel, control: Lone) -> Channel
 {
     let addresses = c.addresses;
     let limits = c.limits;
-    Channel {
-        addresses,
-        limits,
-        state: ENABLED,
-        reason: NO_REASON,
-        kept: 0,
-        accepted: 0,
-        control,
-        window: Window {
-            start: 1,
-            place: 0,
-            behind: 0,
-            ahead: 0,
-            flight: 0,
-            way: 0,
-        },
-        timers: Timers {
-            closing: 0,
-            left: [0; 128],
-            tries: [0; 128],
-        },
-        marks: [0; 128],
-        acked: [0; 128],
-    }
+    fresh(addresses, limits, ENABLED, control)
 }
 
 // From this node to the channel's other end.
