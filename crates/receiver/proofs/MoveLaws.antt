@@ -1,6 +1,6 @@
 -- Laws of the move: one for each way that a turn ends, and for the turn.
 -- Assumes nothing.
-use mathlib.Core.Path.{_≡_, refl, sym, subst}
+use mathlib.Core.Path.{_≡_, refl, sym, ap, subst}
 use mathlib.Core.Bool.{Bool, true, false}
 use mathlib.Core.List.{List}
 use Prim.Native.Nat.{ℕ, zero, suc, _+_, _-_, _≤_, _<_}
@@ -9,7 +9,8 @@ use borrow.Author.Tests.{eq-eqb, ne-eqb, eqb-true, eqb-false}
 use lib.Dec.{eqb}
 use lib.ListN.{getD}
 use Rattle.laws.specs.Choice.{if_then_else_}
-use Rattle.ring.proofs.Laws.{round-lt}
+use Rattle.ring.specs.Ring.{roundOf, runOf}
+use Rattle.ring.proofs.Laws.{round-lt, run-stop, run-step, run-le}
 use Rattle.slots.specs.Marks.{ends}
 use Rattle.channel.specs.declared.record.Limits.{Limits}
 use Rattle.channel.specs.declared.record.Window.{Window}
@@ -44,6 +45,33 @@ module _ (slots most : ℕ) (marks : List ℕ) where
       → movedBy slots most marks (suc n) w ≡ movedBy slots most marks n (passed slots w (getD marks (w .place) 0))
   unfolding movedBy
   move-step w n h e = simp (ne-eqb _ _ h, e)
+
+  -- where the run of marks goes on, the next number is held, and there is room for it; the run behind it is one less
+  pub run-here : (n p k : ℕ) → runOf marks slots n p ≡ suc k → getD marks p 0 ≡ 0 → ⊥
+  run-here n p k e h = omega (arith, run-stop marks slots n p h)
+
+  pub run-room : (b p k : ℕ) → runOf marks slots (slots - b) p ≡ suc k → b < slots
+  run-room b p k e = omega (arith, run-le marks slots (slots - b) p)
+
+  pub run-next : (b p k : ℕ) → runOf marks slots (slots - b) p ≡ suc k → runOf marks slots (slots - (b + 1)) (roundOf slots (p + 1)) ≡ k
+  run-next b p k e =
+      let less = run-room b p k e in
+      let one : slots - b ≡ suc (slots - (b + 1)) = omega arith in
+      let step = run-step marks slots (slots - (b + 1)) p (run-here (slots - b) p k e) in
+      omega (arith, step, ap (λ (n : ℕ). runOf marks slots n p) one)
+
+  -- where it ends, so does the move
+  pub run-over : (n : ℕ) (w : Window) → runOf marks slots n (w .place) ≡ 0 → movedBy slots most marks n w ≡ record { window = w; broken = false }
+  unfolding movedBy
+  run-over zero w e = refl
+  run-over (suc n) w e = by (eqb (getD marks (w .place) 0) 0) refl
+    where
+      by : (t : Bool) → eqb (getD marks (w .place) 0) 0 ≡ t → movedBy slots most marks (suc n) w ≡ record { window = w; broken = false }
+      by true z = move-stop w (suc n) (eqb-true _ _ z)
+      by false z = absurd (held z)
+        where
+          held : eqb (getD marks (w .place) 0) 0 ≡ false → ⊥
+          held y = omega (arith, run-step marks slots n (w .place) (eqb-false _ _ y))
 
   -- what each segment passed keeps, a turn keeps, if the turns after it do
   turn-keeps : (P : Window → Type 0) (n : ℕ) (w : Window)

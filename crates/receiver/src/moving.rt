@@ -74,23 +74,20 @@ fn pass(slots: usize, w: Window, mark: u8) -> Window
     }
 }
 
-// Not past the slots: with every slot kept, the next place is the oldest segment's.
+// As far as marks lead on, by the routine that moves a sender's start too; each segment on the way must fit. Not past the slots: with every
+// slot kept, the next place is the oldest segment's.
 pub fn move_start(l: Limits, marks: [u8; 128], w: Window) -> Moved
     requires { ⌜ Ringed l w ⌝ }
     ensures { λ r. ⌜ r ≡ movedOf l marks w ⌝ }
 {
     let slots = l.slots;
     let most = l.segments;
+    let n = ring::run(marks, slots, slots - w.behind, w.place);
     let mut at = w;
-    while at.behind < slots {
+    let mut i: usize = 0;
+    while i < n {
         let place = at.place;
         let mark = marks[place];
-        if mark == 0 {
-            return Moved {
-                window: at,
-                broken: false,
-            };
-        }
         if !fits(most, at.way, mark) {
             return Moved {
                 window: at,
@@ -98,6 +95,7 @@ pub fn move_start(l: Limits, marks: [u8; 128], w: Window) -> Moved
             };
         }
         at = pass(slots, at, mark);
+        i += 1;
     }
     Moved {
         window: at,
