@@ -1,3 +1,4 @@
 pub mod SettingsLaws
 pub mod StandingLaws
 pub mod MadeLaws
+pub mod TableLaws

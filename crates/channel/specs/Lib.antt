@@ -4,3 +4,4 @@ pub mod Settings
 pub mod Lone
 pub mod Standing
 pub mod Steps
+pub mod Tables
