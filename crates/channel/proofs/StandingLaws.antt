@@ -9,6 +9,7 @@ use lib.ListN.{length, getD}
 use native.Mathlib.Nat.{not-suc-le-zero, le-of-suc-le-suc, add-zero, zero-add, add-suc, lt-irrefl}
 use borrow.Author.Tests.{ltb-true, leb-true, eqb-true, eq-eqb}
 use lib.Dec.{eqb}
+use Rattle.slots.specs.Slots.{slotOf}
 use Rattle.ring.specs.Ring.{roundOf, backOf, runOf}
 use Rattle.ring.proofs.Laws.{back-lt, run-set, run-is}
 use Rattle.channel.specs.declared.record.Channel.{Channel}
@@ -18,46 +19,46 @@ use Rattle.channel.specs.declared.record.Limits.{Limits}
 use Rattle.channel.specs.declared.record.Window.{Window}
 use Rattle.channel.specs.Standing.{inRing, inFlight, marked, oldestOf, slotFit, slotsFit, standing, Standing, Counted}
 
-module _ (sending : Bool) (most : ℕ) (marks lens : List ℕ) where
-  pub slots-none : (n i : ℕ) → n ≤ i → slotsFit sending most marks lens (n - i) i ≡ true
+module _ (slot : ℕ → ℕ) (sending : Bool) (most : ℕ) (marks lens : List ℕ) where
+  pub slots-none : (n i : ℕ) → n ≤ i → slotsFit slot sending most marks lens (n - i) i ≡ true
   unfolding slotsFit
   slots-none n i h = let e : n - i ≡ 0 = omega arith in rw e
 
-  pub slots-more : (n i : ℕ) → i < n → slotFit sending most (getD marks i 0) (getD lens i 0) ≡ true
-      → slotsFit sending most marks lens (n - i) i ≡ slotsFit sending most marks lens (n - (i + 1)) (i + 1)
+  pub slots-more : (n i : ℕ) → i < n → slotFit sending most (getD marks i 0) (getD lens (slot i) 0) ≡ true
+      → slotsFit slot sending most marks lens (n - i) i ≡ slotsFit slot sending most marks lens (n - (i + 1)) (i + 1)
   unfolding slotsFit
   slots-more n i l t = let e : n - i ≡ suc (n - (i + 1)) = omega arith in rw (e, t)
 
-  pub slots-no : (n i : ℕ) → i < n → slotFit sending most (getD marks i 0) (getD lens i 0) ≡ false → slotsFit sending most marks lens (n - i) i ≡ false
+  pub slots-no : (n i : ℕ) → i < n → slotFit sending most (getD marks i 0) (getD lens (slot i) 0) ≡ false → slotsFit slot sending most marks lens (n - i) i ≡ false
   unfolding slotsFit
   slots-no n i l t = let e : n - i ≡ suc (n - (i + 1)) = omega arith in rw (e, t)
 
 -- every slot fits exactly if each does
-pub slots-each : (sending : Bool) (most : ℕ) (marks lens : List ℕ) (n i : ℕ)
-    → slotsFit sending most marks lens n i ≡ true
-    → (k : ℕ) → k < n → slotFit sending most (getD marks (i + k) 0) (getD lens (i + k) 0) ≡ true
+pub slots-each : (slot : ℕ → ℕ) (sending : Bool) (most : ℕ) (marks lens : List ℕ) (n i : ℕ)
+    → slotsFit slot sending most marks lens n i ≡ true
+    → (k : ℕ) → k < n → slotFit sending most (getD marks (i + k) 0) (getD lens (slot (i + k)) 0) ≡ true
 unfolding slotsFit
-slots-each sending most marks lens zero i e k h = absurd (not-suc-le-zero h)
-slots-each sending most marks lens (suc n) i e zero h =
-    ap (λ (j : ℕ). slotFit sending most (getD marks j 0) (getD lens j 0)) (add-zero i) ∙ both _ _ e .0
-slots-each sending most marks lens (suc n) i e (suc k) h =
+slots-each slot sending most marks lens zero i e k h = absurd (not-suc-le-zero h)
+slots-each slot sending most marks lens (suc n) i e zero h =
+    ap (λ (j : ℕ). slotFit sending most (getD marks j 0) (getD lens (slot j) 0)) (add-zero i) ∙ both _ _ e .0
+slots-each slot sending most marks lens (suc n) i e (suc k) h =
     let p : i + suc k ≡ i + 1 + k = omega (arith, add-suc i k) in
-    ap (λ (j : ℕ). slotFit sending most (getD marks j 0) (getD lens j 0)) p
-    ∙ slots-each sending most marks lens n (i + 1) (both (slotFit sending most (getD marks i 0) (getD lens i 0)) _ e .1) k (le-of-suc-le-suc h)
+    ap (λ (j : ℕ). slotFit sending most (getD marks j 0) (getD lens (slot j) 0)) p
+    ∙ slots-each slot sending most marks lens n (i + 1) (both (slotFit sending most (getD marks i 0) (getD lens (slot i) 0)) _ e .1) k (le-of-suc-le-suc h)
 
-pub slots-all : (sending : Bool) (most : ℕ) (marks lens : List ℕ) (n i : ℕ)
-    → ((k : ℕ) → k < n → slotFit sending most (getD marks (i + k) 0) (getD lens (i + k) 0) ≡ true)
-    → slotsFit sending most marks lens n i ≡ true
+pub slots-all : (slot : ℕ → ℕ) (sending : Bool) (most : ℕ) (marks lens : List ℕ) (n i : ℕ)
+    → ((k : ℕ) → k < n → slotFit sending most (getD marks (i + k) 0) (getD lens (slot (i + k)) 0) ≡ true)
+    → slotsFit slot sending most marks lens n i ≡ true
 unfolding slotsFit
-slots-all sending most marks lens zero i f = refl
-slots-all sending most marks lens (suc n) i f =
-    let here : slotFit sending most (getD marks i 0) (getD lens i 0) ≡ true =
-    ap (λ (j : ℕ). slotFit sending most (getD marks j 0) (getD lens j 0)) (sym (add-zero i)) ∙ f 0 (suc-le-suc zero-le) in
-    let rest : slotsFit sending most marks lens n (i + 1) ≡ true =
-    slots-all sending most marks lens n (i + 1)
+slots-all slot sending most marks lens zero i f = refl
+slots-all slot sending most marks lens (suc n) i f =
+    let here : slotFit sending most (getD marks i 0) (getD lens (slot i) 0) ≡ true =
+    ap (λ (j : ℕ). slotFit sending most (getD marks j 0) (getD lens (slot j) 0)) (sym (add-zero i)) ∙ f 0 (suc-le-suc zero-le) in
+    let rest : slotsFit slot sending most marks lens n (i + 1) ≡ true =
+    slots-all slot sending most marks lens n (i + 1)
     (λ k h.
     let p : i + 1 + k ≡ i + suc k = omega (arith, add-suc i k) in
-    ap (λ (j : ℕ). slotFit sending most (getD marks j 0) (getD lens j 0)) p ∙ f (suc k) (suc-le-suc h)) in
+    ap (λ (j : ℕ). slotFit sending most (getD marks j 0) (getD lens (slot j) 0)) p ∙ f (suc k) (suc-le-suc h)) in
     simp (here, rest)
 
 -- ---- from the test to the facts
@@ -113,8 +114,8 @@ stands-is c lens e =
       sided = p5 .1;
       held = λ i h. run-set (c .marks) (l .slots) (heldIn w) (oldestOf (l .slots) w) i (back-lt (l .slots) (w .place) (w .behind) (q .0)) (omega arith) (omega arith);
       slots = λ i h.
-          ap (λ (j : ℕ). slotFit (eqb (c .addresses .direction) sends) (l .payload) (getD (c .marks) j 0) (getD lens j 0)) (sym (zero-add i))
-          ∙ slots-each (eqb (c .addresses .direction) sends) (l .payload) (c .marks) lens (length lens) 0 (p7 .1) i (omega arith);
+          ap (λ (j : ℕ). slotFit (eqb (c .addresses .direction) sends) (l .payload) (getD (c .marks) j 0) (getD lens (slotOf j) 0)) (sym (zero-add i))
+          ∙ slots-each slotOf (eqb (c .addresses .direction) sends) (l .payload) (c .marks) lens (l .slots) 0 (p7 .1) i (omega arith);
     }
 
 -- ---- and back: true exactly if it holds
@@ -128,7 +129,7 @@ is-stands c lens h =
     let run : runOf (c .marks) (l .slots) (heldIn w) (oldestOf (l .slots) w) ≡ heldIn w =
     run-is (c .marks) (l .slots) (heldIn w) (oldestOf (l .slots) w) (heldIn w) (back-lt (l .slots) (w .place) (w .behind) (q .0)) (omega arith) (omega arith) (h .held)
     (λ more. absurd (lt-irrefl _ more)) in
-    let all : slotsFit (eqb (c .addresses .direction) sends) (l .payload) (c .marks) lens (length lens) 0 ≡ true =
-    slots-all (eqb (c .addresses .direction) sends) (l .payload) (c .marks) lens (length lens) 0
-    (λ k less. ap (λ (j : ℕ). slotFit (eqb (c .addresses .direction) sends) (l .payload) (getD (c .marks) j 0) (getD lens j 0)) (zero-add k) ∙ h .slots k (omega (arith, h .count))) in
+    let all : slotsFit slotOf (eqb (c .addresses .direction) sends) (l .payload) (c .marks) lens (l .slots) 0 ≡ true =
+    slots-all slotOf (eqb (c .addresses .direction) sends) (l .payload) (c .marks) lens (l .slots) 0
+    (λ k less. ap (λ (j : ℕ). slotFit (eqb (c .addresses .direction) sends) (l .payload) (getD (c .marks) j 0) (getD lens (slotOf j) 0)) (zero-add k) ∙ h .slots k (omega (arith, h .count))) in
     simp (h .fit, eq-eqb _ _ (h .count), h .named, h .ring, h .flight, h .sided, eq-eqb _ _ run, all)

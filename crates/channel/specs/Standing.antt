@@ -8,6 +8,7 @@ use lib.ListN.{length, getD}
 use Rattle.laws.specs.Choice.{if_then_else_}
 use Rattle.ring.specs.Ring.{roundOf, backOf, runOf}
 use Rattle.slots.specs.Marks.{ends}
+use Rattle.slots.specs.Slots.{slotOf}
 use Rattle.channel.specs.declared.record.Limits.{Limits}
 use Rattle.channel.specs.declared.record.Window.{Window}
 use Rattle.channel.specs.declared.record.Channel.{Channel}
@@ -61,11 +62,11 @@ slotFit sending most mark len =
     else if sending then (if ends mark then leb len most else eqb len most)
     else leb len most
 
--- n slots from the i-th on fit
-unfoldable pub slotsFit : Bool → ℕ → List ℕ → List ℕ → ℕ → ℕ → Bool
-slotsFit sending most marks lens zero i = true
-slotsFit sending most marks lens (suc n) i =
-    slotFit sending most (getD marks i 0) (getD lens i 0) && slotsFit sending most marks lens n (i + 1)
+-- the slots of n places from the i-th on fit: the mark lies by place, the length by the slot that the map gives for it
+unfoldable pub slotsFit : (ℕ → ℕ) → Bool → ℕ → List ℕ → List ℕ → ℕ → ℕ → Bool
+slotsFit slot sending most marks lens zero i = true
+slotsFit slot sending most marks lens (suc n) i =
+    slotFit sending most (getD marks i 0) (getD lens (slot i) 0) && slotsFit slot sending most marks lens n (i + 1)
 
 unfoldable pub standing : Channel → List ℕ → Bool
 standing c lens =
@@ -76,7 +77,7 @@ standing c lens =
     && inFlight (c .limits) (c .window)
     && sided (c .addresses .direction) (c .state) (c .window)
     && marked (c .limits .slots) (c .window) (c .marks)
-    && slotsFit (eqb (c .addresses .direction) sends) (c .limits .payload) (c .marks) lens (length lens) 0
+    && slotsFit slotOf (eqb (c .addresses .direction) sends) (c .limits .payload) (c .marks) lens (c .limits .slots) 0
 
 -- ---- as facts: each segment held lies in a marked slot, and each slot fits
 
@@ -93,7 +94,7 @@ pub record Standing (c : Channel) (lens : List ℕ) : Type 0 where
       → ⊥
   pub slots : (i : ℕ)
       → i < c .limits .slots
-      → slotFit (eqb (c .addresses .direction) sends) (c .limits .payload) (getD (c .marks) i 0) (getD lens i 0) ≡ true
+      → slotFit (eqb (c .addresses .direction) sends) (c .limits .payload) (getD (c .marks) i 0) (getD lens (slotOf i) 0) ≡ true
 
 -- the numbers of a record that stands
 pub record Counted (l : Limits) (w : Window) : Type 0 where

@@ -9,6 +9,7 @@ use crate::settings::fits_limits;
 ghost use mathlib.Core.Path.{_≡_};
 ghost use Prim.Native.Nat.{_≤_, _<_};
 ghost use lib.ListN.{length};
+ghost use Rattle.slots.specs.Slots.{slotOf};
 ghost use Rattle.channel.specs.Standing.{named, inRing, inFlight, sided, slotFit, slotsFit, marked, standing};
 ghost use Rattle.channel.specs.Record.{sends};
 ghost use lib.Dec.{eqb};
@@ -40,7 +41,13 @@ pub fn stands(c: Channel, lens: &[u16]) -> bool
     if !is_marked(limits.slots, window, marks) {
         return false;
     }
-    slots_fit(c.addresses.direction == SENDS, limits.payload, marks, lens)
+    slots_fit(
+        c.addresses.direction == SENDS,
+        limits.slots,
+        limits.payload,
+        marks,
+        lens,
+    )
 }
 
 // The small numbers have a meaning.
@@ -122,14 +129,15 @@ fn is_marked(slots: usize, w: Window, marks: [u8; 128]) -> bool
     ring::run(marks, slots, held, ring::back(slots, w.place, w.behind)) == held
 }
 
-// Each slot that is marked has a length that fits.
-fn slots_fit(sending: bool, most: usize, marks: [u8; 128], lens: &[u16]) -> bool
-    requires { ⌜ length (now lens) ≤ 128 ⌝ }
-    ensures { λ r. ⌜ r ≡ slotsFit sending most marks (now (lens .entry)) (length (now (lens .entry))) 0 ⌝ }
+// Each slot that is marked has a length that fits. Marks lie by place, lengths by slot.
+fn slots_fit(sending: bool, slots: usize, most: usize, marks: [u8; 128], lens: &[u16]) -> bool
+    requires { ⌜ (slots ≤ 128) × (slots ≤ length (now lens)) ⌝ }
+    ensures { λ r. ⌜ r ≡ slotsFit slotOf sending most marks (now (lens .entry)) slots 0 ⌝ }
 {
-    let mut i = 0;
-    while i < lens.len() {
-        if !slot_fits(sending, most, marks[i], lens[i] as usize) {
+    let mut i: usize = 0;
+    while i < slots {
+        let slot = slots::slot_of(i);
+        if !slot_fits(sending, most, marks[i], lens[slot] as usize) {
             return false;
         }
         i += 1;

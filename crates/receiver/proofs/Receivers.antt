@@ -10,6 +10,7 @@ use lib.Dec.{leb, eqb}
 use lib.ListN.{length, getD}
 use Rattle.laws.proofs.Choice.{both}
 use Rattle.ring.specs.Ring.{roundOf, backOf}
+use Rattle.slots.specs.Slots.{slotOf}
 use Rattle.channel.specs.declared.record.Limits.{Limits}
 use Rattle.channel.specs.declared.record.Window.{Window}
 use Rattle.channel.specs.declared.record.Channel.{Channel}
@@ -34,7 +35,7 @@ Marked slots w marks =
 
 -- each slot fits
 abbrev pub Fitting : Limits → List ℕ → List ℕ → Type 0
-Fitting l marks lens = (i : ℕ) → i < l .slots → slotFit false (l .payload) (getD marks i 0) (getD lens i 0) ≡ true
+Fitting l marks lens = (i : ℕ) → i < l .slots → slotFit false (l .payload) (getD marks i 0) (getD lens (slotOf i) 0) ≡ true
 
 -- the small numbers
 pub record Small (c : Channel) : Type 0 where
@@ -90,7 +91,7 @@ receives-is c lens d h =
       small = small-is c d (h .named);
       window = record { place = q .0; behind = q .1; ahead = a; flight = omega arith; way = n .way; unit = n .unit };
       held = λ i l. h .held i (omega arith);
-      slots = λ i l. ap (λ (t : Bool). slotFit t (c .limits .payload) (getD (c .marks) i 0) (getD lens i 0)) (sym (not-sending c d)) ∙ h .slots i l;
+      slots = λ i l. ap (λ (t : Bool). slotFit t (c .limits .payload) (getD (c .marks) i 0) (getD lens (slotOf i) 0)) (sym (not-sending c d)) ∙ h .slots i l;
     }
 
 -- ---- and back
@@ -123,5 +124,5 @@ receives-stands c lens r =
       flight = flight-true (c .limits) (c .window) (r .window);
       sided = sided-true (c .addresses .direction) (c .state) (c .window) (r .small .direction) (r .window .ahead);
       held = λ i l. r .held i (omega (arith, r .window .ahead));
-      slots = λ i l. ap (λ (t : Bool). slotFit t (c .limits .payload) (getD (c .marks) i 0) (getD lens i 0)) (not-sending c (r .small .direction)) ∙ r .slots i l;
+      slots = λ i l. ap (λ (t : Bool). slotFit t (c .limits .payload) (getD (c .marks) i 0) (getD lens (slotOf i) 0)) (not-sending c (r .small .direction)) ∙ r .slots i l;
     }

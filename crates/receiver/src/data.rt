@@ -67,7 +67,8 @@ fn take_new(
         return refused(c, Refusal::Full);
     }
     let place = ring::round(c.window.place + d, slots);
-    slots::file_segment(mem, lens, place, slots, c.limits.payload, part);
+    let slot = slots::slot_of(place);
+    slots::file_segment(mem, lens, slot, slots, c.limits.payload, part);
     accept(c, place, flags)
 }
 

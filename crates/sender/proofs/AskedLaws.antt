@@ -12,8 +12,8 @@ use lib.ListN.{length, getD, take, drop}
 use Rattle.laws.specs.Choice.{if_then_else_}
 use Rattle.ring.proofs.Laws.{round-lt}
 use Rattle.slots.specs.Marks.{ends}
-use Rattle.slots.specs.Slots.{segmentIn}
-use Rattle.slots.proofs.Laws.{slot-in}
+use Rattle.slots.specs.Slots.{slotOf, segmentIn}
+use Rattle.slots.proofs.Laws.{slot-bound, slot-in}
 use Rattle.store.specs.Store.{EachFits}
 use Rattle.store.proofs.Laws.{segment-length}
 use Rattle.packet.specs.declared.fields.Fields.{Fields}
@@ -63,38 +63,43 @@ module _ (c : Channel) (lens : List ℕ) (h : Standing c lens) (i : ℕ) (l : i 
       h .held (c .window .behind + i) (omega arith)
       (ap (λ (k : ℕ). getD (c .marks) k 0) (from-oldest (c .limits .slots) (c .window) i (r .place) (omega arith)) ∙ z)
 
-  pub mark-fits : (getD (c .marks) (placeAt c i) 0 ≤ 4) × (getD lens (placeAt c i) 0 ≤ c .limits .payload)
-  mark-fits = slot-bounds (eqb (c .addresses .direction) sends) (c .limits .payload) (getD (c .marks) (placeAt c i) 0) (getD lens (placeAt c i) 0) (h .slots (placeAt c i) place-lt) mark-set
+  pub mark-fits : (getD (c .marks) (placeAt c i) 0 ≤ 4) × (getD lens (slotOf (placeAt c i)) 0 ≤ c .limits .payload)
+  mark-fits = slot-bounds (eqb (c .addresses .direction) sends) (c .limits .payload) (getD (c .marks) (placeAt c i) 0) (getD lens (slotOf (placeAt c i)) 0) (h .slots (placeAt c i) place-lt) mark-set
 
--- where the segment lies: its slot's mark and length, and its octets within the memory
-pub record Lying (c : Channel) (mem lens : List ℕ) (s : ℕ) : Type 0 where
+-- where the segment lies: its mark by its place s, its length by its slot t, and its octets within the memory
+pub record Lying (c : Channel) (mem lens : List ℕ) (s t : ℕ) : Type 0 where
   pub place : s < c .limits .slots
+  pub slot : t < c .limits .slots
   pub least : 1 ≤ getD (c .marks) s 0
   pub mark : getD (c .marks) s 0 ≤ 4
-  pub short : getD lens s 0 ≤ c .limits .payload
-  pub inside : s * c .limits .payload + c .limits .payload ≤ length mem
-  pub small : s * c .limits .payload + c .limits .payload ≤ 131072
-  pub some : s < length lens
+  pub short : getD lens t 0 ≤ c .limits .payload
+  pub inside : t * c .limits .payload + c .limits .payload ≤ length mem
+  pub small : t * c .limits .payload + c .limits .payload ≤ 131072
+  pub some : t < length lens
   pub most : c .limits .payload ≤ 1024
   pub few : c .limits .slots ≤ 128
 
-pub lying : (c : Channel) (mem lens : List ℕ) → Asked c mem lens → (i : ℕ) → i < c .window .ahead → (s : ℕ) → s ≡ placeAt c i → Lying c mem lens s
-lying c mem lens a i l s e = subst (λ (k : ℕ). Lying c mem lens k) (sym e) here
+pub lying : (c : Channel) (mem lens : List ℕ) → Asked c mem lens → (i : ℕ) → i < c .window .ahead → (s t : ℕ) → s ≡ placeAt c i → t ≡ slotOf s
+    → Lying c mem lens s t
+lying c mem lens a i l s t e f =
+    subst (λ (k : ℕ). Lying c mem lens s k) (sym f) (subst (λ (k : ℕ). Lying c mem lens k (slotOf k)) (sym e) here)
   where
-    here : Lying c mem lens (placeAt c i)
+    here : Lying c mem lens (placeAt c i) (slotOf (placeAt c i))
     here =
         let h = a .standing in
         let p = place-lt c lens h i l in
+        let b = slot-bound (c .limits .slots) (placeAt c i) p in
         let m = mark-fits c lens h i l in
         record {
           place = p;
+          slot = b;
           least = some-mark (getD (c .marks) (placeAt c i) 0) (mark-set c lens h i l);
           mark = m .0;
           short = m .1;
-          inside = omega (arith, slot-in (placeAt c i) (c .limits .slots) (c .limits .payload) p, a .sized .exact);
+          inside = omega (arith, slot-in (slotOf (placeAt c i)) (c .limits .slots) (c .limits .payload) b, a .sized .exact);
           small = omega (
             arith,
-            slot-in (placeAt c i) (c .limits .slots) (c .limits .payload) p,
+            slot-in (slotOf (placeAt c i)) (c .limits .slots) (c .limits .payload) b,
             mul-le-mul-right (c .limits .payload) (a .sized .few),
             a .sized .short,
           );
@@ -103,44 +108,45 @@ lying c mem lens a i l s e = subst (λ (k : ℕ). Lying c mem lens k) (sym e) he
           few = a .sized .few;
         }
 
+pub segment-sized : (c : Channel) (mem lens : List ℕ) → Asked c mem lens → (i : ℕ) → i < c .window .ahead
+    → length (segmentIn (c .limits .payload) mem lens (slotOf (placeAt c i))) ≡ getD lens (slotOf (placeAt c i)) 0
+segment-sized c mem lens a i l =
+    let y = lying c mem lens a i l (placeAt c i) (slotOf (placeAt c i)) refl refl in
+    segment-length (c .limits .slots) (c .limits .payload) mem lens (slotOf (placeAt c i)) (a .sized) (y .slot) (y .short)
+
 -- the octets of a slot, as they are handed on
-module _ (c : Channel) (mem lens : List ℕ) (a : Asked c mem lens) (i s : ℕ) (l : i < c .window .ahead) (e : s ≡ placeAt c i) where
+module _ (c : Channel) (mem lens : List ℕ) (a : Asked c mem lens) (i s t : ℕ) (l : i < c .window .ahead) (e : s ≡ placeAt c i) (f : t ≡ slotOf s) where
   abbrev part : List ℕ
-  part = take (s * c .limits .payload + getD lens s 0 - s * c .limits .payload) (drop (s * c .limits .payload) mem)
+  part = take (t * c .limits .payload + getD lens t 0 - t * c .limits .payload) (drop (t * c .limits .payload) mem)
 
-  pub part-is : part ≡ segmentIn (c .limits .payload) mem lens s
+  pub part-is : part ≡ segmentIn (c .limits .payload) mem lens t
   part-is =
-      let z : s * c .limits .payload + getD lens s 0 - s * c .limits .payload ≡ getD lens s 0 = omega arith in
-      ap (λ (k : ℕ). take k (drop (s * c .limits .payload) mem)) z
+      let z : t * c .limits .payload + getD lens t 0 - t * c .limits .payload ≡ getD lens t 0 = omega arith in
+      ap (λ (k : ℕ). take k (drop (t * c .limits .payload) mem)) z
 
-  pub part-length : length part ≡ getD lens s 0
+  pub part-length : length part ≡ getD lens t 0
   part-length =
-      let y = lying c mem lens a i l s e in
-      ap length part-is ∙ segment-length (c .limits .slots) (c .limits .payload) mem lens s (a .sized) (y .place) (y .short)
+      let y = lying c mem lens a i l s t e f in
+      ap length part-is ∙ segment-length (c .limits .slots) (c .limits .payload) mem lens t (a .sized) (y .slot) (y .short)
 
-  pub segment-sized : length (segmentIn (c .limits .payload) mem lens (placeAt c i)) ≡ getD lens (placeAt c i) 0
-  segment-sized =
-      let y = lying c mem lens a i l (placeAt c i) refl in
-      segment-length (c .limits .slots) (c .limits .payload) mem lens (placeAt c i) (a .sized) (y .place) (y .short)
-
-  module _ (node : Node) (number : ℕ) (f : Fields) (n : number ≡ (c .window .start + i) % 256)
-      (is : f ≡ outgoingOf node (c .addresses) 0 (getD (c .marks) s 0 - 1) number) where
-    pub part-plain : Plain f (length part)
+  module _ (node : Node) (number : ℕ) (g : Fields) (n : number ≡ (c .window .start + i) % 256)
+      (is : g ≡ outgoingOf node (c .addresses) 0 (getD (c .marks) s 0 - 1) number) where
+    pub part-plain : Plain g (length part)
     part-plain =
-        let y = lying c mem lens a i l s e in
-        subst (λ (g : Fields). Plain g (length part)) (sym is)
+        let y = lying c mem lens a i l s t e f in
+        subst (λ (x : Fields). Plain x (length part)) (sym is)
         (data-plain node (c .addresses) (getD (c .marks) s 0 - 1) number (length part) (omega (arith, y .mark)) (omega (arith, part-length, y .short, y .most)))
 
-    pub part-step : (after : Channel) (k : ℕ) → sentStep c after (length part) k ≡ sentStep c after (getD lens (placeAt c i) 0) k
-    part-step after k = ap (λ (x : ℕ). sentStep c after x k) (part-length ∙ ap (λ (p : ℕ). getD lens p 0) e)
+    pub part-step : (after : Channel) (k : ℕ) → sentStep c after (length part) k ≡ sentStep c after (getD lens (slotOf (placeAt c i)) 0) k
+    part-step after k = ap (λ (x : ℕ). sentStep c after x k) (part-length ∙ ap (λ (p : ℕ). getD lens p 0) (f ∙ ap slotOf e))
 
-    pub part-out : (out : List ℕ) → sentOut f part out ≡ sentOut (dataFields node c i) (segmentIn (c .limits .payload) mem lens (placeAt c i)) out
+    pub part-out : (out : List ℕ) → sentOut g part out ≡ sentOut (dataFields node c i) (segmentIn (c .limits .payload) mem lens (slotOf (placeAt c i))) out
     part-out out =
-        ap₂ (λ (g : Fields) (p : List ℕ). sentOut g p out)
+        ap₂ (λ (x : Fields) (p : List ℕ). sentOut x p out)
         (is ∙ ap₂ (λ (p k : ℕ). outgoingOf node (c .addresses) 0 (getD (c .marks) p 0 - 1) k) e n)
-        (part-is ∙ ap (segmentIn (c .limits .payload) mem lens) e)
+        (part-is ∙ ap (segmentIn (c .limits .payload) mem lens) (f ∙ ap slotOf e))
 
 -- the oldest unit: each of its segments has at most P octets
 pub unit-fits : (c : Channel) (mem lens : List ℕ) → Asked c mem lens → (n : ℕ) → n ≤ c .window .ahead
-    → EachFits (c .limits .payload) lens (c .limits .slots) n (c .window .place)
+    → EachFits slotOf (c .limits .payload) lens (c .limits .slots) n (c .window .place)
 unit-fits c mem lens a n h i l = mark-fits c lens (a .standing) i (omega arith) .1

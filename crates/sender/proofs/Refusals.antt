@@ -7,7 +7,7 @@ use Prim.Native.Nat.{ℕ}
 use lib.Dec.{ltb, eqb}
 use lib.ListN.{length}
 use Rattle.laws.specs.Choice.{if_then_else_}
-use Rattle.slots.specs.Slots.{laid}
+use Rattle.slots.specs.Slots.{slotOf, laid}
 use Rattle.store.specs.Store.{octetsIn}
 use Rattle.packet.specs.declared.writing.Written.the-variants as written
 use Rattle.packet.specs.Writing.{afterWrite}
@@ -142,7 +142,7 @@ reclaim-unchanged c lens mem out = go (eqb (c .state) closed) (eqb (c .window .a
         if not a then out
         else if b then out
         else if d then out
-        else laid out 0 (octetsIn (c .limits .payload) mem lens (c .limits .slots) (unitAt c) (c .window .place))
+        else laid out 0 (octetsIn slotOf (c .limits .payload) mem lens (c .limits .slots) (unitAt c) (c .window .place))
 
     go : (a b d : Bool) → Refuses (by a b d) → (by a b d .channel ≡ c) × (after a b d ≡ out)
     go false b d n = (refl, refl)

@@ -13,7 +13,7 @@ use lib.Seq.{drop-cons}
 use Rattle.laws.specs.Choice.{if_then_else_}
 use Rattle.laws.proofs.Choice.{chosen, passed-by, not-first, both}
 use Rattle.ring.specs.Ring.{roundOf, runOf, cleared}
-use Rattle.slots.specs.Slots.{laid, segmentIn}
+use Rattle.slots.specs.Slots.{slotOf, laid, segmentIn}
 use Rattle.slots.specs.Units.{segmentsOf}
 use Rattle.store.specs.Store.{endsIn, lastEndIn, sizeIn, octetsIn, filedMem, filedLens, filedMarks}
 use Rattle.packet.specs.declared.fields.Fields.{Fields}
@@ -254,11 +254,11 @@ module _ (c : Channel) (u mem lens : List ℕ) where
     unfolding transferStep
     transfer-done = chosen (isAccepted c (length u)) _ _ e
 
-    pub transfer-done-mem : transferMem c u mem ≡ filedMem (c .limits .payload) (c .limits .slots) u mem (segmentsOf (c .limits .payload) (length u)) 0 (freeAt c)
+    pub transfer-done-mem : transferMem c u mem ≡ filedMem slotOf (c .limits .payload) (c .limits .slots) u mem (segmentsOf (c .limits .payload) (length u)) 0 (freeAt c)
     unfolding transferMem
     transfer-done-mem = chosen (isAccepted c (length u)) _ _ e
 
-    pub transfer-done-lens : transferLens c u lens ≡ filedLens (c .limits .payload) (c .limits .slots) u lens (segmentsOf (c .limits .payload) (length u)) 0 (freeAt c)
+    pub transfer-done-lens : transferLens c u lens ≡ filedLens slotOf (c .limits .payload) (c .limits .slots) u lens (segmentsOf (c .limits .payload) (length u)) 0 (freeAt c)
     unfolding transferLens
     transfer-done-lens = chosen (isAccepted c (length u)) _ _ e
 
@@ -484,11 +484,11 @@ module _ (node : Node) (c : Channel) (lens mem out : List ℕ) where
   unfolding handStep nextOut
   hand-control = refl
 
-  pub hand-again : handStep c lens 1 (length out) ≡ sentStep c (againOut c) (getD lens (placeAt c (againAt c)) 0) (length out)
+  pub hand-again : handStep c lens 1 (length out) ≡ sentStep c (againOut c) (getD lens (slotOf (placeAt c (againAt c))) 0) (length out)
   unfolding handStep nextOut
   hand-again = refl
 
-  pub hand-new : handStep c lens 2 (length out) ≡ sentStep c (newOut c) (getD lens (placeAt c (c .window .flight)) 0) (length out)
+  pub hand-new : handStep c lens 2 (length out) ≡ sentStep c (newOut c) (getD lens (slotOf (placeAt c (c .window .flight))) 0) (length out)
   unfolding handStep nextOut
   hand-new = refl
 
@@ -501,15 +501,15 @@ module _ (node : Node) (c : Channel) (lens mem out : List ℕ) where
       → (if ltb (length out) (12 + x) then out else afterWrite (written.Done (12 + x)) f p out) ≡ sentOut f p out
   sized-out f p x e = ap (λ (k : ℕ). if ltb (length out) (12 + k) then out else afterWrite (written.Done (12 + k)) f p out) (sym e)
 
-  pub out-again : length (segmentIn (c .limits .payload) mem lens (placeAt c (againAt c))) ≡ getD lens (placeAt c (againAt c)) 0
-      → handOut node c lens mem 1 out ≡ sentOut (dataFields node c (againAt c)) (segmentIn (c .limits .payload) mem lens (placeAt c (againAt c))) out
+  pub out-again : length (segmentIn (c .limits .payload) mem lens (slotOf (placeAt c (againAt c)))) ≡ getD lens (slotOf (placeAt c (againAt c))) 0
+      → handOut node c lens mem 1 out ≡ sentOut (dataFields node c (againAt c)) (segmentIn (c .limits .payload) mem lens (slotOf (placeAt c (againAt c)))) out
   unfolding handOut nextFields nextPayload
-  out-again e = sized-out (dataFields node c (againAt c)) (segmentIn (c .limits .payload) mem lens (placeAt c (againAt c))) (getD lens (placeAt c (againAt c)) 0) e
+  out-again e = sized-out (dataFields node c (againAt c)) (segmentIn (c .limits .payload) mem lens (slotOf (placeAt c (againAt c)))) (getD lens (slotOf (placeAt c (againAt c))) 0) e
 
-  pub out-new : length (segmentIn (c .limits .payload) mem lens (placeAt c (c .window .flight))) ≡ getD lens (placeAt c (c .window .flight)) 0
-      → handOut node c lens mem 2 out ≡ sentOut (dataFields node c (c .window .flight)) (segmentIn (c .limits .payload) mem lens (placeAt c (c .window .flight))) out
+  pub out-new : length (segmentIn (c .limits .payload) mem lens (slotOf (placeAt c (c .window .flight)))) ≡ getD lens (slotOf (placeAt c (c .window .flight))) 0
+      → handOut node c lens mem 2 out ≡ sentOut (dataFields node c (c .window .flight)) (segmentIn (c .limits .payload) mem lens (slotOf (placeAt c (c .window .flight)))) out
   unfolding handOut nextFields nextPayload
-  out-new e = sized-out (dataFields node c (c .window .flight)) (segmentIn (c .limits .payload) mem lens (placeAt c (c .window .flight))) (getD lens (placeAt c (c .window .flight)) 0) e
+  out-new e = sized-out (dataFields node c (c .window .flight)) (segmentIn (c .limits .payload) mem lens (slotOf (placeAt c (c .window .flight)))) (getD lens (slotOf (placeAt c (c .window .flight))) 0) e
 
 -- ---- a unit reclaimed
 
@@ -531,9 +531,9 @@ module _ (c : Channel) (lens mem out : List ℕ) where
     unfolding reclaimOut
     reclaim-none-out k = simp (eq-eqb _ _ h, eq-eqb _ _ k)
 
-    module _ (k : c .window .ahead ≡ 0 → ⊥) (n size : ℕ) (en : n ≡ unitAt c) (es : size ≡ sizeIn lens (c .limits .slots) n (c .window .place)) where
+    module _ (k : c .window .ahead ≡ 0 → ⊥) (n size : ℕ) (en : n ≡ unitAt c) (es : size ≡ sizeIn slotOf lens (c .limits .slots) n (c .window .place)) where
       size-is : size ≡ sizeAt c lens
-      size-is = es ∙ ap (λ (m : ℕ). sizeIn lens (c .limits .slots) m (c .window .place)) en
+      size-is = es ∙ ap (λ (m : ℕ). sizeIn slotOf lens (c .limits .slots) m (c .window .place)) en
 
       fits-not : length out < size → ltb (length out) (sizeAt c lens) ≡ true
       fits-not l = ap (ltb (length out)) (sym size-is) ∙ lt-ltb _ _ l
@@ -554,8 +554,8 @@ module _ (c : Channel) (lens mem out : List ℕ) where
       reclaim-done l = ap₂ (λ (m s : ℕ). doing (dropped c m) s) en size-is ∙ sym (simp (eq-eqb _ _ h, ne-eqb _ _ k, fits l))
 
       pub reclaim-done-out : size ≤ length out
-          → laid out 0 (octetsIn (c .limits .payload) mem lens (c .limits .slots) n (c .window .place)) ≡ reclaimOut c lens mem out
+          → laid out 0 (octetsIn slotOf (c .limits .payload) mem lens (c .limits .slots) n (c .window .place)) ≡ reclaimOut c lens mem out
       unfolding reclaimOut
       reclaim-done-out l =
-          ap (λ (m : ℕ). laid out 0 (octetsIn (c .limits .payload) mem lens (c .limits .slots) m (c .window .place))) en
+          ap (λ (m : ℕ). laid out 0 (octetsIn slotOf (c .limits .payload) mem lens (c .limits .slots) m (c .window .place))) en
           ∙ sym (simp (eq-eqb _ _ h, ne-eqb _ _ k, fits l))

@@ -33,7 +33,7 @@ ghost use Rattle.sender.specs.Directives.{placeAt};
 ghost use Rattle.sender.specs.HandingOut.{againIn, againAt, rankOf, controlFields, dataFields, sentStep, sentOut, timedAt, controlOut, againOut, newOut, handStep, handOut};
 ghost use mathlib.Core.List.{[]};
 ghost use Rattle.laws.specs.Choice.{if_then_else_};
-ghost use Rattle.slots.specs.Slots.{segmentIn};
+ghost use Rattle.slots.specs.Slots.{slotOf, segmentIn};
 
 // A segment in flight that is not acknowledged and whose timer has ended waits to be resent.
 fn is_again(acked: u8, left: u16) -> bool
@@ -209,14 +209,15 @@ fn hand_data(
     out: &mut [u8],
 ) -> Stepped
     requires { ⌜ (Asked c (now mem) (now lens)) × (i < c .window .ahead) ⌝ }
-    ensures { λ r. ⌜ (r ≡ sentStep c after (getD (now (lens .entry)) (placeAt c i) 0) (length (now (out .entry)))) × (now (out .exit) ≡ sentOut (dataFields node c i) (segmentIn (c .limits .payload) (now (mem .entry)) (now (lens .entry)) (placeAt c i)) (now (out .entry))) ⌝ }
+    ensures { λ r. ⌜ (r ≡ sentStep c after (getD (now (lens .entry)) (slotOf (placeAt c i)) 0) (length (now (out .entry)))) × (now (out .exit) ≡ sentOut (dataFields node c i) (segmentIn (c .limits .payload) (now (mem .entry)) (now (lens .entry)) (slotOf (placeAt c i))) (now (out .entry))) ⌝ }
 {
     let place = ring::round(c.window.place + i, c.limits.slots);
+    let slot = slots::slot_of(place);
     let marks = c.marks;
     let number = std::num::wrapping_add_u8(c.window.start, i as u8);
     let fields = outgoing(node, c.addresses, DATA, marks[place] - 1, number);
-    let from = place * c.limits.payload;
-    let end = from + lens[place] as usize;
+    let from = slot * c.limits.payload;
+    let end = from + lens[slot] as usize;
     send(c, after, fields, &mem[from..end], out)
 }
 

@@ -1,6 +1,6 @@
 -- Segments in slots of a lent memory, with a length for each slot beside it (document 01, A channel's record and memory): slot k of a
 -- memory with slots of at most P octets is the P octets from k * P on.
-use Prim.Native.Nat.{ℕ, _+_, _*_, _≤_}
+use Prim.Native.Nat.{ℕ, _+_, _*_, _≤_, _<_}
 use mathlib.Core.Path.{_≡_}
 use mathlib.Core.List.{List, _++_}
 use lib.ListN.{length, getD, take, drop}
@@ -11,6 +11,17 @@ pub record Sized (slots most : ℕ) (m lens : List ℕ) : Type 0 where
   pub short : most ≤ 1024
   pub each : length lens ≡ slots
   pub exact : length m ≡ slots * most
+
+-- The slot of a place. Marks, acks, timers and resends go by the place on the ring, octets and lengths by the slot in memory. A memory of one
+-- channel alone has a slot for each place, with the place's number. It has a name because the two are not one thing: channels that share a
+-- memory have their slots wherever there was one free. Nothing but its laws (`slot-bound`, `slot-apart`) knows which slot it is
+unfoldable pub slotOf : ℕ → ℕ
+slotOf place = place
+
+-- such a map of so many places to so many slots: each place has a slot, and no two have the same
+pub record Slotted (slot : ℕ → ℕ) (places slots : ℕ) : Type 0 where
+  pub bound : (place : ℕ) → place < places → slot place < slots
+  pub apart : (p q : ℕ) → p < places → q < places → slot p ≡ slot q → p ≡ q
 
 -- m with the octets p from the place `at` on; the rest stays
 unfoldable pub laid : List ℕ → ℕ → List ℕ → List ℕ

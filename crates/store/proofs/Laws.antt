@@ -15,10 +15,10 @@ use Rattle.laws.specs.Choice.{if_then_else_}
 use Rattle.ring.specs.Ring.{roundOf}
 use Rattle.ring.proofs.Laws.{round-in, round-out, round-lt, round-add, round-apart}
 use Rattle.slots.specs.Marks.{markOf, ends}
-use Rattle.slots.specs.Slots.{Sized, laid, segmentIn}
+use Rattle.slots.specs.Slots.{Sized, Slotted, laid, segmentIn}
 use Rattle.slots.specs.Units.{segmentsOf, segmentOf, flagsOf, joined}
 use Rattle.slots.proofs.Laws.{slot-in, laid-length, laid-on, laid-none, filed-same, filed-other}
-use Rattle.slots.proofs.Laws as slot
+use Rattle.slots.proofs.Laws as one
 use Rattle.slots.proofs.Units.{fits, rejoined}
 use Rattle.store.specs.Store.{unitOf, endsIn, lastWith, lastEndIn, EachFits, sizeIn, octetsIn, filedMem, filedBy, filedLens, filedMarks}
 
@@ -48,6 +48,16 @@ later-place : (slots from i : ℕ) → from < slots → suc i < slots → roundO
 later-place slots from i p h q =
     let z : suc i ≡ 0 = round-apart slots from (suc i) 0 p h (omega arith) (q ∙ sym (first-place slots from p)) in
     omega arith
+
+-- a place that comes later has another slot
+later-slot : (slot : ℕ → ℕ) (slots total from i : ℕ) → Slotted slot slots total → from < slots → suc i < slots
+    → slot (roundOf slots (from + suc i)) ≡ slot from → ⊥
+later-slot slot slots total from i map p h e =
+    later-place slots from i p h (map .apart (roundOf slots (from + suc i)) from (round-lt slots (from + suc i) (omega arith)) p e)
+
+-- places themselves, as what goes by place has them
+by-place : (slots : ℕ) → Slotted (λ (place : ℕ). place) slots slots
+by-place slots = record { bound = λ p h. h; apart = λ p q h k e. e }
 
 -- ---- up to the first end: at a segment that ends a unit, at one that does not, and where none is left
 
@@ -174,286 +184,294 @@ none-last marks slots (suc n) from h =
 
 -- ---- the n lengths: one more, none left, and all
 
--- each of the rest fits too
-pub rest-fits : (most : ℕ) (lens : List ℕ) (slots n from : ℕ) → from < slots → suc n ≤ slots
-    → EachFits most lens slots (suc n) from → EachFits most lens slots n (roundOf slots (from + 1))
-rest-fits most lens slots n from p b each i h =
-    subst (λ (k : ℕ). getD lens k 0 ≤ most) (sym (next-place slots from i p (omega arith))) (each (suc i) (omega arith))
+module _ (slot : ℕ → ℕ) where
+  -- each of the rest fits too
+  pub rest-fits : (most : ℕ) (lens : List ℕ) (slots n from : ℕ) → from < slots → suc n ≤ slots
+      → EachFits slot most lens slots (suc n) from → EachFits slot most lens slots n (roundOf slots (from + 1))
+  rest-fits most lens slots n from p b each i h =
+      subst (λ (k : ℕ). getD lens (slot k) 0 ≤ most) (sym (next-place slots from i p (omega arith))) (each (suc i) (omega arith))
 
--- and so does the first
-pub first-fits : (most : ℕ) (lens : List ℕ) (slots n from : ℕ) → from < slots
-    → EachFits most lens slots (suc n) from → getD lens from 0 ≤ most
-first-fits most lens slots n from p each =
-    subst (λ (k : ℕ). getD lens k 0 ≤ most) (first-place slots from p) (each 0 (omega arith))
+  -- and so does the first
+  pub first-fits : (most : ℕ) (lens : List ℕ) (slots n from : ℕ) → from < slots
+      → EachFits slot most lens slots (suc n) from → getD lens (slot from) 0 ≤ most
+  first-fits most lens slots n from p each =
+      subst (λ (k : ℕ). getD lens (slot k) 0 ≤ most) (first-place slots from p) (each 0 (omega arith))
 
--- and the one at a place
-pub place-fits : (most : ℕ) (lens : List ℕ) (slots n from i s : ℕ) → s ≡ roundOf slots (from + i) → EachFits most lens slots n from → i < n
-    → getD lens s 0 ≤ most
-place-fits most lens slots n from i s e each h = subst (λ (k : ℕ). getD lens k 0 ≤ most) (sym e) (each i h)
+  -- and the one at a place
+  pub place-fits : (most : ℕ) (lens : List ℕ) (slots n from i s : ℕ) → s ≡ roundOf slots (from + i) → EachFits slot most lens slots n from
+      → i < n → getD lens (slot s) 0 ≤ most
+  place-fits most lens slots n from i s e each h = subst (λ (k : ℕ). getD lens (slot k) 0 ≤ most) (sym e) (each i h)
 
-pub size-more : (lens : List ℕ) (slots n i s : ℕ) → i < n
-    → sizeIn lens slots (n - i) s ≡ getD lens s 0 + sizeIn lens slots (n - (i + 1)) (roundOf slots (s + 1))
-unfolding sizeIn
-size-more lens slots n i s l = let e : n - i ≡ suc (n - (i + 1)) = omega arith in rw e
+  pub size-more : (lens : List ℕ) (slots n i s : ℕ) → i < n
+      → sizeIn slot lens slots (n - i) s ≡ getD lens (slot s) 0 + sizeIn slot lens slots (n - (i + 1)) (roundOf slots (s + 1))
+  unfolding sizeIn
+  size-more lens slots n i s l = let e : n - i ≡ suc (n - (i + 1)) = omega arith in rw e
 
-pub size-none : (lens : List ℕ) (slots n i s : ℕ) → n ≤ i → sizeIn lens slots (n - i) s ≡ 0
-unfolding sizeIn
-size-none lens slots n i s h = let e : n - i ≡ 0 = omega arith in rw e
+  pub size-none : (lens : List ℕ) (slots n i s : ℕ) → n ≤ i → sizeIn slot lens slots (n - i) s ≡ 0
+  unfolding sizeIn
+  size-none lens slots n i s h = let e : n - i ≡ 0 = omega arith in rw e
 
-pub size-le : (most : ℕ) (lens : List ℕ) (slots n from : ℕ) → from < slots → n ≤ slots → EachFits most lens slots n from
-    → sizeIn lens slots n from ≤ n * most
-unfolding sizeIn
-size-le most lens slots zero from p b each = zero-le
-size-le most lens slots (suc n) from p b each =
-    omega (
-      arith,
-      suc-mul n most,
-      first-fits most lens slots n from p each,
-      size-le most lens slots n (roundOf slots (from + 1)) (next-lt slots from p) (omega arith) (rest-fits most lens slots n from p b each),
-    )
+  pub size-le : (most : ℕ) (lens : List ℕ) (slots n from : ℕ) → from < slots → n ≤ slots → EachFits slot most lens slots n from
+      → sizeIn slot lens slots n from ≤ n * most
+  unfolding sizeIn
+  size-le most lens slots zero from p b each = zero-le
+  size-le most lens slots (suc n) from p b each =
+      omega (
+        arith,
+        suc-mul n most,
+        first-fits most lens slots n from p each,
+        size-le most lens slots n (roundOf slots (from + 1)) (next-lt slots from p) (omega arith) (rest-fits most lens slots n from p b each),
+      )
 
 -- ---- the octets of n segments
 
 -- a slot's segment has the slot's length
-pub segment-length : (slots most : ℕ) (m lens : List ℕ) (s : ℕ) → Sized slots most m lens → s < slots → getD lens s 0 ≤ most
+pub segment-length : (total most : ℕ) (m lens : List ℕ) (s : ℕ) → Sized total most m lens → s < total → getD lens s 0 ≤ most
     → length (segmentIn most m lens s) ≡ getD lens s 0
-segment-length slots most m lens s sized p h =
-    length-take-le (getD lens s 0) (drop (s * most) m) (omega (arith, length-drop (s * most) m, slot-in s slots most p))
+segment-length total most m lens s sized p h =
+    length-take-le (getD lens s 0) (drop (s * most) m) (omega (arith, length-drop (s * most) m, slot-in s total most p))
 
-pub octets-length : (most : ℕ) (m lens : List ℕ) (slots n from : ℕ) → Sized slots most m lens → from < slots → n ≤ slots
-    → EachFits most lens slots n from → length (octetsIn most m lens slots n from) ≡ sizeIn lens slots n from
+pub octets-length : (slot : ℕ → ℕ) (total most : ℕ) (m lens : List ℕ) (slots n from : ℕ) → Slotted slot slots total → Sized total most m lens
+    → from < slots → n ≤ slots → EachFits slot most lens slots n from
+    → length (octetsIn slot most m lens slots n from) ≡ sizeIn slot lens slots n from
 unfolding octetsIn sizeIn
-octets-length most m lens slots zero from sized p b each = refl
-octets-length most m lens slots (suc n) from sized p b each =
+octets-length slot total most m lens slots zero from map sized p b each = refl
+octets-length slot total most m lens slots (suc n) from map sized p b each =
     let next = roundOf slots (from + 1) in
     simp length-append
     (omega (
       arith,
-      segment-length slots most m lens from sized p (first-fits most lens slots n from p each),
-      octets-length most m lens slots n next sized (next-lt slots from p) (omega arith) (rest-fits most lens slots n from p b each),
+      segment-length total most m lens (slot from) sized (map .bound from p) (first-fits slot most lens slots n from p each),
+      octets-length slot total most m lens slots n next map sized (next-lt slots from p) (omega arith) (rest-fits slot most lens slots n from p b each),
     ))
 
--- one segment more laid behind those that are there: to lay what is left is what it was
-module _ (most : ℕ) (m lens : List ℕ) (slots n i s : ℕ) (out : List ℕ) (at : ℕ) (out1 : List ℕ) (next : ℕ)
-    (sized : Sized slots most m lens) (p : s < slots) (l : i < n) (short : getD lens s 0 ≤ most)
-    (room : at + getD lens s 0 ≤ length out) (in-out : out1 ≡ laid out at (segmentIn most m lens s)) (on : next ≡ roundOf slots (s + 1)) where
-  long : length (segmentIn most m lens s) ≡ getD lens s 0
-  long = segment-length slots most m lens s sized p short
+-- one segment more, from the slot t of the place s, laid behind those that are there: to lay what is left is what it was
+module _ (slot : ℕ → ℕ) (total most : ℕ) (m lens : List ℕ) (slots n i s t : ℕ) (out : List ℕ) (at : ℕ) (out1 : List ℕ) (next : ℕ)
+    (sized : Sized total most m lens) (p : t < total) (l : i < n) (is : t ≡ slot s) (short : getD lens t 0 ≤ most)
+    (room : at + getD lens t 0 ≤ length out) (in-out : out1 ≡ laid out at (segmentIn most m lens t)) (on : next ≡ roundOf slots (s + 1)) where
+  long : length (segmentIn most m lens t) ≡ getD lens t 0
+  long = segment-length total most m lens t sized p short
 
   pub gather-length : length out1 ≡ length out
-  gather-length = ap length in-out ∙ laid-length out at (segmentIn most m lens s) (omega (arith, long))
+  gather-length = ap length in-out ∙ laid-length out at (segmentIn most m lens t) (omega (arith, long))
 
-  pub gather-more : laid out1 (at + getD lens s 0) (octetsIn most m lens slots (n - (i + 1)) next)
-      ≡ laid out at (octetsIn most m lens slots (n - i) s)
+  pub gather-more : laid out1 (at + getD lens t 0) (octetsIn slot most m lens slots (n - (i + 1)) next)
+      ≡ laid out at (octetsIn slot most m lens slots (n - i) s)
   unfolding octetsIn
   gather-more =
       let e : n - i ≡ suc (n - (i + 1)) = omega arith in
-      let seg = segmentIn most m lens s in
-      let left = octetsIn most m lens slots (n - (i + 1)) in
-      ap₂ (λ (o : List ℕ) (k : ℕ). laid o (at + getD lens s 0) (left k)) in-out on
+      let seg = segmentIn most m lens t in
+      let left = octetsIn slot most m lens slots (n - (i + 1)) in
+      ap₂ (λ (o : List ℕ) (k : ℕ). laid o (at + getD lens t 0) (left k)) in-out on
       ∙ ap (λ (k : ℕ). laid (laid out at seg) (at + k) (left (roundOf slots (s + 1)))) (sym long)
       ∙ laid-on out at seg (omega (arith, long)) (left (roundOf slots (s + 1)))
-      ∙ ap (λ (k : ℕ). laid out at (octetsIn most m lens slots k s)) (sym e)
+      ∙ ap (λ (k : ℕ). laid out at (segmentIn most m lens k ++ left (roundOf slots (s + 1)))) is
+      ∙ ap (λ (k : ℕ). laid out at (octetsIn slot most m lens slots k s)) (sym e)
 
 -- none left
-pub gather-none : (most : ℕ) (m lens : List ℕ) (slots n i s : ℕ) (out : List ℕ) (at : ℕ) → n ≤ i
-    → laid out at (octetsIn most m lens slots (n - i) s) ≡ out
+pub gather-none : (slot : ℕ → ℕ) (most : ℕ) (m lens : List ℕ) (slots n i s : ℕ) (out : List ℕ) (at : ℕ) → n ≤ i
+    → laid out at (octetsIn slot most m lens slots (n - i) s) ≡ out
 unfolding octetsIn
-gather-none most m lens slots n i s out at h =
+gather-none slot most m lens slots n i s out at h =
     let e : n - i ≡ 0 = omega arith in
-    ap (λ (k : ℕ). laid out at (octetsIn most m lens slots k s)) e ∙ laid-none out at
+    ap (λ (k : ℕ). laid out at (octetsIn slot most m lens slots k s)) e ∙ laid-none out at
 
 -- ---- values filed round the ring: one more, none left; the places that have them, and the others
 
-module _ (f : ℕ → ℕ) (slots : ℕ) where
+module _ (slot f : ℕ → ℕ) (slots : ℕ) where
   by-more : (l : List ℕ) (n i s : ℕ) → i < n
-      → filedBy f slots l (n - i) i s ≡ filedBy f slots (set l s (f i)) (n - (i + 1)) (i + 1) (roundOf slots (s + 1))
+      → filedBy slot f slots l (n - i) i s ≡ filedBy slot f slots (set l (slot s) (f i)) (n - (i + 1)) (i + 1) (roundOf slots (s + 1))
   unfolding filedBy
   by-more l n i s h = let e : n - i ≡ suc (n - (i + 1)) = omega arith in rw e
 
-  by-none : (l : List ℕ) (n i s : ℕ) → n ≤ i → filedBy f slots l (n - i) i s ≡ l
+  by-none : (l : List ℕ) (n i s : ℕ) → n ≤ i → filedBy slot f slots l (n - i) i s ≡ l
   unfolding filedBy
   by-none l n i s h = let e : n - i ≡ 0 = omega arith in rw e
 
-  by-length : (l : List ℕ) (n j from : ℕ) → length (filedBy f slots l n j from) ≡ length l
+  by-length : (l : List ℕ) (n j from : ℕ) → length (filedBy slot f slots l n j from) ≡ length l
   unfolding filedBy
   by-length l zero j from = refl
-  by-length l (suc n) j from = by-length (set l from (f j)) n (j + 1) (roundOf slots (from + 1)) ∙ length-set l from (f j)
+  by-length l (suc n) j from = by-length (set l (slot from) (f j)) n (j + 1) (roundOf slots (from + 1)) ∙ length-set l (slot from) (f j)
 
-  by-out : (l : List ℕ) (n j from i : ℕ) → from < slots → i < slots → n ≤ i
-      → getD (filedBy f slots l n j from) (roundOf slots (from + i)) 0 ≡ getD l (roundOf slots (from + i)) 0
-  unfolding filedBy
-  by-out l zero j from i p b h = refl
-  by-out l (suc n) j from zero p b h = absurd (omega arith)
-  by-out l (suc n) j from (suc i) p b h =
-      let next = roundOf slots (from + 1) in
-      let e = next-place slots from i p (omega arith) in
-      ap (λ (k : ℕ). getD (filedBy f slots (set l from (f j)) n (j + 1) next) k 0) (sym e)
-      ∙ by-out (set l from (f j)) n (j + 1) next i (next-lt slots from p) (omega arith) (omega arith)
-      ∙ ap (λ (k : ℕ). getD (set l from (f j)) k 0) e
-      ∙ getD-set-other l from (roundOf slots (from + suc i)) (f j) 0 (later-place slots from i p b)
+  module _ (total : ℕ) (map : Slotted slot slots total) where
+    by-out : (l : List ℕ) (n j from i : ℕ) → from < slots → i < slots → n ≤ i
+        → getD (filedBy slot f slots l n j from) (slot (roundOf slots (from + i))) 0 ≡ getD l (slot (roundOf slots (from + i))) 0
+    unfolding filedBy
+    by-out l zero j from i p b h = refl
+    by-out l (suc n) j from zero p b h = absurd (omega arith)
+    by-out l (suc n) j from (suc i) p b h =
+        let next = roundOf slots (from + 1) in
+        let e = next-place slots from i p (omega arith) in
+        ap (λ (k : ℕ). getD (filedBy slot f slots (set l (slot from) (f j)) n (j + 1) next) (slot k) 0) (sym e)
+        ∙ by-out (set l (slot from) (f j)) n (j + 1) next i (next-lt slots from p) (omega arith) (omega arith)
+        ∙ ap (λ (k : ℕ). getD (set l (slot from) (f j)) (slot k) 0) e
+        ∙ getD-set-other l (slot from) (slot (roundOf slots (from + suc i))) (f j) 0 (later-slot slot slots total from i map p b)
 
-  by-in : (l : List ℕ) (n j from i : ℕ) → from < slots → slots ≤ length l → n ≤ slots → i < n
-      → getD (filedBy f slots l n j from) (roundOf slots (from + i)) 0 ≡ f (j + i)
-  unfolding filedBy
-  by-in l zero j from i p b k h = absurd (omega arith)
-  by-in l (suc n) j from zero p b k h =
-      let next = roundOf slots (from + 1) in
-      let to = filedBy f slots (set l from (f j)) n (j + 1) next in
-      let e = last-place slots from p in
-      let z : j ≡ j + 0 = omega arith in
-      ap (λ (k : ℕ). getD to k 0) (first-place slots from p ∙ sym e)
-      ∙ by-out (set l from (f j)) n (j + 1) next (slots - 1) (next-lt slots from p) (omega arith) (omega arith)
-      ∙ ap (λ (k : ℕ). getD (set l from (f j)) k 0) e
-      ∙ getD-set-same l from (f j) 0 (omega arith)
-      ∙ ap f z
-  by-in l (suc n) j from (suc i) p b k h =
-      let next = roundOf slots (from + 1) in
-      let to = filedBy f slots (set l from (f j)) n (j + 1) next in
-      let z : j + 1 + i ≡ j + suc i = omega arith in
-      ap (λ (k : ℕ). getD to k 0) (sym (next-place slots from i p (omega arith)))
-      ∙ by-in (set l from (f j)) n (j + 1) next i (next-lt slots from p) (omega (arith, length-set l from (f j))) (omega arith) (omega arith)
-      ∙ ap f z
+    by-in : (l : List ℕ) (n j from i : ℕ) → from < slots → total ≤ length l → n ≤ slots → i < n
+        → getD (filedBy slot f slots l n j from) (slot (roundOf slots (from + i))) 0 ≡ f (j + i)
+    unfolding filedBy
+    by-in l zero j from i p b k h = absurd (omega arith)
+    by-in l (suc n) j from zero p b k h =
+        let next = roundOf slots (from + 1) in
+        let to = filedBy slot f slots (set l (slot from) (f j)) n (j + 1) next in
+        let e = last-place slots from p in
+        let z : j ≡ j + 0 = omega arith in
+        ap (λ (k : ℕ). getD to (slot k) 0) (first-place slots from p ∙ sym e)
+        ∙ by-out (set l (slot from) (f j)) n (j + 1) next (slots - 1) (next-lt slots from p) (omega arith) (omega arith)
+        ∙ ap (λ (k : ℕ). getD (set l (slot from) (f j)) (slot k) 0) e
+        ∙ getD-set-same l (slot from) (f j) 0 (omega (arith, map .bound from p))
+        ∙ ap f z
+    by-in l (suc n) j from (suc i) p b k h =
+        let next = roundOf slots (from + 1) in
+        let to = filedBy slot f slots (set l (slot from) (f j)) n (j + 1) next in
+        let z : j + 1 + i ≡ j + suc i = omega arith in
+        ap (λ (k : ℕ). getD to (slot k) 0) (sym (next-place slots from i p (omega arith)))
+        ∙ by-in (set l (slot from) (f j)) n (j + 1) next i (next-lt slots from p) (omega (arith, length-set l (slot from) (f j))) (omega arith) (omega arith)
+        ∙ ap f z
 
--- the marks
+-- the marks, by place
 module _ (slots count : ℕ) (marks : List ℕ) where
   pub filed-marks-more : (n i s : ℕ) → i < n
       → filedMarks slots count marks (n - i) i s
       ≡ filedMarks slots count (set marks s (markOf (flagsOf count i))) (n - (i + 1)) (i + 1) (roundOf slots (s + 1))
   unfolding filedMarks
-  filed-marks-more n i s h = by-more (λ (k : ℕ). markOf (flagsOf count k)) slots marks n i s h
+  filed-marks-more n i s h = by-more (λ (place : ℕ). place) (λ (k : ℕ). markOf (flagsOf count k)) slots marks n i s h
 
   pub filed-marks-none : (n i s : ℕ) → n ≤ i → filedMarks slots count marks (n - i) i s ≡ marks
   unfolding filedMarks
-  filed-marks-none n i s h = by-none (λ (k : ℕ). markOf (flagsOf count k)) slots marks n i s h
+  filed-marks-none n i s h = by-none (λ (place : ℕ). place) (λ (k : ℕ). markOf (flagsOf count k)) slots marks n i s h
 
   pub filed-marks-length : (n j from : ℕ) → length (filedMarks slots count marks n j from) ≡ length marks
   unfolding filedMarks
-  filed-marks-length n j from = by-length (λ (k : ℕ). markOf (flagsOf count k)) slots marks n j from
+  filed-marks-length n j from = by-length (λ (place : ℕ). place) (λ (k : ℕ). markOf (flagsOf count k)) slots marks n j from
 
   pub filed-marks-in : (n j from i : ℕ) → from < slots → slots ≤ length marks → n ≤ slots → i < n
       → getD (filedMarks slots count marks n j from) (roundOf slots (from + i)) 0 ≡ markOf (flagsOf count (j + i))
   unfolding filedMarks
-  filed-marks-in n j from i p b k h = by-in (λ (k : ℕ). markOf (flagsOf count k)) slots marks n j from i p b k h
+  filed-marks-in n j from i p b k h =
+      by-in (λ (place : ℕ). place) (λ (k : ℕ). markOf (flagsOf count k)) slots slots (by-place slots) marks n j from i p b k h
 
   pub filed-marks-out : (n j from i : ℕ) → from < slots → i < slots → n ≤ i
       → getD (filedMarks slots count marks n j from) (roundOf slots (from + i)) 0 ≡ getD marks (roundOf slots (from + i)) 0
   unfolding filedMarks
-  filed-marks-out n j from i p b h = by-out (λ (k : ℕ). markOf (flagsOf count k)) slots marks n j from i p b h
+  filed-marks-out n j from i p b h =
+      by-out (λ (place : ℕ). place) (λ (k : ℕ). markOf (flagsOf count k)) slots slots (by-place slots) marks n j from i p b h
 
--- the lengths
-module _ (most slots : ℕ) (u lens : List ℕ) where
+-- the lengths, by slot
+module _ (slot : ℕ → ℕ) (most slots : ℕ) (u lens : List ℕ) where
   pub filed-lens-more : (n i s : ℕ) → i < n
-      → filedLens most slots u lens (n - i) i s
-      ≡ filedLens most slots u (set lens s (length (segmentOf most u i))) (n - (i + 1)) (i + 1) (roundOf slots (s + 1))
+      → filedLens slot most slots u lens (n - i) i s
+      ≡ filedLens slot most slots u (set lens (slot s) (length (segmentOf most u i))) (n - (i + 1)) (i + 1) (roundOf slots (s + 1))
   unfolding filedLens
-  filed-lens-more n i s h = by-more (λ (k : ℕ). length (segmentOf most u k)) slots lens n i s h
+  filed-lens-more n i s h = by-more slot (λ (k : ℕ). length (segmentOf most u k)) slots lens n i s h
 
-  pub filed-lens-none : (n i s : ℕ) → n ≤ i → filedLens most slots u lens (n - i) i s ≡ lens
+  pub filed-lens-none : (n i s : ℕ) → n ≤ i → filedLens slot most slots u lens (n - i) i s ≡ lens
   unfolding filedLens
-  filed-lens-none n i s h = by-none (λ (k : ℕ). length (segmentOf most u k)) slots lens n i s h
+  filed-lens-none n i s h = by-none slot (λ (k : ℕ). length (segmentOf most u k)) slots lens n i s h
 
-  pub filed-lens-length : (n j from : ℕ) → length (filedLens most slots u lens n j from) ≡ length lens
+  pub filed-lens-length : (n j from : ℕ) → length (filedLens slot most slots u lens n j from) ≡ length lens
   unfolding filedLens
-  filed-lens-length n j from = by-length (λ (k : ℕ). length (segmentOf most u k)) slots lens n j from
+  filed-lens-length n j from = by-length slot (λ (k : ℕ). length (segmentOf most u k)) slots lens n j from
 
-  pub filed-lens-in : (n j from i : ℕ) → from < slots → slots ≤ length lens → n ≤ slots → i < n
-      → getD (filedLens most slots u lens n j from) (roundOf slots (from + i)) 0 ≡ length (segmentOf most u (j + i))
-  unfolding filedLens
-  filed-lens-in n j from i p b k h = by-in (λ (k : ℕ). length (segmentOf most u k)) slots lens n j from i p b k h
+  module _ (total : ℕ) (map : Slotted slot slots total) where
+    pub filed-lens-in : (n j from i : ℕ) → from < slots → total ≤ length lens → n ≤ slots → i < n
+        → getD (filedLens slot most slots u lens n j from) (slot (roundOf slots (from + i))) 0 ≡ length (segmentOf most u (j + i))
+    unfolding filedLens
+    filed-lens-in n j from i p b k h = by-in slot (λ (k : ℕ). length (segmentOf most u k)) slots total map lens n j from i p b k h
 
-  pub filed-lens-out : (n j from i : ℕ) → from < slots → i < slots → n ≤ i
-      → getD (filedLens most slots u lens n j from) (roundOf slots (from + i)) 0 ≡ getD lens (roundOf slots (from + i)) 0
-  unfolding filedLens
-  filed-lens-out n j from i p b h = by-out (λ (k : ℕ). length (segmentOf most u k)) slots lens n j from i p b h
+    pub filed-lens-out : (n j from i : ℕ) → from < slots → i < slots → n ≤ i
+        → getD (filedLens slot most slots u lens n j from) (slot (roundOf slots (from + i))) 0 ≡ getD lens (slot (roundOf slots (from + i))) 0
+    unfolding filedLens
+    filed-lens-out n j from i p b h = by-out slot (λ (k : ℕ). length (segmentOf most u k)) slots total map lens n j from i p b h
 
 -- ---- the octets: the memory and the lengths together
 
-module _ (most slots : ℕ) (u : List ℕ) where
+module _ (slot : ℕ → ℕ) (most slots : ℕ) (u : List ℕ) where
   pub filed-mem-more : (m : List ℕ) (n i s : ℕ) → i < n
-      → filedMem most slots u m (n - i) i s
-      ≡ filedMem most slots u (laid m (s * most) (segmentOf most u i)) (n - (i + 1)) (i + 1) (roundOf slots (s + 1))
+      → filedMem slot most slots u m (n - i) i s
+      ≡ filedMem slot most slots u (laid m (slot s * most) (segmentOf most u i)) (n - (i + 1)) (i + 1) (roundOf slots (s + 1))
   unfolding filedMem
   filed-mem-more m n i s h = let e : n - i ≡ suc (n - (i + 1)) = omega arith in rw e
 
-  pub filed-mem-none : (m : List ℕ) (n i s : ℕ) → n ≤ i → filedMem most slots u m (n - i) i s ≡ m
+  pub filed-mem-none : (m : List ℕ) (n i s : ℕ) → n ≤ i → filedMem slot most slots u m (n - i) i s ≡ m
   unfolding filedMem
   filed-mem-none m n i s h = let e : n - i ≡ 0 = omega arith in rw e
 
-  pub filed-sized : (m lens : List ℕ) (n j from : ℕ) → Sized slots most m lens → from < slots
-      → Sized slots most (filedMem most slots u m n j from) (filedLens most slots u lens n j from)
+module _ (slot : ℕ → ℕ) (total most slots : ℕ) (u : List ℕ) (map : Slotted slot slots total) where
+  pub filed-sized : (m lens : List ℕ) (n j from : ℕ) → Sized total most m lens → from < slots
+      → Sized total most (filedMem slot most slots u m n j from) (filedLens slot most slots u lens n j from)
   unfolding filedMem filedLens filedBy
   filed-sized m lens zero j from sized p = sized
   filed-sized m lens (suc n) j from sized p =
-      filed-sized (laid m (from * most) (segmentOf most u j)) (set lens from (length (segmentOf most u j))) n (j + 1) (roundOf slots (from + 1))
-      (slot.filed-sized slots most m lens from (segmentOf most u j) sized p (fits most u j))
+      filed-sized (laid m (slot from * most) (segmentOf most u j)) (set lens (slot from) (length (segmentOf most u j))) n (j + 1) (roundOf slots (from + 1))
+      (one.filed-sized total most m lens (slot from) (segmentOf most u j) sized (map .bound from p) (fits most u j))
       (next-lt slots from p)
 
   -- what is filed at another place stays
-  pub filed-octets-out : (m lens : List ℕ) (n j from i : ℕ) → Sized slots most m lens → from < slots → i < slots → n ≤ i
-      → getD lens (roundOf slots (from + i)) 0 ≤ most
-      → segmentIn most (filedMem most slots u m n j from) (filedLens most slots u lens n j from) (roundOf slots (from + i))
-      ≡ segmentIn most m lens (roundOf slots (from + i))
+  pub filed-octets-out : (m lens : List ℕ) (n j from i : ℕ) → Sized total most m lens → from < slots → i < slots → n ≤ i
+      → getD lens (slot (roundOf slots (from + i))) 0 ≤ most
+      → segmentIn most (filedMem slot most slots u m n j from) (filedLens slot most slots u lens n j from) (slot (roundOf slots (from + i)))
+      ≡ segmentIn most m lens (slot (roundOf slots (from + i)))
   unfolding filedMem filedLens filedBy
   filed-octets-out m lens zero j from i sized p b h short = refl
   filed-octets-out m lens (suc n) j from zero sized p b h short = absurd (omega arith)
   filed-octets-out m lens (suc n) j from (suc i) sized p b h short =
       let next = roundOf slots (from + 1) in
       let part = segmentOf most u j in
-      let m1 = laid m (from * most) part in
-      let lens1 = set lens from (length part) in
+      let m1 = laid m (slot from * most) part in
+      let lens1 = set lens (slot from) (length part) in
       let e = next-place slots from i p (omega arith) in
-      let d = later-place slots from i p b in
-      let place = roundOf slots (from + suc i) in
-      let kept : getD lens1 (roundOf slots (next + i)) 0 ≤ most =
-      subst (λ (k : ℕ). k ≤ most) (sym (ap (λ (k : ℕ). getD lens1 k 0) e ∙ getD-set-other lens from place (length part) 0 d)) short in
-      ap (λ (k : ℕ). segmentIn most (filedMem most slots u m1 n (j + 1) next) (filedLens most slots u lens1 n (j + 1) next) k) (sym e)
+      let d = later-slot slot slots total from i map p b in
+      let other = slot (roundOf slots (from + suc i)) in
+      let kept : getD lens1 (slot (roundOf slots (next + i))) 0 ≤ most =
+      subst (λ (k : ℕ). k ≤ most) (sym (ap (λ (k : ℕ). getD lens1 (slot k) 0) e ∙ getD-set-other lens (slot from) other (length part) 0 d)) short in
+      ap (λ (k : ℕ). segmentIn most (filedMem slot most slots u m1 n (j + 1) next) (filedLens slot most slots u lens1 n (j + 1) next) (slot k)) (sym e)
       ∙ filed-octets-out m1 lens1 n (j + 1) next i
-      (slot.filed-sized slots most m lens from part sized p (fits most u j))
+      (one.filed-sized total most m lens (slot from) part sized (map .bound from p) (fits most u j))
       (next-lt slots from p)
       (omega arith)
       (omega arith)
       kept
-      ∙ ap (λ (k : ℕ). segmentIn most m1 lens1 k) e
-      ∙ filed-other slots most m lens from part sized p (fits most u j) place d short
+      ∙ ap (λ (k : ℕ). segmentIn most m1 lens1 (slot k)) e
+      ∙ filed-other total most m lens (slot from) part sized (map .bound from p) (fits most u j) other d short
 
   -- the i-th place holds the i-th segment
-  pub filed-octets-in : (m lens : List ℕ) (n j from i : ℕ) → Sized slots most m lens → from < slots → n ≤ slots → i < n
-      → segmentIn most (filedMem most slots u m n j from) (filedLens most slots u lens n j from) (roundOf slots (from + i))
+  pub filed-octets-in : (m lens : List ℕ) (n j from i : ℕ) → Sized total most m lens → from < slots → n ≤ slots → i < n
+      → segmentIn most (filedMem slot most slots u m n j from) (filedLens slot most slots u lens n j from) (slot (roundOf slots (from + i)))
       ≡ segmentOf most u (j + i)
   unfolding filedMem filedLens filedBy
   filed-octets-in m lens zero j from i sized p b h = absurd (omega arith)
   filed-octets-in m lens (suc n) j from zero sized p b h =
       let next = roundOf slots (from + 1) in
       let part = segmentOf most u j in
-      let m1 = laid m (from * most) part in
-      let lens1 = set lens from (length part) in
+      let m1 = laid m (slot from * most) part in
+      let lens1 = set lens (slot from) (length part) in
       let e = last-place slots from p in
       let z : j ≡ j + 0 = omega arith in
-      let same : getD lens1 from 0 ≡ length part = getD-set-same lens from (length part) 0 (omega arith) in
-      let kept : getD lens1 (roundOf slots (next + (slots - 1))) 0 ≤ most =
-      subst (λ (k : ℕ). k ≤ most) (sym (ap (λ (k : ℕ). getD lens1 k 0) e ∙ same)) (fits most u j) in
-      ap (λ (k : ℕ). segmentIn most (filedMem most slots u m1 n (j + 1) next) (filedLens most slots u lens1 n (j + 1) next) k)
+      let same : getD lens1 (slot from) 0 ≡ length part = getD-set-same lens (slot from) (length part) 0 (omega (arith, map .bound from p)) in
+      let kept : getD lens1 (slot (roundOf slots (next + (slots - 1)))) 0 ≤ most =
+      subst (λ (k : ℕ). k ≤ most) (sym (ap (λ (k : ℕ). getD lens1 (slot k) 0) e ∙ same)) (fits most u j) in
+      ap (λ (k : ℕ). segmentIn most (filedMem slot most slots u m1 n (j + 1) next) (filedLens slot most slots u lens1 n (j + 1) next) (slot k))
       (first-place slots from p ∙ sym e)
       ∙ filed-octets-out m1 lens1 n (j + 1) next (slots - 1)
-      (slot.filed-sized slots most m lens from part sized p (fits most u j))
+      (one.filed-sized total most m lens (slot from) part sized (map .bound from p) (fits most u j))
       (next-lt slots from p)
       (omega arith)
       (omega arith)
       kept
-      ∙ ap (λ (k : ℕ). segmentIn most m1 lens1 k) e
-      ∙ filed-same slots most m lens from part sized p (fits most u j)
+      ∙ ap (λ (k : ℕ). segmentIn most m1 lens1 (slot k)) e
+      ∙ filed-same total most m lens (slot from) part sized (map .bound from p) (fits most u j)
       ∙ ap (segmentOf most u) z
   filed-octets-in m lens (suc n) j from (suc i) sized p b h =
       let next = roundOf slots (from + 1) in
       let part = segmentOf most u j in
-      let m1 = laid m (from * most) part in
-      let lens1 = set lens from (length part) in
+      let m1 = laid m (slot from * most) part in
+      let lens1 = set lens (slot from) (length part) in
       let z : j + 1 + i ≡ j + suc i = omega arith in
-      ap (λ (k : ℕ). segmentIn most (filedMem most slots u m1 n (j + 1) next) (filedLens most slots u lens1 n (j + 1) next) k)
+      ap (λ (k : ℕ). segmentIn most (filedMem slot most slots u m1 n (j + 1) next) (filedLens slot most slots u lens1 n (j + 1) next) (slot k))
       (sym (next-place slots from i p (omega arith)))
       ∙ filed-octets-in m1 lens1 n (j + 1) next i
-      (slot.filed-sized slots most m lens from part sized p (fits most u j))
+      (one.filed-sized total most m lens (slot from) part sized (map .bound from p) (fits most u j))
       (next-lt slots from p)
       (omega arith)
       (omega arith)
@@ -461,32 +479,32 @@ module _ (most slots : ℕ) (u : List ℕ) where
 
 -- ---- segments of a unit, place by place, are the unit's octets
 
-pub octets-joined : (most : ℕ) (u m lens : List ℕ) (slots n j from : ℕ) → from < slots → n ≤ slots
-    → ((i : ℕ) → i < n → segmentIn most m lens (roundOf slots (from + i)) ≡ segmentOf most u (j + i))
-    → octetsIn most m lens slots n from ≡ joined most u n j
+pub octets-joined : (slot : ℕ → ℕ) (most : ℕ) (u m lens : List ℕ) (slots n j from : ℕ) → from < slots → n ≤ slots
+    → ((i : ℕ) → i < n → segmentIn most m lens (slot (roundOf slots (from + i))) ≡ segmentOf most u (j + i))
+    → octetsIn slot most m lens slots n from ≡ joined most u n j
 unfolding octetsIn joined
-octets-joined most u m lens slots zero j from p b each = refl
-octets-joined most u m lens slots (suc n) j from p b each =
+octets-joined slot most u m lens slots zero j from p b each = refl
+octets-joined slot most u m lens slots (suc n) j from p b each =
     let next = roundOf slots (from + 1) in
     let z : j + 0 ≡ j = omega arith in
-    let first : segmentIn most m lens from ≡ segmentOf most u j =
-    ap (segmentIn most m lens) (sym (first-place slots from p)) ∙ each 0 (omega arith) ∙ ap (segmentOf most u) z in
+    let first : segmentIn most m lens (slot from) ≡ segmentOf most u j =
+    ap (λ (k : ℕ). segmentIn most m lens (slot k)) (sym (first-place slots from p)) ∙ each 0 (omega arith) ∙ ap (segmentOf most u) z in
     ap₂ (λ (a b : List ℕ). a ++ b) first
-    (octets-joined most u m lens slots n (j + 1) next (next-lt slots from p) (omega arith)
+    (octets-joined slot most u m lens slots n (j + 1) next (next-lt slots from p) (omega arith)
     (λ i h.
     let y : j + suc i ≡ j + 1 + i = omega arith in
-    ap (segmentIn most m lens) (next-place slots from i p (omega arith)) ∙ each (suc i) (omega arith) ∙ ap (segmentOf most u) y))
+    ap (λ (k : ℕ). segmentIn most m lens (slot k)) (next-place slots from i p (omega arith)) ∙ each (suc i) (omega arith) ∙ ap (segmentOf most u) y))
 
 -- a unit that is filed and gathered is the unit
-pub filed-gathered : (most slots : ℕ) (u m lens : List ℕ) (from : ℕ) → Sized slots most m lens → 1 ≤ most → from < slots
-    → segmentsOf most (length u) ≤ slots
-    → octetsIn most (filedMem most slots u m (segmentsOf most (length u)) 0 from)
-    (filedLens most slots u lens (segmentsOf most (length u)) 0 from) slots (segmentsOf most (length u)) from
+pub filed-gathered : (slot : ℕ → ℕ) (total most slots : ℕ) (u m lens : List ℕ) (from : ℕ) → Slotted slot slots total → Sized total most m lens
+    → 1 ≤ most → from < slots → segmentsOf most (length u) ≤ slots
+    → octetsIn slot most (filedMem slot most slots u m (segmentsOf most (length u)) 0 from)
+    (filedLens slot most slots u lens (segmentsOf most (length u)) 0 from) slots (segmentsOf most (length u)) from
     ≡ u
-filed-gathered most slots u m lens from sized h p b =
+filed-gathered slot total most slots u m lens from map sized h p b =
     let n = segmentsOf most (length u) in
-    octets-joined most u (filedMem most slots u m n 0 from) (filedLens most slots u lens n 0 from) slots n 0 from p b
-    (λ i l. filed-octets-in most slots u m lens n 0 from i sized p b l)
+    octets-joined slot most u (filedMem slot most slots u m n 0 from) (filedLens slot most slots u lens n 0 from) slots n 0 from p b
+    (λ i l. filed-octets-in slot total most slots u map m lens n 0 from i sized p b l)
     ∙ rejoined most u h
 
 -- ---- the i-th segment as a part of the unit, and its flags
@@ -541,31 +559,35 @@ flags-le count i = by (eqb count 1) (eqb i 0) (eqb (i + 1) count)
     by false false true = omega arith
     by false false false = omega arith
 
--- ---- one segment more filed, and the place goes on: to file what is left is what it was
-module _ (most slots : ℕ) (u m lens : List ℕ) (n i s : ℕ) (part m1 lens1 : List ℕ) (next : ℕ)
-    (sized : Sized slots most m lens) (p : s < slots) (l : i < n) (is : part ≡ segmentOf most u i)
-    (in-mem : m1 ≡ laid m (s * most) part) (in-lens : lens1 ≡ set lens s (length part)) (on : next ≡ roundOf slots (s + 1)) where
-  mem-is : m1 ≡ laid m (s * most) (segmentOf most u i)
-  mem-is = in-mem ∙ ap (laid m (s * most)) is
+-- ---- one segment more filed, in the slot t of the place s, and the place goes on: to file what is left is what it was
+module _ (slot : ℕ → ℕ) (total most slots : ℕ) (u m lens : List ℕ) (n i s t : ℕ) (part m1 lens1 : List ℕ) (next : ℕ)
+    (sized : Sized total most m lens) (p : t < total) (l : i < n) (there : t ≡ slot s) (is : part ≡ segmentOf most u i)
+    (in-mem : m1 ≡ laid m (t * most) part) (in-lens : lens1 ≡ set lens t (length part)) (on : next ≡ roundOf slots (s + 1)) where
+  mem-is : m1 ≡ laid m (t * most) (segmentOf most u i)
+  mem-is = in-mem ∙ ap (laid m (t * most)) is
 
-  lens-is : lens1 ≡ set lens s (length (segmentOf most u i))
-  lens-is = in-lens ∙ ap (λ (q : List ℕ). set lens s (length q)) is
+  lens-is : lens1 ≡ set lens t (length (segmentOf most u i))
+  lens-is = in-lens ∙ ap (λ (q : List ℕ). set lens t (length q)) is
 
-  pub turn-sized : Sized slots most m1 lens1
+  pub turn-sized : Sized total most m1 lens1
   turn-sized =
-      subst (λ (k : List ℕ). Sized slots most k lens1) (sym mem-is)
-      (subst (λ (k : List ℕ). Sized slots most (laid m (s * most) (segmentOf most u i)) k) (sym lens-is)
-      (slot.filed-sized slots most m lens s (segmentOf most u i) sized p (fits most u i)))
+      subst (λ (k : List ℕ). Sized total most k lens1) (sym mem-is)
+      (subst (λ (k : List ℕ). Sized total most (laid m (t * most) (segmentOf most u i)) k) (sym lens-is)
+      (one.filed-sized total most m lens t (segmentOf most u i) sized p (fits most u i)))
 
-  pub turn-mem : filedMem most slots u m1 (n - (i + 1)) (i + 1) next ≡ filedMem most slots u m (n - i) i s
+  pub turn-mem : filedMem slot most slots u m1 (n - (i + 1)) (i + 1) next ≡ filedMem slot most slots u m (n - i) i s
   turn-mem =
-      ap₂ (λ (k : List ℕ) (j : ℕ). filedMem most slots u k (n - (i + 1)) (i + 1) j) mem-is on
-      ∙ sym (filed-mem-more most slots u m n i s l)
+      ap₂ (λ (k : List ℕ) (j : ℕ). filedMem slot most slots u k (n - (i + 1)) (i + 1) j)
+      (mem-is ∙ ap (λ (j : ℕ). laid m (j * most) (segmentOf most u i)) there)
+      on
+      ∙ sym (filed-mem-more slot most slots u m n i s l)
 
-  pub turn-lens : filedLens most slots u lens1 (n - (i + 1)) (i + 1) next ≡ filedLens most slots u lens (n - i) i s
+  pub turn-lens : filedLens slot most slots u lens1 (n - (i + 1)) (i + 1) next ≡ filedLens slot most slots u lens (n - i) i s
   turn-lens =
-      ap₂ (λ (k : List ℕ) (j : ℕ). filedLens most slots u k (n - (i + 1)) (i + 1) j) lens-is on
-      ∙ sym (filed-lens-more most slots u lens n i s l)
+      ap₂ (λ (k : List ℕ) (j : ℕ). filedLens slot most slots u k (n - (i + 1)) (i + 1) j)
+      (lens-is ∙ ap (λ (j : ℕ). set lens j (length (segmentOf most u i))) there)
+      on
+      ∙ sym (filed-lens-more slot most slots u lens n i s l)
 
 pub turn-marks : (slots count : ℕ) (marks : List ℕ) (n i s flags next : ℕ) → i < n → flags ≡ flagsOf count i → next ≡ roundOf slots (s + 1)
     → filedMarks slots count (set marks s (flags + 1)) (n - (i + 1)) (i + 1) next ≡ filedMarks slots count marks (n - i) i s

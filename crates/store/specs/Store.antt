@@ -35,40 +35,40 @@ lastEndIn marks slots zero from = 0
 lastEndIn marks slots (suc n) from =
     lastWith (ends (getD marks from 0)) (lastEndIn marks slots n (roundOf slots (from + 1)))
 
--- ---- the octets of the n segments
+-- ---- the octets of the n segments. Their lengths and octets lie in memory by slot, which the map `slot` gives for each place
 
 -- each of the n lengths is at most a slot's
-abbrev pub EachFits : ℕ → List ℕ → ℕ → ℕ → ℕ → Type 0
-EachFits most lens slots n from = (i : ℕ) → i < n → getD lens (roundOf slots (from + i)) 0 ≤ most
+abbrev pub EachFits : (ℕ → ℕ) → ℕ → List ℕ → ℕ → ℕ → ℕ → Type 0
+EachFits slot most lens slots n from = (i : ℕ) → i < n → getD lens (slot (roundOf slots (from + i))) 0 ≤ most
 
 -- the sum of the n lengths
-unfoldable pub sizeIn : List ℕ → ℕ → ℕ → ℕ → ℕ
-sizeIn lens slots zero from = 0
-sizeIn lens slots (suc n) from = getD lens from 0 + sizeIn lens slots n (roundOf slots (from + 1))
+unfoldable pub sizeIn : (ℕ → ℕ) → List ℕ → ℕ → ℕ → ℕ → ℕ
+sizeIn slot lens slots zero from = 0
+sizeIn slot lens slots (suc n) from = getD lens (slot from) 0 + sizeIn slot lens slots n (roundOf slots (from + 1))
 
 -- the octets of the n segments, one after another
-unfoldable pub octetsIn : ℕ → List ℕ → List ℕ → ℕ → ℕ → ℕ → List ℕ
-octetsIn most m lens slots zero from = []
-octetsIn most m lens slots (suc n) from =
-    segmentIn most m lens from ++ octetsIn most m lens slots n (roundOf slots (from + 1))
+unfoldable pub octetsIn : (ℕ → ℕ) → ℕ → List ℕ → List ℕ → ℕ → ℕ → ℕ → List ℕ
+octetsIn slot most m lens slots zero from = []
+octetsIn slot most m lens slots (suc n) from =
+    segmentIn most m lens (slot from) ++ octetsIn slot most m lens slots n (roundOf slots (from + 1))
 
 -- ---- a unit filed: n of its segments, the i-th at a place, the next at the next place, and so on round the ring
 
 -- the memory, with the segments of the unit u
-unfoldable pub filedMem : ℕ → ℕ → List ℕ → List ℕ → ℕ → ℕ → ℕ → List ℕ
-filedMem most slots u m zero i from = m
-filedMem most slots u m (suc n) i from =
-    filedMem most slots u (laid m (from * most) (segmentOf most u i)) n (i + 1) (roundOf slots (from + 1))
+unfoldable pub filedMem : (ℕ → ℕ) → ℕ → ℕ → List ℕ → List ℕ → ℕ → ℕ → ℕ → List ℕ
+filedMem slot most slots u m zero i from = m
+filedMem slot most slots u m (suc n) i from =
+    filedMem slot most slots u (laid m (slot from * most) (segmentOf most u i)) n (i + 1) (roundOf slots (from + 1))
 
--- l with n values of f, the i-th at a place, the next at the next place
-unfoldable pub filedBy : (ℕ → ℕ) → ℕ → List ℕ → ℕ → ℕ → ℕ → List ℕ
-filedBy f slots l zero i from = l
-filedBy f slots l (suc n) i from = filedBy f slots (set l from (f i)) n (i + 1) (roundOf slots (from + 1))
+-- l with n values of f, the i-th where the map has a place, the next where it has the next place
+unfoldable pub filedBy : (ℕ → ℕ) → (ℕ → ℕ) → ℕ → List ℕ → ℕ → ℕ → ℕ → List ℕ
+filedBy slot f slots l zero i from = l
+filedBy slot f slots l (suc n) i from = filedBy slot f slots (set l (slot from) (f i)) n (i + 1) (roundOf slots (from + 1))
 
--- the lengths, with those of the unit's segments
-unfoldable pub filedLens : ℕ → ℕ → List ℕ → List ℕ → ℕ → ℕ → ℕ → List ℕ
-filedLens most slots u lens n i from = filedBy (λ (k : ℕ). length (segmentOf most u k)) slots lens n i from
+-- the lengths, with those of the unit's segments: by slot
+unfoldable pub filedLens : (ℕ → ℕ) → ℕ → ℕ → List ℕ → List ℕ → ℕ → ℕ → ℕ → List ℕ
+filedLens slot most slots u lens n i from = filedBy slot (λ (k : ℕ). length (segmentOf most u k)) slots lens n i from
 
--- the marks, with those of a unit of `count` segments
+-- the marks, with those of a unit of `count` segments: by place
 unfoldable pub filedMarks : ℕ → ℕ → List ℕ → ℕ → ℕ → ℕ → List ℕ
-filedMarks slots count marks n i from = filedBy (λ (k : ℕ). markOf (flagsOf count k)) slots marks n i from
+filedMarks slots count marks n i from = filedBy (λ (place : ℕ). place) (λ (k : ℕ). markOf (flagsOf count k)) slots marks n i from

@@ -4,7 +4,7 @@ ghost use Prim.Native.Nat.{_+_, _-_, _<_, _≤_};
 ghost use lib.ListN.{length};
 ghost use lib.Dec.{ltb};
 ghost use Rattle.laws.specs.Choice.{if_then_else_};
-ghost use Rattle.slots.specs.Slots.{Sized};
+ghost use Rattle.slots.specs.Slots.{Sized, slotOf};
 ghost use Rattle.slots.specs.Units.{segmentsOf};
 ghost use Rattle.store.specs.Store.{filedMem, filedLens, filedMarks};
 
@@ -29,7 +29,7 @@ pub fn file_unit(
 ) -> [u8; 128]
     requires { ⌜ Sized slots most (now mem) (now lens) ⌝ }
     requires { ⌜ (1 ≤ most) × (from < slots) × (count ≡ segmentsOf most (length (now unit))) × (count ≤ slots) ⌝ }
-    ensures { λ r. ⌜ (r ≡ filedMarks slots count marks count 0 from) × (now (mem .exit) ≡ filedMem most slots (now (unit .entry)) (now (mem .entry)) count 0 from) × (now (lens .exit) ≡ filedLens most slots (now (unit .entry)) (now (lens .entry)) count 0 from) ⌝ }
+    ensures { λ r. ⌜ (r ≡ filedMarks slots count marks count 0 from) × (now (mem .exit) ≡ filedMem slotOf most slots (now (unit .entry)) (now (mem .entry)) count 0 from) × (now (lens .exit) ≡ filedLens slotOf most slots (now (unit .entry)) (now (lens .entry)) count 0 from) ⌝ }
 {
     let mut m = marks;
     let mut i: usize = 0;
@@ -37,7 +37,8 @@ pub fn file_unit(
     while i < count {
         let start = i * most;
         let end = end_of(start, most, unit.len());
-        slots::file_segment(mem, lens, s, slots, most, &unit[start..end]);
+        let slot = slots::slot_of(s);
+        slots::file_segment(mem, lens, slot, slots, most, &unit[start..end]);
         m[s] = slots::flags_of(count, i) + 1;
         i += 1;
         s = ring::round(s + 1, slots);

@@ -5,49 +5,61 @@ use mathlib.Core.Path.{_≡_, refl, sym, ap, _∙_}
 use native.Mathlib.Omega.{arith}
 use borrow.Author.Needs.{needs}
 use borrow.Author.Tests.{not-true, not-false}
-use lib.ListN.{length}
-use Rattle.channel.specs.Standing.{slotsFit}
+use lib.ListN.{getD}
+use Rattle.slots.specs.Slots.{slotOf}
+use Rattle.slots.proofs.Laws.{slot-bound}
+use Rattle.channel.specs.Standing.{slotFit, slotsFit}
 use Rattle.channel.proofs.StandingLaws.{slots-no, slots-more, slots-none}
 use Rattle.channel.proofs.standing.slots_fit.Statement.{statement}
 use Rattle.channel.proofs.standing.slots_fit.Tie as tie
 use Rattle.channel.proofs.standing.slots_fit.Reads as reads
 use Rattle.channel.proofs.standing.slots_fit.Lts as lts
 use Rattle.channel.proofs.standing.slot_fits.Reads as slot-fits-reads
+use Rattle.slots.proofs.slot_of.Reads as slot-of-reads
 
 abbrev Inv-loop : tie.InvT-loop
-Inv-loop sending most lens marks i₀ i = (i ≤ length lens) × (slotsFit sending most marks lens (length lens - i) i ≡ slotsFit sending most marks lens (length lens) 0)
+Inv-loop sending slots most lens marks i₀ i = (i ≤ slots) × (slotsFit slotOf sending most marks lens (slots - i) i ≡ slotsFit slotOf sending most marks lens slots 0)
 
 abbrev μ-loop : tie.MeasureT-loop
-μ-loop sending most lens marks i₀ i = length lens - i
+μ-loop sending slots most lens marks i₀ i = slots - i
 
 loop-holds : tie.Need-loop-holds Inv-loop μ-loop
 loop-holds c =
     let a = c .before .args in
-    let n = length (a .lens .now) in
-    let e : n - 0 ≡ n = omega arith in
-    (omega arith, ap (λ (k : ℕ). slotsFit (a .sending) (a .most) (a .t3) (a .lens .now) k 0) e)
+    let e : a .slots - 0 ≡ a .slots = omega arith in
+    (omega arith, ap (λ (k : ℕ). slotsFit slotOf (a .sending) (a .most) (a .t4) (a .lens .now) k 0) e)
+
+slot-of-requires : tie.Need-slot-of-requires Inv-loop μ-loop
+slot-of-requires c κs = tt
 
 array-read-slot-fits : tie.Need-array-read-slot-fits Inv-loop μ-loop
 array-read-slot-fits c = omega arith
 
 mul-slot-fits : tie.Need-mul-slot-fits Inv-loop μ-loop
-mul-slot-fits c = omega arith
+mul-slot-fits c =
+    let at = c .before .before .loop in
+    let a = c .before .before .before .before .args in
+    omega (arith, c .slot-of .ensures, slot-bound (a .slots) (at .i) (c .before .loop-test .taken))
 
 shared-slice-read-slot-fits : tie.Need-shared-slice-read-slot-fits Inv-loop μ-loop
-shared-slice-read-slot-fits c = omega arith
+shared-slice-read-slot-fits c =
+    let at = c .before .before .before .loop in
+    let a = c .before .before .before .before .before .args in
+    omega (arith, c .before .slot-of .ensures, slot-bound (a .slots) (at .i) (c .before .before .loop-test .taken))
 
 cast-slot-fits : tie.Need-cast-slot-fits Inv-loop μ-loop
-cast-slot-fits c = omega (arith, c .shared-slice-known2 .given (c .before .before .loop .i))
+cast-slot-fits c = omega (arith, c .shared-slice-known2 .given (c .before .slot-of .result))
 
 slot-fits-requires : tie.Need-slot-fits-requires Inv-loop μ-loop
 slot-fits-requires c κs = tt
 
 returns : tie.Need-returns Inv-loop μ-loop
 returns c =
-    let a = c .before .before .before .before .before .before .args in
-    let at = c .before .before .before .before .loop in
-    let no = sym (c .before .slot-fits .ensures) ∙ not-true _ (c .if1 .taken) in
-    sym (slots-no (a .sending) (a .most) (a .t3) (a .lens .now) (length (a .lens .now)) (at .i) (c .before .before .before .loop-test .taken) no) ∙ at .inv .1
+    let a = c .before .before .before .before .before .before .before .args in
+    let at = c .before .before .before .before .before .loop in
+    let there = ap (λ (k : ℕ). slotFit (a .sending) (a .most) (getD (a .t4) (at .i) 0) (getD (a .lens .now) k 0)) (c .before .before .before .slot-of .ensures) in
+    let no = sym there ∙ sym (c .before .slot-fits .ensures) ∙ not-true _ (c .if1 .taken) in
+    sym (slots-no slotOf (a .sending) (a .most) (a .t4) (a .lens .now) (a .slots) (at .i) (c .before .before .before .before .loop-test .taken) no) ∙ at .inv .1
 
 add-i : tie.Need-add-i Inv-loop μ-loop
 add-i c = omega arith
@@ -57,16 +69,17 @@ loop-less c = omega arith
 
 loop-again : tie.Need-loop-again Inv-loop μ-loop
 loop-again c =
-    let a = c .before .before .before .before .before .before .args in
-    let at = c .before .before .before .before .loop in
-    let yes′ = sym (c .before .slot-fits .ensures) ∙ not-false _ (c .if1 .left) in
-    (omega arith, sym (slots-more (a .sending) (a .most) (a .t3) (a .lens .now) (length (a .lens .now)) (at .i) (c .before .before .before .loop-test .taken) yes′) ∙ at .inv .1)
+    let a = c .before .before .before .before .before .before .before .args in
+    let at = c .before .before .before .before .before .loop in
+    let there = ap (λ (k : ℕ). slotFit (a .sending) (a .most) (getD (a .t4) (at .i) 0) (getD (a .lens .now) k 0)) (c .before .before .before .slot-of .ensures) in
+    let yes′ = sym there ∙ sym (c .before .slot-fits .ensures) ∙ not-false _ (c .if1 .left) in
+    (omega arith, sym (slots-more slotOf (a .sending) (a .most) (a .t4) (a .lens .now) (a .slots) (at .i) (c .before .before .before .before .loop-test .taken) yes′) ∙ at .inv .1)
 
 returns-2 : tie.Need-returns-2 Inv-loop μ-loop
 returns-2 c =
     let a = c .before .before .before .args in
     let at = c .before .loop in
-    sym (slots-none (a .sending) (a .most) (a .t3) (a .lens .now) (length (a .lens .now)) (at .i) (c .loop-test .left)) ∙ at .inv .1
+    sym (slots-none slotOf (a .sending) (a .most) (a .t4) (a .lens .now) (a .slots) (at .i) (c .loop-test .left)) ∙ at .inv .1
 
 pub slots-fit-spec : {M : Type 1} → statement M
 slots-fit-spec =
@@ -75,6 +88,7 @@ slots-fit-spec =
     Inv-loop
     μ-loop
     loop-holds
+    slot-of-requires
     array-read-slot-fits
     mul-slot-fits
     shared-slice-read-slot-fits

@@ -121,7 +121,7 @@ slots-fit-requires c κs =
     let a = c .before .before .before .before .before .before .before .before .before .before .before .before .before .before .before .before .before .before .before .args in
     let f : fitLimits (a .c .limits) ≡ true = sym (c .before .before .before .before .before .before .before .before .before .before .before .before .before .before .fits-limits .ensures) ∙ not-false _ (c .before .before .before .before .before .before .before .before .before .before .before .before .before .if1 .left) in
     let t = fit-is _ f in
-    omega (arith, c .before .before .before .before .before .before .before .before .before .before .before .if2 .left)
+    (t .most, omega (arith, c .before .before .before .before .before .before .before .before .before .before .before .if2 .left))
 
 returns-8 : tie.Need-returns-8
 unfolding standing

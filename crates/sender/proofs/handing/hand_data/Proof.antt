@@ -12,6 +12,7 @@ use Rattle.sender.proofs.handing.hand_data.Reads as reads
 use Rattle.sender.proofs.handing.hand_data.Lts as lts
 use Rattle.channel.proofs.step.outgoing.Reads as outgoing-reads
 use Rattle.ring.proofs.round.Reads as round-reads
+use Rattle.slots.proofs.slot_of.Reads as slot-of-reads
 use Rattle.sender.proofs.handing.send.Reads as send-reads
 use Rattle.std.proofs.num.wrapping_add_u8.Reads as wrapping-add-u8-reads
 
@@ -24,10 +25,13 @@ add-round c =
 round-requires : tie.Need-round-requires
 round-requires c κs = search needs
 
+slot-of-requires : tie.Need-slot-of-requires
+slot-of-requires c κs = tt
+
 cast-wrapping-add-u8 : tie.Need-cast-wrapping-add-u8
 cast-wrapping-add-u8 c =
-    let p = c .before .before .before .before .before .before .pre in
-    let r = ringed (c .before .before .before .before .before .before .args .c) (c .before .before .before .before .before .before .args .lens .now) (p .0 .standing) in
+    let p = c .before .before .before .before .before .before .before .pre in
+    let r = ringed (c .before .before .before .before .before .before .before .args .c) (c .before .before .before .before .before .before .before .args .lens .now) (p .0 .standing) in
     omega (arith, r .held, r .most, p .1)
 
 wrapping-add-u8-requires : tie.Need-wrapping-add-u8-requires
@@ -35,14 +39,14 @@ wrapping-add-u8-requires c κs = search needs
 
 array-read-outgoing : tie.Need-array-read-outgoing
 array-read-outgoing c =
-    let a = c .before .before .before .before .before .before .before .args in
-    let y = lying (a .c) (a .mem .now) (a .lens .now) (c .before .before .before .before .before .before .before .pre .0) (a .i) (c .before .before .before .before .before .before .before .pre .1) (c .before .before .round .result) (c .before .before .round .ensures) in
+    let a = c .before .before .before .before .before .before .before .before .args in
+    let y = lying (a .c) (a .mem .now) (a .lens .now) (c .before .before .before .before .before .before .before .before .pre .0) (a .i) (c .before .before .before .before .before .before .before .before .pre .1) (c .before .before .before .round .result) (c .before .before .slot-of .result) (c .before .before .before .round .ensures) (c .before .before .slot-of .ensures) in
     omega (arith, y .place, y .few)
 
 sub-outgoing : tie.Need-sub-outgoing
 sub-outgoing c =
-    let a = c .before .before .before .before .before .before .before .args in
-    let y = lying (a .c) (a .mem .now) (a .lens .now) (c .before .before .before .before .before .before .before .pre .0) (a .i) (c .before .before .before .before .before .before .before .pre .1) (c .before .before .round .result) (c .before .before .round .ensures) in
+    let a = c .before .before .before .before .before .before .before .before .args in
+    let y = lying (a .c) (a .mem .now) (a .lens .now) (c .before .before .before .before .before .before .before .before .pre .0) (a .i) (c .before .before .before .before .before .before .before .before .pre .1) (c .before .before .before .round .result) (c .before .before .slot-of .result) (c .before .before .before .round .ensures) (c .before .before .slot-of .ensures) in
     y .least
 
 outgoing-requires : tie.Need-outgoing-requires
@@ -50,32 +54,32 @@ outgoing-requires c κs = search needs
 
 mul-from : tie.Need-mul-from
 mul-from c =
-    let a = c .before .before .before .before .before .before .before .before .before .args in
-    let y = lying (a .c) (a .mem .now) (a .lens .now) (c .before .before .before .before .before .before .before .before .before .pre .0) (a .i) (c .before .before .before .before .before .before .before .before .before .pre .1) (c .before .before .before .before .round .result) (c .before .before .before .before .round .ensures) in
+    let a = c .before .before .before .before .before .before .before .before .before .before .args in
+    let y = lying (a .c) (a .mem .now) (a .lens .now) (c .before .before .before .before .before .before .before .before .before .before .pre .0) (a .i) (c .before .before .before .before .before .before .before .before .before .before .pre .1) (c .before .before .before .before .before .round .result) (c .before .before .before .before .slot-of .result) (c .before .before .before .before .before .round .ensures) (c .before .before .before .before .slot-of .ensures) in
     omega (arith, y .small)
 
 mul-end : tie.Need-mul-end
 mul-end c =
-    let a = c .before .before .before .before .before .before .before .before .before .args in
-    let y = lying (a .c) (a .mem .now) (a .lens .now) (c .before .before .before .before .before .before .before .before .before .pre .0) (a .i) (c .before .before .before .before .before .before .before .before .before .pre .1) (c .before .before .before .before .round .result) (c .before .before .before .before .round .ensures) in
-    omega (arith, y .place, y .few)
+    let a = c .before .before .before .before .before .before .before .before .before .before .args in
+    let y = lying (a .c) (a .mem .now) (a .lens .now) (c .before .before .before .before .before .before .before .before .before .before .pre .0) (a .i) (c .before .before .before .before .before .before .before .before .before .before .pre .1) (c .before .before .before .before .before .round .result) (c .before .before .before .before .slot-of .result) (c .before .before .before .before .before .round .ensures) (c .before .before .before .before .slot-of .ensures) in
+    omega (arith, y .slot, y .few)
 
 shared-slice-read-end : tie.Need-shared-slice-read-end
 shared-slice-read-end c =
-    let a = c .before .before .before .before .before .before .before .before .before .before .args in
-    let y = lying (a .c) (a .mem .now) (a .lens .now) (c .before .before .before .before .before .before .before .before .before .before .pre .0) (a .i) (c .before .before .before .before .before .before .before .before .before .before .pre .1) (c .before .before .before .before .before .round .result) (c .before .before .before .before .before .round .ensures) in
+    let a = c .before .before .before .before .before .before .before .before .before .before .before .args in
+    let y = lying (a .c) (a .mem .now) (a .lens .now) (c .before .before .before .before .before .before .before .before .before .before .before .pre .0) (a .i) (c .before .before .before .before .before .before .before .before .before .before .before .pre .1) (c .before .before .before .before .before .before .round .result) (c .before .before .before .before .before .slot-of .result) (c .before .before .before .before .before .before .round .ensures) (c .before .before .before .before .before .slot-of .ensures) in
     y .some
 
 cast-end : tie.Need-cast-end
 cast-end c =
-    let a = c .before .before .before .before .before .before .before .before .before .before .args in
-    let y = lying (a .c) (a .mem .now) (a .lens .now) (c .before .before .before .before .before .before .before .before .before .before .pre .0) (a .i) (c .before .before .before .before .before .before .before .before .before .before .pre .1) (c .before .before .before .before .before .round .result) (c .before .before .before .before .before .round .ensures) in
+    let a = c .before .before .before .before .before .before .before .before .before .before .before .args in
+    let y = lying (a .c) (a .mem .now) (a .lens .now) (c .before .before .before .before .before .before .before .before .before .before .before .pre .0) (a .i) (c .before .before .before .before .before .before .before .before .before .before .before .pre .1) (c .before .before .before .before .before .before .round .result) (c .before .before .before .before .before .slot-of .result) (c .before .before .before .before .before .before .round .ensures) (c .before .before .before .before .before .slot-of .ensures) in
     omega (arith, y .short, y .most)
 
 add-end : tie.Need-add-end
 add-end c =
-    let a = c .before .before .before .before .before .before .before .before .before .before .args in
-    let y = lying (a .c) (a .mem .now) (a .lens .now) (c .before .before .before .before .before .before .before .before .before .before .pre .0) (a .i) (c .before .before .before .before .before .before .before .before .before .before .pre .1) (c .before .before .before .before .before .round .result) (c .before .before .before .before .before .round .ensures) in
+    let a = c .before .before .before .before .before .before .before .before .before .before .before .args in
+    let y = lying (a .c) (a .mem .now) (a .lens .now) (c .before .before .before .before .before .before .before .before .before .before .before .pre .0) (a .i) (c .before .before .before .before .before .before .before .before .before .before .before .pre .1) (c .before .before .before .before .before .before .round .result) (c .before .before .before .before .before .slot-of .result) (c .before .before .before .before .before .before .round .ensures) (c .before .before .before .before .before .slot-of .ensures) in
     omega (arith, y .small, y .short)
 
 sub-send : tie.Need-sub-send
@@ -86,23 +90,23 @@ part-send-start c = search needs
 
 part-send-end : tie.Need-part-send-end
 part-send-end c =
-    let a = c .before .before .before .before .before .before .before .before .before .before .args in
-    let y = lying (a .c) (a .mem .now) (a .lens .now) (c .before .before .before .before .before .before .before .before .before .before .pre .0) (a .i) (c .before .before .before .before .before .before .before .before .before .before .pre .1) (c .before .before .before .before .before .round .result) (c .before .before .before .before .before .round .ensures) in
+    let a = c .before .before .before .before .before .before .before .before .before .before .before .args in
+    let y = lying (a .c) (a .mem .now) (a .lens .now) (c .before .before .before .before .before .before .before .before .before .before .before .pre .0) (a .i) (c .before .before .before .before .before .before .before .before .before .before .before .pre .1) (c .before .before .before .before .before .before .round .result) (c .before .before .before .before .before .slot-of .result) (c .before .before .before .before .before .before .round .ensures) (c .before .before .before .before .before .slot-of .ensures) in
     omega (arith, y .inside, y .short)
 
 send-requires : tie.Need-send-requires
 send-requires c κs =
-    let a = c .before .before .before .before .before .before .before .before .before .before .before .before .args in
-    part-plain (a .c) (a .mem .now) (a .lens .now) (c .before .before .before .before .before .before .before .before .before .before .before .before .pre .0) (a .i) (c .before .before .before .before .before .before .before .round .result) (c .before .before .before .before .before .before .before .before .before .before .before .before .pre .1) (c .before .before .before .before .before .before .before .round .ensures) (a .node) (c .before .before .before .before .before .wrapping-add-u8 .result) (c .before .before .before .before .outgoing .result) (c .before .before .before .before .before .wrapping-add-u8 .ensures) (c .before .before .before .before .outgoing .ensures)
+    let a = c .before .before .before .before .before .before .before .before .before .before .before .before .before .args in
+    part-plain (a .c) (a .mem .now) (a .lens .now) (c .before .before .before .before .before .before .before .before .before .before .before .before .before .pre .0) (a .i) (c .before .before .before .before .before .before .before .before .round .result) (c .before .before .before .before .before .before .before .slot-of .result) (c .before .before .before .before .before .before .before .before .before .before .before .before .before .pre .1) (c .before .before .before .before .before .before .before .before .round .ensures) (c .before .before .before .before .before .before .before .slot-of .ensures) (a .node) (c .before .before .before .before .before .wrapping-add-u8 .result) (c .before .before .before .before .outgoing .result) (c .before .before .before .before .before .wrapping-add-u8 .ensures) (c .before .before .before .before .outgoing .ensures)
 
 same-length : tie.Need-same-length
 same-length c = search needs
 
 returns : tie.Need-returns
 returns c =
-    let a = c .before .before .before .before .before .before .before .before .before .before .before .before .before .before .before .args in (
-      c .before .before .send .ensures .0 ∙ part-step (a .c) (a .mem .now) (a .lens .now) (c .before .before .before .before .before .before .before .before .before .before .before .before .before .before .before .pre .0) (a .i) (c .before .before .before .before .before .before .before .before .before .before .round .result) (c .before .before .before .before .before .before .before .before .before .before .before .before .before .before .before .pre .1) (c .before .before .before .before .before .before .before .before .before .before .round .ensures) (a .node) (c .before .before .before .before .before .before .before .before .wrapping-add-u8 .result) (c .before .before .before .before .before .before .before .outgoing .result) (c .before .before .before .before .before .before .before .before .wrapping-add-u8 .ensures) (c .before .before .before .before .before .before .before .outgoing .ensures) (a .after) (length (a .out .now)),
-      c .before .before .send .ensures .1 ∙ part-out (a .c) (a .mem .now) (a .lens .now) (c .before .before .before .before .before .before .before .before .before .before .before .before .before .before .before .pre .0) (a .i) (c .before .before .before .before .before .before .before .before .before .before .round .result) (c .before .before .before .before .before .before .before .before .before .before .before .before .before .before .before .pre .1) (c .before .before .before .before .before .before .before .before .before .before .round .ensures) (a .node) (c .before .before .before .before .before .before .before .before .wrapping-add-u8 .result) (c .before .before .before .before .before .before .before .outgoing .result) (c .before .before .before .before .before .before .before .before .wrapping-add-u8 .ensures) (c .before .before .before .before .before .before .before .outgoing .ensures) (a .out .now),
+    let a = c .before .before .before .before .before .before .before .before .before .before .before .before .before .before .before .before .args in (
+      c .before .before .send .ensures .0 ∙ part-step (a .c) (a .mem .now) (a .lens .now) (c .before .before .before .before .before .before .before .before .before .before .before .before .before .before .before .before .pre .0) (a .i) (c .before .before .before .before .before .before .before .before .before .before .before .round .result) (c .before .before .before .before .before .before .before .before .before .before .slot-of .result) (c .before .before .before .before .before .before .before .before .before .before .before .before .before .before .before .before .pre .1) (c .before .before .before .before .before .before .before .before .before .before .before .round .ensures) (c .before .before .before .before .before .before .before .before .before .before .slot-of .ensures) (a .node) (c .before .before .before .before .before .before .before .before .wrapping-add-u8 .result) (c .before .before .before .before .before .before .before .outgoing .result) (c .before .before .before .before .before .before .before .before .wrapping-add-u8 .ensures) (c .before .before .before .before .before .before .before .outgoing .ensures) (a .after) (length (a .out .now)),
+      c .before .before .send .ensures .1 ∙ part-out (a .c) (a .mem .now) (a .lens .now) (c .before .before .before .before .before .before .before .before .before .before .before .before .before .before .before .before .pre .0) (a .i) (c .before .before .before .before .before .before .before .before .before .before .before .round .result) (c .before .before .before .before .before .before .before .before .before .before .slot-of .result) (c .before .before .before .before .before .before .before .before .before .before .before .before .before .before .before .before .pre .1) (c .before .before .before .before .before .before .before .before .before .before .before .round .ensures) (c .before .before .before .before .before .before .before .before .before .before .slot-of .ensures) (a .node) (c .before .before .before .before .before .before .before .before .wrapping-add-u8 .result) (c .before .before .before .before .before .before .before .outgoing .result) (c .before .before .before .before .before .before .before .before .wrapping-add-u8 .ensures) (c .before .before .before .before .before .before .before .outgoing .ensures) (a .out .now),
     )
 
 pub hand-data-spec : {M : Type 1} → statement M
@@ -111,6 +115,7 @@ hand-data-spec =
     (tie.spec
     add-round
     round-requires
+    slot-of-requires
     cast-wrapping-add-u8
     wrapping-add-u8-requires
     array-read-outgoing

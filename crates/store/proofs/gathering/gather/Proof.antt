@@ -6,7 +6,8 @@ use native.Mathlib.Omega.{arith}
 use lib.ListN.{length, getD}
 use Rattle.ring.specs.Ring.{roundOf}
 use Rattle.ring.proofs.Laws.{round-lt, round-add}
-use Rattle.slots.specs.Slots.{laid}
+use Rattle.slots.specs.Slots.{slotOf, laid}
+use Rattle.slots.proofs.Laws.{slot-bound}
 use Rattle.store.specs.Store.{sizeIn, octetsIn}
 use Rattle.store.proofs.Laws.{first-place, place-fits, size-more, gather-length, gather-more, gather-none}
 use Rattle.store.proofs.gathering.gather.Statement.{statement}
@@ -15,6 +16,7 @@ use Rattle.store.proofs.gathering.gather.Reads as reads
 use Rattle.store.proofs.gathering.gather.Lts as lts
 use Rattle.ring.proofs.round.Reads as round-reads
 use Rattle.slots.proofs.read_segment.Reads as read-segment-reads
+use Rattle.slots.proofs.slot_of.Reads as slot-of-reads
 
 abbrev Inv-loop : tie.InvT-loop
 Inv-loop mem lens slots most n from out₀ at₀ i₀ s₀ out at i s =
@@ -22,8 +24,8 @@ Inv-loop mem lens slots most n from out₀ at₀ i₀ s₀ out at i s =
     × (s < slots)
     × (s ≡ roundOf slots (from + i))
     × (length out ≡ length out₀)
-    × (at + sizeIn lens slots (n - i) s ≤ length out₀)
-    × (laid out at (octetsIn most mem lens slots (n - i) s) ≡ laid out₀ 0 (octetsIn most mem lens slots n from))
+    × (at + sizeIn slotOf lens slots (n - i) s ≤ length out₀)
+    × (laid out at (octetsIn slotOf most mem lens slots (n - i) s) ≡ laid out₀ 0 (octetsIn slotOf most mem lens slots n from))
 
 abbrev μ-loop : tie.MeasureT-loop
 μ-loop mem lens slots most n from out₀ at₀ i₀ s₀ out at i s = n - i
@@ -36,33 +38,46 @@ loop-holds c =
       omega arith,
       sym (first-place (a .slots) (a .from) (omega arith)),
       omega arith,
-      omega (arith, ap (λ (k : ℕ). sizeIn (a .lens .now) (a .slots) k (a .from)) e),
-      ap (λ (k : ℕ). laid (a .out .now) 0 (octetsIn (a .most) (a .mem .now) (a .lens .now) (a .slots) k (a .from))) e,
+      omega (arith, ap (λ (k : ℕ). sizeIn slotOf (a .lens .now) (a .slots) k (a .from)) e),
+      ap (λ (k : ℕ). laid (a .out .now) 0 (octetsIn slotOf (a .most) (a .mem .now) (a .lens .now) (a .slots) k (a .from))) e,
     )
+
+slot-of-requires : tie.Need-slot-of-requires Inv-loop μ-loop
+slot-of-requires c κs = tt
 
 read-segment-requires : tie.Need-read-segment-requires Inv-loop μ-loop
 read-segment-requires c κs =
-    let at = c .before .before .loop in
-    let a = c .before .before .before .before .before .before .args in
-    let pre = c .before .before .before .before .before .before .pre in
-    let short = place-fits (a .most) (a .lens .now) (a .slots) (a .n) (a .from) (at .i) (at .s) (at .inv .2) (pre .1 .1) (c .before .loop-test .taken) in
-    let more = size-more (a .lens .now) (a .slots) (a .n) (at .i) (at .s) (c .before .loop-test .taken) in
-    (pre .0, (omega arith, short, omega arith))
+    let at = c .before .before .before .loop in
+    let a = c .before .before .before .before .before .before .before .args in
+    let pre = c .before .before .before .before .before .before .before .pre in
+    let taken = c .before .before .loop-test .taken in
+    let there = c .before .slot-of .ensures in
+    let size = ap (λ (k : ℕ). getD (a .lens .now) k 0) there in
+    let short = place-fits slotOf (a .most) (a .lens .now) (a .slots) (a .n) (a .from) (at .i) (at .s) (at .inv .2) (pre .1 .1) taken in
+    let more = size-more slotOf (a .lens .now) (a .slots) (a .n) (at .i) (at .s) taken in
+    (pre .0, (omega (arith, there, slot-bound (a .slots) (at .s) (at .inv .1)), omega arith, omega arith))
 
 mul-at : tie.Need-mul-at Inv-loop μ-loop
-mul-at c = omega arith
+mul-at c =
+    let at = c .before .before .before .before .before .before .loop in
+    let a = c .before .before .before .before .before .before .before .before .before .before .args in
+    omega (arith, c .before .before .before .before .slot-of .ensures, slot-bound (a .slots) (at .s) (at .inv .1))
 
 shared-slice-read-at : tie.Need-shared-slice-read-at Inv-loop μ-loop
-shared-slice-read-at c = omega arith
+shared-slice-read-at c =
+    let at = c .before .before .before .before .before .before .before .loop in
+    let a = c .before .before .before .before .before .before .before .before .before .before .before .args in
+    omega (arith, c .before .before .before .before .before .slot-of .ensures, slot-bound (a .slots) (at .s) (at .inv .1))
 
 cast-at : tie.Need-cast-at Inv-loop μ-loop
-cast-at c = omega (arith, c .shared-slice-known3 .given (c .before .before .before .before .before .before .loop .s))
+cast-at c = omega (arith, c .shared-slice-known3 .given (c .before .before .before .before .before .slot-of .result))
 
 add-at : tie.Need-add-at Inv-loop μ-loop
 add-at c =
-    let at = c .before .before .before .before .before .before .loop in
-    let a = c .before .before .before .before .before .before .before .before .before .before .args in
-    omega (arith, size-more (a .lens .now) (a .slots) (a .n) (at .i) (at .s) (c .before .before .before .before .before .loop-test .taken))
+    let at = c .before .before .before .before .before .before .before .loop in
+    let a = c .before .before .before .before .before .before .before .before .before .before .before .args in
+    let size = ap (λ (k : ℕ). getD (a .lens .now) k 0) (c .before .before .before .before .before .slot-of .ensures) in
+    omega (arith, size-more slotOf (a .lens .now) (a .slots) (a .n) (at .i) (at .s) (c .before .before .before .before .before .before .loop-test .taken))
 
 add-i : tie.Need-add-i Inv-loop μ-loop
 add-i c = omega arith
@@ -78,22 +93,26 @@ loop-less c = omega arith
 
 loop-again : tie.Need-loop-again Inv-loop μ-loop
 loop-again c =
-    let at = c .before .before .before .before .before .before .before .loop in
-    let a = c .before .before .before .before .before .before .before .before .before .before .before .args in
-    let pre = c .before .before .before .before .before .before .before .before .before .before .before .pre in
-    let taken = c .before .before .before .before .before .before .loop-test .taken in
+    let at = c .before .before .before .before .before .before .before .before .loop in
+    let a = c .before .before .before .before .before .before .before .before .before .before .before .before .args in
+    let pre = c .before .before .before .before .before .before .before .before .before .before .before .before .pre in
+    let taken = c .before .before .before .before .before .before .before .loop-test .taken in
+    let slot = c .before .before .before .before .before .before .slot-of in
     let laid-now = c .before .before .before .before .read-segment .ensures in
-    let short = place-fits (a .most) (a .lens .now) (a .slots) (a .n) (a .from) (at .i) (at .s) (at .inv .2) (pre .1 .1) taken in
-    let more = size-more (a .lens .now) (a .slots) (a .n) (at .i) (at .s) taken in
-    let room : at .at + getD (a .lens .now) (at .s) 0 ≤ length (at .out) = omega arith in (
+    let size = ap (λ (k : ℕ). getD (a .lens .now) k 0) (slot .ensures) in
+    let fits = place-fits slotOf (a .most) (a .lens .now) (a .slots) (a .n) (a .from) (at .i) (at .s) (at .inv .2) (pre .1 .1) taken in
+    let more = size-more slotOf (a .lens .now) (a .slots) (a .n) (at .i) (at .s) taken in
+    let bound : slot .result < a .slots = omega (arith, slot .ensures, slot-bound (a .slots) (at .s) (at .inv .1)) in
+    let short : getD (a .lens .now) (slot .result) 0 ≤ a .most = omega arith in
+    let room : at .at + getD (a .lens .now) (slot .result) 0 ≤ length (at .out) = omega arith in (
       omega arith,
       rw (c .round .ensures) (round-lt _ _ (omega arith)),
       c .round .ensures
           ∙ ap (λ (k : ℕ). roundOf (a .slots) (k + 1)) (at .inv .2)
           ∙ round-add (a .slots) (a .from) (at .i) 1 (omega arith),
-      gather-length (a .most) (a .mem .now) (a .lens .now) (a .slots) (a .n) (at .i) (at .s) (at .out) (at .at) _ _ (pre .0) (at .inv .1) taken short room laid-now (c .round .ensures) ∙ at .inv .3,
+      gather-length slotOf (a .slots) (a .most) (a .mem .now) (a .lens .now) (a .slots) (a .n) (at .i) (at .s) (slot .result) (at .out) (at .at) _ _ (pre .0) bound taken (slot .ensures) short room laid-now (c .round .ensures) ∙ at .inv .3,
       rw (c .round .ensures) (omega arith),
-      gather-more (a .most) (a .mem .now) (a .lens .now) (a .slots) (a .n) (at .i) (at .s) (at .out) (at .at) _ _ (pre .0) (at .inv .1) taken short room laid-now (c .round .ensures) ∙ at .inv .5,
+      gather-more slotOf (a .slots) (a .most) (a .mem .now) (a .lens .now) (a .slots) (a .n) (at .i) (at .s) (slot .result) (at .out) (at .at) _ _ (pre .0) bound taken (slot .ensures) short room laid-now (c .round .ensures) ∙ at .inv .5,
     )
 
 same-length : tie.Need-same-length Inv-loop μ-loop
@@ -103,7 +122,7 @@ returns : tie.Need-returns Inv-loop μ-loop
 returns c =
     let at = c .before .loop in
     let a = c .before .before .before .before .before .args in
-    sym (gather-none (a .most) (a .mem .now) (a .lens .now) (a .slots) (a .n) (at .i) (at .s) (at .out) (at .at) (c .loop-test .left)) ∙ at .inv .5
+    sym (gather-none slotOf (a .most) (a .mem .now) (a .lens .now) (a .slots) (a .n) (at .i) (at .s) (at .out) (at .at) (c .loop-test .left)) ∙ at .inv .5
 
 pub gather-spec : {M : Type 1} → statement M
 gather-spec =
@@ -112,6 +131,7 @@ gather-spec =
     Inv-loop
     μ-loop
     loop-holds
+    slot-of-requires
     read-segment-requires
     mul-at
     shared-slice-read-at
