@@ -6,7 +6,7 @@ use mathlib.Core.List.{List, [], map}
 use Prim.Native.Nat.{ℕ, zero, suc, _+_, _-_, _≤_, _<_}
 use native.Mathlib.Omega.{arith}
 use native.Mathlib.Numerals.{add-one}
-use borrow.Author.Tests.{lt-ltb, le-ltb, lt-leb, le-leb, eq-eqb, ne-eqb, ltb-true, leb-true, eqb-true, not-false}
+use borrow.Author.Tests.{lt-ltb, le-ltb, lt-leb, le-leb, eq-eqb, ne-eqb, ltb-true, leb-true, eqb-true}
 use lib.Dec.{ltb, leb, eqb}
 use lib.ListN.{length, getD, drop, drop-of-length-le}
 use lib.Seq.{drop-cons}
@@ -35,7 +35,7 @@ use Rattle.channel.specs.Lone.{readyLone, isOut, fallen}
 use Rattle.sender.specs.Asked.{Plain}
 use Rattle.sender.specs.Directives.{placeAt, parked, shutFor, openStep, closeStep}
 use Rattle.sender.specs.Transfer.{wouldTransfer, isAccepted, longer, filedUnit, transferStep, transferMem, transferLens, freeAt}
-use Rattle.sender.specs.HandingOut.{againIn, againAt, readyControl, readyNew, rankOf, controlFields, controlOut, againOut, newOut, dataFields, nextFields, nextPayload, nextOut, sentStep, sentOut, handStep, handOut}
+use Rattle.sender.specs.HandingOut.{againIn, againAt, readyControl, readyAgain, nextInWindow, readyNew, ready, rankOf, controlFields, controlOut, againOut, newOut, dataFields, nextFields, nextPayload, nextOut, sentStep, sentOut, handStep, handOut}
 use Rattle.sender.specs.Acks.{controlAcked, controlAckStep, awayOf, isAwaited, recorded, runAt, confirmedAt, wholeAt, movedWindow, freedMarks, advanced, dataAckStep}
 use Rattle.sender.specs.Ticking.{lowered, spentNow, anySpent, controlTick, dataTick, tickStep}
 use Rattle.sender.specs.Reclaiming.{unitAt, sizeAt, dropped, reclaimStep, reclaimOut}
@@ -109,24 +109,26 @@ module _ (c : Channel) where
   -- ---- the rank of the packet that is ready
 
   pub rank-control : readyControl c ≡ true → rankOf c ≡ 0
-  unfolding rankOf
+  unfolding rankOf ready
   rank-control h = chosen (readyControl c) _ _ h
 
   pub rank-state : readyControl c ≡ false → (c .state ≡ opened → ⊥) → rankOf c ≡ 3
-  unfolding rankOf
+  unfolding rankOf ready
   rank-state h k = passed-by (readyControl c) _ _ h ∙ simp (ne-eqb _ _ k)
 
   pub rank-again : readyControl c ≡ false → c .state ≡ opened → againAt c < c .window .flight → rankOf c ≡ 1
-  unfolding rankOf
+  unfolding rankOf ready
   rank-again h k a = passed-by (readyControl c) _ _ h ∙ simp (eq-eqb _ _ k, lt-ltb _ _ a)
 
-  pub rank-new : readyControl c ≡ false → c .state ≡ opened → c .window .flight ≤ againAt c → readyNew c ≡ true → rankOf c ≡ 2
-  unfolding rankOf
-  rank-new h k a n = passed-by (readyControl c) _ _ h ∙ simp (eq-eqb _ _ k, le-ltb _ _ a) (chosen (readyNew c) _ _ n)
+  pub rank-new : readyControl c ≡ false → c .state ≡ opened → c .window .flight ≤ againAt c → nextInWindow (c .limits) (c .window) ≡ true
+      → rankOf c ≡ 2
+  unfolding rankOf ready
+  rank-new h k a n = passed-by (readyControl c) _ _ h ∙ simp (eq-eqb _ _ k, le-ltb _ _ a) (chosen (nextInWindow (c .limits) (c .window)) _ _ n)
 
-  pub rank-none : readyControl c ≡ false → c .state ≡ opened → c .window .flight ≤ againAt c → readyNew c ≡ false → rankOf c ≡ 3
-  unfolding rankOf
-  rank-none h k a n = passed-by (readyControl c) _ _ h ∙ simp (eq-eqb _ _ k, le-ltb _ _ a) (passed-by (readyNew c) _ _ n)
+  pub rank-none : readyControl c ≡ false → c .state ≡ opened → c .window .flight ≤ againAt c → nextInWindow (c .limits) (c .window) ≡ false
+      → rankOf c ≡ 3
+  unfolding rankOf ready
+  rank-none h k a n = passed-by (readyControl c) _ _ h ∙ simp (eq-eqb _ _ k, le-ltb _ _ a) (passed-by (nextInWindow (c .limits) (c .window)) _ _ n)
 
 -- the control packet is looked at in ENABLED and CLOSING
 module _ (state : ℕ) (b : Bool) where
@@ -142,40 +144,54 @@ module _ (state : ℕ) (b : Bool) where
 -- ---- and back: what a rank has shown
 
 module _ (c : Channel) where
-  -- the tests on the way to ranks 1 and 2
-  below : (r : ℕ) → rankOf c ≡ r → (0 ≡ r → ⊥) → (3 ≡ r → ⊥)
-      → (if ltb (againAt c) (c .window .flight) then 1 else if readyNew c then 2 else 3) ≡ r
+  -- a packet of the rank is ready
+  pub rank-ready : (r : ℕ) → rankOf c ≡ r → r < 3 → ready r c ≡ true
   unfolding rankOf
-  below r e z t =
-      let p = not-first (readyControl c) _ _ _ e z in
-      not-first (not (eqb (c .state) opened)) _ _ _ (p .1) t .1
+  rank-ready r e l = go (ready 0 c) refl (ready 1 c) refl (ready 2 c) refl e
+    where
+      go : (x : Bool) → ready 0 c ≡ x → (y : Bool) → ready 1 c ≡ y → (z : Bool) → ready 2 c ≡ z
+          → (if x then 0 else if y then 1 else if z then 2 else 3) ≡ r
+          → ready r c ≡ true
+      go true p y q z s e = ap (λ (k : ℕ). ready k c) (sym e) ∙ p
+      go false p true q z s e = ap (λ (k : ℕ). ready k c) (sym e) ∙ q
+      go false p false q true s e = ap (λ (k : ℕ). ready k c) (sym e) ∙ s
+      go false p false q false s e = absurd (omega arith)
 
-  pub rank-open : (r : ℕ) → rankOf c ≡ r → (0 ≡ r → ⊥) → (3 ≡ r → ⊥) → c .state ≡ opened
+  -- and of no lower one
+  pub rank-lowest : (r k : ℕ) → rankOf c ≡ r → k < r → ready k c ≡ false
   unfolding rankOf
-  rank-open r e z t =
-      let p = not-first (readyControl c) _ _ _ e z in
-      eqb-true _ _ (not-false _ (not-first (not (eqb (c .state) opened)) _ _ _ (p .1) t .0))
+  rank-lowest r k e l = go k l (ready 0 c) refl (ready 1 c) refl (ready 2 c) refl e
+    where
+      go : (k : ℕ) → k < r → (x : Bool) → ready 0 c ≡ x → (y : Bool) → ready 1 c ≡ y → (z : Bool) → ready 2 c ≡ z
+          → (if x then 0 else if y then 1 else if z then 2 else 3) ≡ r
+          → ready k c ≡ false
+      go k l true p y q z s e = absurd (omega arith)
+      go zero l false p y q z s e = p
+      go (suc k) l false p true q z s e = absurd (omega arith)
+      go (suc zero) l false p false q z s e = q
+      go (suc (suc k)) l false p false q true s e = absurd (omega arith)
+      go (suc (suc zero)) l false p false q false s e = s
+      go (suc (suc (suc k))) l false p false q false s e = absurd (omega arith)
+
+  -- ranks 1 and 2 are of OPEN
+  pub rank-open : (r : ℕ) → rankOf c ≡ r → (0 ≡ r → ⊥) → (3 ≡ r → ⊥) → c .state ≡ opened
+  unfolding rankOf ready
+  rank-open r e z t = go (readyAgain c) refl (readyNew c) refl (not-first (readyControl c) _ _ _ e z .1)
+    where
+      go : (x : Bool) → readyAgain c ≡ x → (y : Bool) → readyNew c ≡ y → (if x then 1 else if y then 2 else 3) ≡ r → c .state ≡ opened
+      go true p y q e = eqb-true _ _ (both (eqb (c .state) opened) _ p .0)
+      go false p true q e = eqb-true _ _ (both (eqb (c .state) opened) _ q .0)
+      go false p false q e = absurd (t e)
 
   pub rank-1-is : rankOf c ≡ 1 → againAt c < c .window .flight
-  rank-1-is e = go (ltb (againAt c) (c .window .flight)) refl
-    where
-      two : (t : Bool) → _≡_ {A = ℕ} (if t then 2 else 3) 1 → ⊥
-      two true q = omega arith
-      two false q = omega arith
-
-      go : (t : Bool) → ltb (againAt c) (c .window .flight) ≡ t → againAt c < c .window .flight
-      go true p = ltb-true _ _ p
-      go false p = absurd (two (readyNew c) (sym (passed-by (ltb (againAt c) (c .window .flight)) _ _ p) ∙ below 1 e (λ q. omega arith) (λ q. omega arith)))
+  unfolding ready
+  rank-1-is e = ltb-true _ _ (both (eqb (c .state) opened) _ (rank-ready 1 e (omega arith)) .1)
 
   pub rank-2-is : rankOf c ≡ 2 → (c .window .flight < c .window .ahead) × (c .window .flight < c .limits .window)
+  unfolding ready
   rank-2-is e =
-      let p = not-first (ltb (againAt c) (c .window .flight)) _ _ _ (below 2 e (λ q. omega arith) (λ q. omega arith)) (λ q. omega arith) in
-      let q = both _ _ (go (readyNew c) (p .1)) in
+      let q = both _ _ (both (eqb (c .state) opened) (nextInWindow (c .limits) (c .window)) (rank-ready 2 e (omega arith)) .1) in
       (ltb-true _ _ (q .0), ltb-true _ _ (q .1))
-    where
-      go : (t : Bool) → _≡_ {A = ℕ} (if t then 2 else 3) 2 → t ≡ true
-      go true q = refl
-      go false q = absurd (omega arith)
 
 -- ---- transfer
 

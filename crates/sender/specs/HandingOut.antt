@@ -1,7 +1,7 @@
 -- Which packet of a channel is next, of what rank, and its hand-out (document 01, Sending: Control before resent Data before new Data; within a
 -- channel the lowest segment).
 use Prim.Native.Nat.{ℕ, zero, suc, _+_, _-_, _%_}
-use mathlib.Core.Bool.{Bool, not, _&&_, _||_}
+use mathlib.Core.Bool.{Bool, false, _&&_, _||_}
 use mathlib.Core.List.{List, []}
 use lib.Dec.{ltb, eqb}
 use lib.ListN.{length, getD, set}
@@ -12,6 +12,7 @@ use Rattle.packet.specs.declared.fields.Fields.{Fields}
 use Rattle.packet.specs.declared.writing.Written.the-variants as written
 use Rattle.packet.specs.Writing.{afterWrite}
 use Rattle.channel.specs.declared.record.Node.{Node}
+use Rattle.channel.specs.declared.record.Limits.{Limits}
 use Rattle.channel.specs.declared.record.Window.{Window}
 use Rattle.channel.specs.declared.record.Channel.{Channel}
 use Rattle.channel.specs.declared.step.Stepped.{Stepped}
@@ -21,7 +22,7 @@ use Rattle.channel.specs.Steps.{refusing, doing, outgoingOf}
 use Rattle.channel.specs.Lone.{isReady, handedOut}
 use Rattle.sender.specs.Directives.{placeAt}
 
--- ---- ready packets, by rank: 0 Control, 1 resent Data, 2 new Data; 3 nothing
+-- ---- ready packets, by rank: 0 Control, 1 resent Data, 2 new Data
 
 -- of n segments from a place on, how many there are before the first that is not acknowledged and whose timer has ended; n if none is so
 unfoldable pub againIn : List ℕ → List ℕ → ℕ → ℕ → ℕ → ℕ
@@ -34,20 +35,31 @@ againIn acked left slots (suc n) from =
 abbrev pub againAt : Channel → ℕ
 againAt c = againIn (c .acked) (c .timers .left) (c .limits .slots) (c .window .flight) (c .window .place)
 
+-- the Open in ENABLED, the Close in CLOSING
 abbrev pub readyControl : Channel → Bool
 readyControl c = (eqb (c .state) enabled || eqb (c .state) closing) && isReady (c .control)
 
--- only the k numbers from the window start may be sent
-abbrev pub readyNew : Channel → Bool
-readyNew c = ltb (c .window .flight) (c .window .ahead) && ltb (c .window .flight) (c .limits .window)
+abbrev pub readyAgain : Channel → Bool
+readyAgain c = eqb (c .state) opened && ltb (againAt c) (c .window .flight)
 
+-- there is a segment that was not yet handed out, and only the k numbers from the window start may be sent
+abbrev pub nextInWindow : Limits → Window → Bool
+nextInWindow l w = ltb (w .flight) (w .ahead) && ltb (w .flight) (l .window)
+
+abbrev pub readyNew : Channel → Bool
+readyNew c = eqb (c .state) opened && nextInWindow (c .limits) (c .window)
+
+-- a packet of this rank is ready
+unfoldable pub ready : ℕ → Channel → Bool
+ready rank c =
+    if eqb rank 0 then readyControl c
+    else if eqb rank 1 then readyAgain c
+    else if eqb rank 2 then readyNew c
+    else false
+
+-- the lowest rank of which a packet is ready; 3 if none is
 unfoldable pub rankOf : Channel → ℕ
-rankOf c =
-    if readyControl c then 0
-    else if not (eqb (c .state) opened) then 3
-    else if ltb (againAt c) (c .window .flight) then 1
-    else if readyNew c then 2
-    else 3
+rankOf c = if ready 0 c then 0 else if ready 1 c then 1 else if ready 2 c then 2 else 3
 
 -- ---- the hand-out of the packet of a rank
 

@@ -24,13 +24,13 @@ use packet::fields::WHOLE;
 ghost use mathlib.Core.Path.{_≡_};
 ghost use mathlib.Core.Bool.{_&&_, _||_};
 ghost use Prim.Native.Nat.{_+_, _-_, _<_, _≤_};
-ghost use lib.Dec.{ltb, eqb};
+ghost use lib.Dec.{eqb};
 ghost use lib.ListN.{length, getD};
 ghost use Rattle.channel.specs.Record.{enabled, closing};
 ghost use Rattle.channel.specs.Lone.{isReady};
 ghost use Rattle.sender.specs.Asked.{Ringed, Asked, Ready, Plain};
 ghost use Rattle.sender.specs.Directives.{placeAt};
-ghost use Rattle.sender.specs.HandingOut.{againIn, againAt, rankOf, controlFields, dataFields, sentStep, sentOut, timedAt, controlOut, againOut, newOut, handStep, handOut};
+ghost use Rattle.sender.specs.HandingOut.{againIn, againAt, nextInWindow, rankOf, controlFields, dataFields, sentStep, sentOut, timedAt, controlOut, againOut, newOut, handStep, handOut};
 ghost use mathlib.Core.List.{[]};
 ghost use Rattle.laws.specs.Choice.{if_then_else_};
 ghost use Rattle.slots.specs.Slots.{slotOf, segmentIn};
@@ -86,7 +86,7 @@ fn is_control_ready(state: u8, control: Lone) -> bool
 
 // Only the k numbers from the window start may be sent.
 fn is_new_ready(l: Limits, w: Window) -> bool
-    ensures { λ r. ⌜ r ≡ (ltb (w .flight) (w .ahead) && ltb (w .flight) (l .window)) ⌝ }
+    ensures { λ r. ⌜ r ≡ nextInWindow l w ⌝ }
 {
     if w.ahead <= w.flight {
         return false;
