@@ -18,6 +18,8 @@ use Rattle.laws.proofs.Choice.{both}
 use Rattle.channel.specs.declared.record.Limits.{Limits}
 use Rattle.channel.specs.declared.record.Window.{Window}
 use Rattle.channel.specs.Standing.{inRing, inFlight, marked, oldestOf, slotFit, slotsFit, standing, Standing, Counted}
+use Rattle.channel.specs.Asked.{Ringed}
+use Rattle.channel.proofs.SettingsLaws.{fit-is}
 
 module _ (slot : ℕ → ℕ) (sending : Bool) (most : ℕ) (marks lens : List ℕ) where
   pub slots-none : (n i : ℕ) → n ≤ i → slotsFit slot sending most marks lens (n - i) i ≡ true
@@ -87,6 +89,23 @@ counted-is l w r f =
       window = leb-true _ _ (p3 .1);
       way = leb-true _ _ (p2 .1);
       unit = ltb-true _ _ (p .1);
+    }
+
+-- what the steps ask of the numbers
+pub ringed : (c : Channel) (lens : List ℕ) → Standing c lens → Ringed (c .limits) (c .window)
+ringed c lens h =
+    let f = fit-is (c .limits) (h .fit) in
+    let n = counted-is (c .limits) (c .window) (h .ring) (h .flight) in
+    record {
+      window = f .window;
+      most = f .most;
+      octet = f .octet;
+      segments = f .segments;
+      place = n .place;
+      behind = omega (arith, n .held);
+      ahead = omega (arith, n .held);
+      flight = n .flight;
+      way = n .way;
     }
 
 pub stands-is : (c : Channel) (lens : List ℕ) → standing c lens ≡ true → Standing c lens

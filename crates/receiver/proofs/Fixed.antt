@@ -10,7 +10,8 @@ use Rattle.channel.specs.declared.record.Channel.{Channel}
 use Rattle.channel.specs.declared.step.Stepped.{Stepped}
 use Rattle.channel.specs.Record.{receives, withWindow}
 use Rattle.channel.specs.Standing.{Standing}
-use Rattle.receiver.specs.Asked.{Asked, DataAsked}
+use Rattle.channel.specs.Asked.{Asked}
+use Rattle.receiver.specs.Asked.{DataAsked}
 use Rattle.receiver.specs.Sorting.{placeAt}
 use Rattle.receiver.specs.Moving.{movedOf}
 use Rattle.receiver.specs.Receiving.{leaving, shutFor, openStep, controlStep, marking, acceptStep, awayOf, dataStep, dataMem, dataLens, tickStep}

@@ -1,7 +1,6 @@
 pub mod SortLaws
 pub mod MoveLaws
 pub mod StepLaws
-pub mod AskedLaws
 pub mod TakeLaws
 pub mod Rings
 pub mod Receivers

@@ -16,7 +16,7 @@ use Rattle.channel.specs.declared.record.Limits.{Limits}
 use Rattle.channel.specs.declared.record.Window.{Window}
 use Rattle.channel.specs.declared.record.Channel.{Channel}
 use Rattle.receiver.specs.declared.moving.Moved.{Moved}
-use Rattle.receiver.specs.Asked.{Ringed}
+use Rattle.channel.specs.Asked.{Ringed}
 use Rattle.receiver.specs.Moving.{fitting, wayAfter, passed, movedBy, movedOf}
 use Rattle.receiver.specs.Receiving.{marking}
 
@@ -112,8 +112,12 @@ pass-ringed l w mark h r =
     record {
       window = r .window;
       most = r .most;
+      octet = r .octet;
+      segments = r .segments;
       place = round-lt (l .slots) (w .place + 1) (omega arith);
       behind = omega arith;
+      ahead = r .ahead;
+      flight = r .flight;
       way = omega (arith, way-le (w .way) mark);
     }
 

@@ -22,7 +22,7 @@ use Rattle.channel.specs.Record.{sends}
 use Rattle.channel.specs.Standing.{Standing, oldestOf, slotFit}
 use Rattle.channel.specs.Steps.{refusing, doing}
 use Rattle.receiver.specs.Taking.{completeIn, unitAt, sizeAt, dropped, takeStep, takeOut}
-use Rattle.receiver.proofs.AskedLaws.{ringed}
+use Rattle.channel.proofs.StandingLaws.{ringed}
 
 -- a slot in use has at most P octets
 pub fit-length : (sending : Bool) (most mark len : ℕ) → slotFit sending most mark len ≡ true → (mark ≡ 0 → ⊥) → len ≤ most

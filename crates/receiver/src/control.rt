@@ -17,7 +17,7 @@ use channel::step::done;
 use channel::step::enabled;
 use channel::step::refused;
 ghost use mathlib.Core.Path.{_≡_};
-ghost use Rattle.receiver.specs.Asked.{Ringed};
+ghost use Rattle.channel.specs.Asked.{Ringed};
 ghost use Rattle.receiver.specs.Receiving.{openStep, closeStep, openArrives, closeArrives, controlStep};
 
 // An Open directive. Units that are not yet taken would be lost: they refuse it.

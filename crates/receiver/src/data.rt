@@ -16,7 +16,8 @@ use channel::step::done;
 use channel::step::refused;
 ghost use mathlib.Core.Path.{_≡_};
 ghost use Prim.Native.Nat.{_<_};
-ghost use Rattle.receiver.specs.Asked.{Ringed, DataAsked};
+ghost use Rattle.channel.specs.Asked.{Ringed};
+ghost use Rattle.receiver.specs.Asked.{DataAsked};
 ghost use Rattle.receiver.specs.Receiving.{marking, acceptStep, dataBy, memBy, lensBy, dataStep, dataMem, dataLens};
 ghost use Rattle.receiver.specs.declared.sorting.Sort.the-variants as sort;
 

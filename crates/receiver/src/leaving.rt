@@ -5,7 +5,7 @@ use channel::Stepped;
 use channel::record::CLOSED;
 ghost use mathlib.Core.Path.{_≡_};
 ghost use Rattle.channel.specs.Steps.{repeating, failing};
-ghost use Rattle.receiver.specs.Asked.{Ringed};
+ghost use Rattle.channel.specs.Asked.{Ringed};
 ghost use Rattle.receiver.specs.Receiving.{ackLength, leaving, shutFor};
 
 // The octets of an ack.

@@ -8,7 +8,7 @@ ghost use Prim.Native.Nat.{_+_, _%_, _≤_};
 ghost use lib.Dec.{eqb};
 ghost use Rattle.laws.specs.Choice.{if_then_else_};
 ghost use Rattle.slots.specs.Marks.{begins};
-ghost use Rattle.receiver.specs.Asked.{Ringed};
+ghost use Rattle.channel.specs.Asked.{Ringed};
 ghost use Rattle.receiver.specs.Moving.{fitting, wayAfter, passed, movedOf};
 
 // The window after the move, and whether the flags broke it off.

@@ -3,7 +3,7 @@ use channel::Limits;
 use channel::Window;
 ghost use mathlib.Core.Path.{_≡_};
 ghost use Prim.Native.Nat.{_<_};
-ghost use Rattle.receiver.specs.Asked.{Ringed};
+ghost use Rattle.channel.specs.Asked.{Ringed};
 ghost use Rattle.receiver.specs.Sorting.{distance, isHeld, sortAt};
 
 pub enum Sort {

@@ -7,7 +7,7 @@ use channel::step::refused;
 ghost use mathlib.Core.Path.{_≡_};
 ghost use Prim.Native.Nat.{_≤_};
 ghost use lib.ListN.{length};
-ghost use Rattle.receiver.specs.Asked.{Ringed, Asked};
+ghost use Rattle.channel.specs.Asked.{Ringed, Asked};
 ghost use Rattle.channel.specs.Standing.{oldestOf};
 ghost use Rattle.receiver.specs.Taking.{dropped, takeStep, takeOut};
 

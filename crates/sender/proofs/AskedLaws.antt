@@ -22,19 +22,13 @@ use Rattle.channel.specs.declared.record.Channel.{Channel}
 use Rattle.channel.specs.Record.{sends}
 use Rattle.channel.specs.Standing.{slotFit, Standing}
 use Rattle.channel.specs.Steps.{outgoingOf}
-use Rattle.channel.proofs.SettingsLaws.{fit-is}
-use Rattle.channel.proofs.StandingLaws.{counted-is}
-use Rattle.sender.specs.Asked.{Ringed, Asked, Plain}
+use Rattle.channel.proofs.StandingLaws.{counted-is, ringed}
+use Rattle.channel.specs.Asked.{Asked}
+use Rattle.sender.specs.Asked.{Plain}
 use Rattle.sender.specs.Directives.{placeAt}
 use Rattle.sender.specs.HandingOut.{dataFields, sentStep, sentOut}
 use Rattle.sender.proofs.StepLaws.{data-plain}
 use Rattle.sender.proofs.Keeps.{from-oldest}
-
-pub ringed : (c : Channel) (lens : List ℕ) → Standing c lens → Ringed (c .limits) (c .window)
-ringed c lens h =
-    let f = fit-is (c .limits) (h .fit) in
-    let n = counted-is (c .limits) (c .window) (h .ring) (h .flight) in
-    record { most = f .most; octet = f .octet; segments = f .segments; place = n .place; held = n .held; flight = n .flight }
 
 -- a marked slot that fits has a mark up to 4, and at most P octets
 pub slot-bounds : (sending : Bool) (most mark len : ℕ) → slotFit sending most mark len ≡ true → (mark ≡ 0 → ⊥) → (mark ≤ 4) × (len ≤ most)
@@ -59,9 +53,9 @@ module _ (c : Channel) (lens : List ℕ) (h : Standing c lens) (i : ℕ) (l : i 
 
   pub mark-set : getD (c .marks) (placeAt c i) 0 ≡ 0 → ⊥
   mark-set z =
-      let r = ringed c lens h in
+      let k = counted-is (c .limits) (c .window) (h .ring) (h .flight) in
       h .held (c .window .behind + i) (omega arith)
-      (ap (λ (k : ℕ). getD (c .marks) k 0) (from-oldest (c .limits .slots) (c .window) i (r .place) (omega arith)) ∙ z)
+      (ap (λ (k : ℕ). getD (c .marks) k 0) (from-oldest (c .limits .slots) (c .window) i (k .place) (omega arith)) ∙ z)
 
   pub mark-fits : (getD (c .marks) (placeAt c i) 0 ≤ 4) × (getD lens (slotOf (placeAt c i)) 0 ≤ c .limits .payload)
   mark-fits = slot-bounds (eqb (c .addresses .direction) sends) (c .limits .payload) (getD (c .marks) (placeAt c i) 0) (getD lens (slotOf (placeAt c i)) 0) (h .slots (placeAt c i) place-lt) mark-set

@@ -8,16 +8,16 @@ use lib.Dec.{ltb, eqb}
 use lib.ListN.{length}
 use Rattle.laws.specs.Choice.{if_then_else_}
 use Rattle.slots.specs.Slots.{Sized}
-use Rattle.channel.specs.declared.record.Addresses.{Addresses}
 use Rattle.channel.specs.declared.record.Limits.{Limits}
 use Rattle.channel.specs.declared.record.Lone.{Lone}
 use Rattle.channel.specs.declared.record.Channel.{Channel}
 use Rattle.channel.specs.declared.step.Stepped.{Stepped}
-use Rattle.channel.specs.Record.{closed, enabled, opened, closing, retriesOut, noLone, heldIn}
+use Rattle.channel.specs.Record.{sends, closed, enabled, opened, closing, retriesOut, noLone, heldIn}
 use Rattle.channel.specs.Lone.{readyLone, isOut, fallen}
 use Rattle.channel.specs.Standing.{Standing}
 use Rattle.sender.specs.declared.ticking.Ticked.{Ticked}
-use Rattle.sender.specs.Asked.{Asked, Ready}
+use Rattle.channel.specs.Asked.{Asked}
+use Rattle.sender.specs.Asked.{Ready}
 use Rattle.sender.specs.Directives.{parked, shutFor, openStep, closeStep}
 use Rattle.sender.specs.Transfer.{isAccepted, transferStep, transferMem, transferLens}
 use Rattle.sender.specs.HandingOut.{controlOut, againOut, newOut, nextOut, nextLength, handStep}
@@ -123,40 +123,38 @@ again c k mem lens a f h =
     record {
       standing = h;
       sized = subst (λ (l : Limits). Sized (l .slots) (l .payload) mem lens) (sym (f .1)) (a .sized);
-      sending = ap (λ (x : Addresses). x .direction) (f .0) ∙ a .sending;
     }
 
-module _ (c : Channel) (mem lens : List ℕ) (a : Asked c mem lens) where
+module _ (c : Channel) (mem lens : List ℕ) (a : Asked c mem lens) (s : c .addresses .direction ≡ sends) where
   pub open-asked : Asked (openStep c .channel) mem lens
   open-asked = again c (openStep c .channel) mem lens a (open-fixed c) (open-stands c lens (a .standing))
 
   pub close-asked : Asked (closeStep c .channel) mem lens
-  close-asked = again c (closeStep c .channel) mem lens a (close-fixed c) (close-stands c lens (a .standing) (a .sending))
+  close-asked = again c (closeStep c .channel) mem lens a (close-fixed c) (close-stands c lens (a .standing) s)
 
   pub tick-asked : Asked (tickStep c .channel) mem lens
-  tick-asked = again c (tickStep c .channel) mem lens a (tick-fixed c) (tick-stands c lens (a .standing) (a .sending))
+  tick-asked = again c (tickStep c .channel) mem lens a (tick-fixed c) (tick-stands c lens (a .standing) s)
 
   pub hand-asked : (rank n : ℕ) → Ready c rank → Asked (handStep c lens rank n .channel) mem lens
-  hand-asked rank n r = again c (handStep c lens rank n .channel) mem lens a (hand-fixed c lens rank n) (hand-stands c lens rank n (a .standing) (a .sending) r)
+  hand-asked rank n r = again c (handStep c lens rank n .channel) mem lens a (hand-fixed c lens rank n) (hand-stands c lens rank n (a .standing) s r)
 
   pub control-ack-asked : (number : ℕ) → Asked (controlAckStep c number .channel) mem lens
   control-ack-asked number =
-      again c (controlAckStep c number .channel) mem lens a (control-ack-fixed c number) (control-ack-stands c lens number (a .standing) (a .sending))
+      again c (controlAckStep c number .channel) mem lens a (control-ack-fixed c number) (control-ack-stands c lens number (a .standing) s)
 
   pub data-ack-asked : (number : ℕ) → Asked (dataAckStep c number .channel) mem lens
   data-ack-asked number =
-      again c (dataAckStep c number .channel) mem lens a (data-ack-fixed c number) (data-ack-stands c lens number (a .standing) (a .sending))
+      again c (dataAckStep c number .channel) mem lens a (data-ack-fixed c number) (data-ack-stands c lens number (a .standing) s)
 
   pub reclaim-asked : (n : ℕ) → Asked (reclaimStep c lens n .channel) mem lens
-  reclaim-asked n = again c (reclaimStep c lens n .channel) mem lens a (reclaim-fixed c lens n) (reclaim-stands c lens n (a .standing) (a .sending))
+  reclaim-asked n = again c (reclaimStep c lens n .channel) mem lens a (reclaim-fixed c lens n) (reclaim-stands c lens n (a .standing) s)
 
   pub transfer-asked : (u : List ℕ) → length (c .marks) ≡ 128
       → Asked (transferStep c (length u) .channel) (transferMem c u mem) (transferLens c u lens)
   transfer-asked u wide =
       let f = transfer-fixed c u in
       record {
-        standing = transfer-stands c u lens wide (a .standing) (a .sending);
+        standing = transfer-stands c u lens wide (a .standing) s;
         sized = subst (λ (l : Limits). Sized (l .slots) (l .payload) (transferMem c u mem) (transferLens c u lens)) (sym (f .1))
             (transfer-sized c u mem lens (a .standing) (a .sized));
-        sending = ap (λ (x : Addresses). x .direction) (f .0) ∙ a .sending;
       }

@@ -10,7 +10,7 @@ use Rattle.channel.specs.declared.record.Channel.{Channel}
 use Rattle.channel.specs.Standing.{Standing}
 use Rattle.sender.specs.Directives.{placeAt}
 use Rattle.sender.specs.Acks.{runAt}
-use Rattle.sender.proofs.AskedLaws.{ringed}
+use Rattle.channel.proofs.StandingLaws.{ringed}
 
 module _ (c : Channel) (lens : List ℕ) (h : Standing c lens) where
   pub passed-acked : (i : ℕ) → i < runAt c → (i < c .window .flight) × (getD (c .acked) (placeAt c i) 0 ≡ 0 → ⊥)
@@ -18,10 +18,10 @@ module _ (c : Channel) (lens : List ℕ) (h : Standing c lens) where
       let r = ringed c lens h in
       let b = run-le (c .acked) (c .limits .slots) (c .window .flight) (c .window .place) in (
         omega arith,
-        run-set (c .acked) (c .limits .slots) (c .window .flight) (c .window .place) i (r .place) (omega (arith, r .flight, r .held)) l,
+        run-set (c .acked) (c .limits .slots) (c .window .flight) (c .window .place) i (r .place) (omega (arith, r .flight, r .ahead)) l,
       )
 
   pub stops-unacked : runAt c < c .window .flight → getD (c .acked) (placeAt c (runAt c)) 0 ≡ 0
   stops-unacked l =
       let r = ringed c lens h in
-      run-ends (c .acked) (c .limits .slots) (c .window .flight) (c .window .place) (r .place) (omega (arith, r .flight, r .held)) l
+      run-ends (c .acked) (c .limits .slots) (c .window .flight) (c .window .place) (r .place) (omega (arith, r .flight, r .ahead)) l

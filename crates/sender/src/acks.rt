@@ -20,7 +20,7 @@ ghost use mathlib.Core.Bool.{_||_};
 ghost use lib.Dec.{eqb};
 ghost use Rattle.channel.specs.Record.{enabled, closing};
 ghost use Prim.Native.Nat.{_+_, _-_, _%_, _<_, _≤_};
-ghost use Rattle.sender.specs.Asked.{Ringed};
+ghost use Rattle.channel.specs.Asked.{Ringed};
 ghost use Rattle.sender.specs.Directives.{placeAt};
 ghost use Rattle.sender.specs.Acks.{controlAcked, controlAckStep, isAwaited, recorded, runAt, movedWindow, freedMarks, advanced, dataAckStep};
 
@@ -110,7 +110,7 @@ fn note(c: Channel, place: usize, d: usize) -> Channel
 // The window, n further on, of which `done` are of units that are confirmed. What is passed of an unconfirmed unit stays behind
 // the start, so that the unit can be reclaimed whole.
 fn moved_window(w: Window, place: usize, n: usize, done: usize) -> Window
-    requires { ⌜ (n ≤ w .flight) × (w .flight ≤ w .ahead) × (done ≤ n) × (w .behind + w .ahead ≤ 128) ⌝ }
+    requires { ⌜ (n ≤ w .flight) × (w .flight ≤ w .ahead) × (done ≤ n) × (w .behind ≤ 128) × (w .ahead ≤ 128) ⌝ }
     ensures { λ r. ⌜ r ≡ movedWindow w place n done ⌝ }
 {
     let start = std::num::wrapping_add_u8(w.start, n as u8);

@@ -14,7 +14,7 @@ use channel::step::refused;
 ghost use mathlib.Core.Path.{_≡_};
 ghost use Rattle.channel.specs.Record.{noLone};
 ghost use Rattle.channel.specs.Lone.{readyLone};
-ghost use Rattle.sender.specs.Asked.{Ringed};
+ghost use Rattle.channel.specs.Asked.{Ringed};
 ghost use Rattle.sender.specs.Directives.{parked, shutFor, openStep, closeStep};
 
 // A packet that becomes ready, and none.

@@ -8,7 +8,7 @@ use channel::step::refused;
 ghost use mathlib.Core.Path.{_≡_};
 ghost use Prim.Native.Nat.{_≤_};
 ghost use lib.ListN.{length};
-ghost use Rattle.sender.specs.Asked.{Ringed, Asked};
+ghost use Rattle.channel.specs.Asked.{Ringed, Asked};
 ghost use Rattle.sender.specs.Reclaiming.{dropped, reclaimStep, reclaimOut};
 
 // The oldest n segments are gone, and their slots are free.

@@ -10,7 +10,7 @@ use channel::record::RETRIES;
 ghost use mathlib.Core.Path.{_≡_};
 ghost use mathlib.Core.List.{map};
 ghost use Rattle.channel.specs.Lone.{fallen};
-ghost use Rattle.sender.specs.Asked.{Ringed};
+ghost use Rattle.channel.specs.Asked.{Ringed};
 ghost use Rattle.sender.specs.Ticking.{lowered, spentNow, anySpent, controlTick, dataTick, tickStep};
 
 // The channel after a tick, and whether it went inactive in it.

@@ -7,7 +7,7 @@ use channel::step::done;
 use channel::step::refused;
 ghost use mathlib.Core.Path.{_≡_};
 ghost use lib.ListN.{length};
-ghost use Rattle.sender.specs.Asked.{Ringed, Asked};
+ghost use Rattle.channel.specs.Asked.{Ringed, Asked};
 ghost use Rattle.sender.specs.Transfer.{wouldTransfer, isAccepted, transferStep, transferMem, transferLens};
 
 // What a transfer of n octets would answer. It is a question: the channel is as it was.

@@ -3,7 +3,7 @@
 use mathlib.Core.Path.{sym, ap, _∙_}
 use Prim.Native.Nat.{ℕ}
 use native.Mathlib.Omega.{arith}
-use Rattle.receiver.proofs.AskedLaws.{ringed}
+use Rattle.channel.proofs.StandingLaws.{ringed}
 use Rattle.receiver.specs.declared.sorting.Sort.the-variants.{New, Held, Behind, Other}
 use Rattle.receiver.specs.Sorting.{sortAt}
 use Rattle.receiver.specs.Receiving.{dataBy, memBy, lensBy}

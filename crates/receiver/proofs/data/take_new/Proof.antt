@@ -8,7 +8,7 @@ use Rattle.ring.proofs.Laws.{round-lt}
 use Rattle.slots.specs.Slots.{slotOf, laid}
 use Rattle.slots.proofs.Laws.{slot-bound}
 use Rattle.receiver.specs.Receiving.{acceptStep}
-use Rattle.receiver.proofs.AskedLaws.{ringed}
+use Rattle.channel.proofs.StandingLaws.{ringed}
 use Rattle.receiver.proofs.StepLaws.{new-full, full-mem, full-lens, new-accepted, new-mem, new-lens}
 use borrow.Author.Needs.{needs}
 use Rattle.receiver.proofs.data.take_new.Statement.{statement}

@@ -10,7 +10,7 @@ use Rattle.store.specs.Store.{unitOf}
 use Rattle.channel.specs.declared.record.Channel.{Channel}
 use Rattle.channel.specs.Steps.{doing}
 use Rattle.receiver.specs.Taking.{completeIn, unitAt, sizeAt, dropped}
-use Rattle.receiver.proofs.AskedLaws.{ringed}
+use Rattle.channel.proofs.StandingLaws.{ringed}
 use Rattle.receiver.proofs.TakeLaws.{each-fits, take-nothing, take-small, take-done, out-nothing, out-small, out-done, unit-is, size-is, octets-are, unit-behind}
 use borrow.Author.Needs.{needs}
 use Rattle.receiver.proofs.taking.take_step.Statement.{statement}

@@ -23,7 +23,7 @@ add-round c =
     let a = c .before .before .before .args .c in
     let p = c .before .before .before .pre in
     let b = run-le (a .acked) (a .limits .slots) (a .window .flight) (a .window .place) in
-    omega (arith, p .1, p .0 .most, p .0 .place, p .0 .flight, p .0 .held)
+    omega (arith, p .1, p .0 .most, p .0 .place, p .0 .flight, p .0 .ahead)
 
 round-requires : tie.Need-round-requires
 round-requires c κs = search needs
@@ -42,7 +42,7 @@ moved-window-requires c κs =
     let p = c .before .before .before .before .before .pre in
     let b = run-le (a .acked) (a .limits .slots) (a .window .flight) (a .window .place) in
     let d = last-le (a .marks) (a .limits .slots) (c .before .before .before .before .before .args .n) (a .window .place) in
-    (omega (arith, p .1), p .0 .flight, omega (arith, c .before .before .before .last-end-in .ensures), omega (arith, p .0 .held, p .0 .most))
+    (omega (arith, p .1), p .0 .flight, omega (arith, c .before .before .before .last-end-in .ensures), omega (arith, p .0 .behind, p .0 .most), omega (arith, p .0 .ahead, p .0 .most))
 
 returns : tie.Need-returns
 returns c =

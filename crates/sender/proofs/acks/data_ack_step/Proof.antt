@@ -9,7 +9,7 @@ use mathlib.Core.Path.{subst}
 use mathlib.Core.Bool.{false}
 use Rattle.ring.specs.Ring.{runOf}
 use Rattle.ring.proofs.Laws.{round-lt}
-use Rattle.sender.specs.Asked.{Ringed}
+use Rattle.channel.specs.Asked.{Ringed}
 use Rattle.sender.specs.Acks.{awayOf, isAwaited}
 use Rattle.sender.proofs.StepLaws.{data-ack-state, data-ack-ignored, data-ack-is, awaited-sent}
 use borrow.Author.Needs.{needs}
@@ -64,7 +64,7 @@ note-requires c κs =
     let yes′ = sym (c .before .before .is-awaited .ensures) ∙ not-false _ (c .before .if2 .left) in
     let sent = awaited-sent (c .before .before .before .before .before .before .args .c) _ yes′ in
     let p = c .before .before .before .before .before .before .pre in
-    let l = round-lt (c .before .before .before .before .before .before .args .c .limits .slots) (c .before .before .before .before .before .before .args .c .window .place + c .before .before .before .away .result) (omega (arith, p .place, p .flight, p .held)) in
+    let l = round-lt (c .before .before .before .before .before .before .args .c .limits .slots) (c .before .before .before .before .before .before .args .c .window .place + c .before .before .before .away .result) (omega (arith, p .place, p .flight, p .ahead)) in
     (c .round .ensures, omega (arith, c .round .ensures, p .most))
 
 run-requires : tie.Need-run-requires

@@ -25,13 +25,13 @@ round-requires c κs = search needs
 mul-lower : tie.Need-mul-lower
 mul-lower c =
     let p = c .before .before .before .pre in
-    let f = round-lt (c .before .before .before .args .c .limits .slots) (c .before .before .before .args .c .window .place + c .before .before .before .args .i) (omega (arith, p .0 .place, p .0 .held, p .0 .flight, p .2)) in
+    let f = round-lt (c .before .before .before .args .c .limits .slots) (c .before .before .before .args .c .window .place + c .before .before .before .args .i) (omega (arith, p .0 .place, p .0 .ahead, p .0 .flight, p .2)) in
     omega (arith, c .before .round .ensures, p .0 .most)
 
 array-read-lower : tie.Need-array-read-lower
 array-read-lower c =
     let p = c .before .before .before .pre in
-    let f = round-lt (c .before .before .before .args .c .limits .slots) (c .before .before .before .args .c .window .place + c .before .before .before .args .i) (omega (arith, p .0 .place, p .0 .held, p .0 .flight, p .2)) in
+    let f = round-lt (c .before .before .before .args .c .limits .slots) (c .before .before .before .args .c .window .place + c .before .before .before .args .i) (omega (arith, p .0 .place, p .0 .ahead, p .0 .flight, p .2)) in
     omega (arith, c .before .round .ensures, p .0 .most)
 
 lower-requires : tie.Need-lower-requires
@@ -40,7 +40,7 @@ lower-requires c κs = search needs
 start-timer-requires : tie.Need-start-timer-requires
 start-timer-requires c κs =
     let p = c .before .before .before .before .pre in
-    let f = round-lt (c .before .before .before .before .args .c .limits .slots) (c .before .before .before .before .args .c .window .place + c .before .before .before .before .args .i) (omega (arith, p .0 .place, p .0 .held, p .0 .flight, p .2)) in
+    let f = round-lt (c .before .before .before .before .args .c .limits .slots) (c .before .before .before .before .args .c .window .place + c .before .before .before .before .args .i) (omega (arith, p .0 .place, p .0 .ahead, p .0 .flight, p .2)) in
     omega (arith, c .before .before .round .ensures, p .0 .most)
 
 returns : tie.Need-returns

@@ -4,7 +4,8 @@ use mathlib.Core.Path.{_∙_}
 use Prim.Native.Nat.{_-_}
 use native.Mathlib.Omega.{arith}
 use lib.ListN.{length}
-use Rattle.sender.proofs.AskedLaws.{ringed, lying, part-plain, part-step, part-out}
+use Rattle.channel.proofs.StandingLaws.{ringed}
+use Rattle.sender.proofs.AskedLaws.{lying, part-plain, part-step, part-out}
 use borrow.Author.Needs.{needs}
 use Rattle.sender.proofs.handing.hand_data.Statement.{statement}
 use Rattle.sender.proofs.handing.hand_data.Tie as tie
@@ -20,7 +21,7 @@ add-round : tie.Need-add-round
 add-round c =
     let p = c .before .before .before .before .pre in
     let r = ringed (c .before .before .before .before .args .c) (c .before .before .before .before .args .lens .now) (p .0 .standing) in
-    omega (arith, r .place, r .held, r .most, p .1)
+    omega (arith, r .place, r .ahead, r .most, p .1)
 
 round-requires : tie.Need-round-requires
 round-requires c κs = search needs
@@ -32,7 +33,7 @@ cast-wrapping-add-u8 : tie.Need-cast-wrapping-add-u8
 cast-wrapping-add-u8 c =
     let p = c .before .before .before .before .before .before .before .pre in
     let r = ringed (c .before .before .before .before .before .before .before .args .c) (c .before .before .before .before .before .before .before .args .lens .now) (p .0 .standing) in
-    omega (arith, r .held, r .most, p .1)
+    omega (arith, r .ahead, r .most, p .1)
 
 wrapping-add-u8-requires : tie.Need-wrapping-add-u8-requires
 wrapping-add-u8-requires c κs = search needs

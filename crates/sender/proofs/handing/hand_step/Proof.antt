@@ -8,7 +8,8 @@ use lib.ListN.{length, getD}
 use Rattle.slots.specs.Slots.{slotOf, segmentIn}
 use Rattle.sender.specs.Directives.{placeAt}
 use Rattle.sender.specs.HandingOut.{againAt, dataFields, sentStep, sentOut, handStep, handOut}
-use Rattle.sender.proofs.AskedLaws.{ringed, segment-sized}
+use Rattle.channel.proofs.StandingLaws.{ringed}
+use Rattle.sender.proofs.AskedLaws.{segment-sized}
 use Rattle.sender.proofs.StepLaws.{rank-1-is, rank-2-is, hand-control, hand-again, hand-new, out-control, out-again, out-new}
 use borrow.Author.Needs.{needs}
 use Rattle.sender.proofs.handing.hand_step.Statement.{statement}

@@ -27,7 +27,7 @@ add-flight c = search needs
 start-timer-requires : tie.Need-start-timer-requires
 start-timer-requires c κs =
     let p = c .before .before .before .pre in
-    let f = round-lt (c .before .before .before .args .c .limits .slots) (c .before .before .before .args .c .window .place + c .before .before .before .args .c .window .flight) (omega (arith, p .0 .place, p .0 .held, p .0 .flight, p .1)) in
+    let f = round-lt (c .before .before .before .args .c .limits .slots) (c .before .before .before .args .c .window .place + c .before .before .before .args .c .window .flight) (omega (arith, p .0 .place, p .0 .ahead, p .0 .flight, p .1)) in
     omega (arith, c .before .round .ensures, p .0 .most)
 
 returns : tie.Need-returns

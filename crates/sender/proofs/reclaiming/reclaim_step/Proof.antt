@@ -6,7 +6,8 @@ use native.Mathlib.Omega.{arith}
 use Rattle.channel.specs.declared.record.Channel.{Channel}
 use Rattle.channel.specs.Steps.{doing}
 use Rattle.store.proofs.Laws.{unit-le}
-use Rattle.sender.proofs.AskedLaws.{ringed, unit-fits}
+use Rattle.channel.proofs.StandingLaws.{ringed}
+use Rattle.sender.proofs.AskedLaws.{unit-fits}
 use Rattle.sender.proofs.StepLaws.{reclaim-state, reclaim-state-out, reclaim-none, reclaim-none-out, reclaim-small, reclaim-small-out, reclaim-done, reclaim-done-out}
 use borrow.Author.Needs.{needs}
 use Rattle.sender.proofs.reclaiming.reclaim_step.Statement.{statement}
@@ -46,7 +47,7 @@ size-in-requires : tie.Need-size-in-requires
 size-in-requires c κs =
     let p = c .before .before .before .before .before .before .before .before .pre in
     let r = ringed (c .before .before .before .before .before .before .before .before .args .c) (c .before .before .before .before .before .before .before .before .args .lens .now) (p .standing) in
-    (r .place, omega (arith, p .standing .count), omega (arith, c .unit-of .ensures, unit-le (c .before .before .before .before .before .before .before .before .args .c .marks) (c .before .before .before .before .before .before .before .before .args .c .limits .slots) (c .before .before .before .before .before .before .before .before .args .c .window .ahead) (c .before .before .before .before .before .before .before .before .args .c .window .place), r .held, r .most))
+    (r .place, omega (arith, p .standing .count), omega (arith, c .unit-of .ensures, unit-le (c .before .before .before .before .before .before .before .before .args .c .marks) (c .before .before .before .before .before .before .before .before .args .c .limits .slots) (c .before .before .before .before .before .before .before .before .args .c .window .ahead) (c .before .before .before .before .before .before .before .before .args .c .window .place), r .ahead, r .most))
 
 refused-requires-3 : tie.Need-refused-requires-3
 refused-requires-3 c κs = search needs
@@ -62,7 +63,7 @@ gather-requires c κs =
     let r = ringed (c .before .before .before .before .before .before .before .before .before .before .before .args .c) (c .before .before .before .before .before .before .before .before .before .before .before .args .lens .now) (p .standing) in
     let n = c .before .before .before .unit-of .result in
     let b : n ≤ c .before .before .before .before .before .before .before .before .before .before .before .args .c .window .ahead = omega (arith, c .before .before .before .unit-of .ensures, unit-le (c .before .before .before .before .before .before .before .before .before .before .before .args .c .marks) (c .before .before .before .before .before .before .before .before .before .before .before .args .c .limits .slots) (c .before .before .before .before .before .before .before .before .before .before .before .args .c .window .ahead) (c .before .before .before .before .before .before .before .before .before .before .before .args .c .window .place)) in
-    (p .sized, ((r .place, omega (arith, r .held), omega (arith, c .before .before .size-in .ensures, c .before .if3 .left)), unit-fits (c .before .before .before .before .before .before .before .before .before .before .before .args .c) (c .before .before .before .before .before .before .before .before .before .before .before .args .mem .now) (c .before .before .before .before .before .before .before .before .before .before .before .args .lens .now) p n b))
+    (p .sized, ((r .place, omega (arith, r .ahead), omega (arith, c .before .before .size-in .ensures, c .before .if3 .left)), unit-fits (c .before .before .before .before .before .before .before .before .before .before .before .args .c) (c .before .before .before .before .before .before .before .before .before .before .before .args .mem .now) (c .before .before .before .before .before .before .before .before .before .before .before .args .lens .now) p n b))
 
 drop-oldest-requires : tie.Need-drop-oldest-requires
 drop-oldest-requires c κs =

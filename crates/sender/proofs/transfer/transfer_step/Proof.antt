@@ -9,7 +9,7 @@ use lib.ListN.{length}
 use Rattle.channel.specs.Steps.{doing}
 use Rattle.ring.proofs.Laws.{round-lt}
 use Rattle.store.specs.Store.{filedMem, filedLens}
-use Rattle.sender.proofs.AskedLaws.{ringed}
+use Rattle.channel.proofs.StandingLaws.{ringed}
 use Rattle.sender.proofs.StepLaws.{accepted-is, transfer-no, transfer-no-mem, transfer-no-lens, transfer-done, transfer-done-mem, transfer-done-lens, filed-is}
 use borrow.Author.Needs.{needs}
 use Rattle.sender.proofs.transfer.transfer_step.Statement.{statement}
@@ -47,7 +47,7 @@ add-round : tie.Need-add-round
 add-round c =
     let p = c .before .before .before .before .before .before .before .pre in
     let r = ringed (c .before .before .before .before .before .before .before .args .c) (c .before .before .before .before .before .before .before .args .lens .now) (p .standing) in
-    omega (arith, r .place, r .held, r .most)
+    omega (arith, r .place, r .ahead, r .most)
 
 round-requires : tie.Need-round-requires
 round-requires c κs = search needs
@@ -57,14 +57,14 @@ file-unit-requires c κs =
     let p = c .before .before .before .before .before .before .before .before .before .before .before .pre in
     let r = ringed (c .before .before .before .before .before .before .before .before .before .before .before .args .c) (c .before .before .before .before .before .before .before .before .before .before .before .args .lens .now) (p .standing) in
     let t = accepted-is (c .before .before .before .before .before .before .before .before .before .before .before .args .c) (length (c .before .before .before .before .before .before .before .before .before .before .before .args .unit .now)) (sym (c .before .before .before .before .before .before .before .is-accepted .ensures) ∙ not-false _ (c .before .before .before .before .before .before .if1 .left)) in
-    let f = round-lt (c .before .before .before .before .before .before .before .before .before .before .before .args .c .limits .slots) (c .before .before .before .before .before .before .before .before .before .before .before .args .c .window .place + c .before .before .before .before .before .before .before .before .before .before .before .args .c .window .ahead) (omega (arith, r .place, r .held)) in
+    let f = round-lt (c .before .before .before .before .before .before .before .before .before .before .before .args .c .limits .slots) (c .before .before .before .before .before .before .before .before .before .before .before .args .c .window .place + c .before .before .before .before .before .before .before .before .before .before .before .args .c .window .ahead) (omega (arith, r .place, r .ahead)) in
     (p .sized, (r .octet, omega (arith, c .before .before .before .round .ensures), c .before .before .before .before .before .segments .ensures, omega (arith, t .2, c .before .before .before .before .before .segments .ensures)))
 
 clear-requires : tie.Need-clear-requires
 clear-requires c κs =
     let p = c .before .before .before .before .before .before .before .before .before .before .before .before .before .before .before .before .before .pre in
     let r = ringed (c .before .before .before .before .before .before .before .before .before .before .before .before .before .before .before .before .before .args .c) (c .before .before .before .before .before .before .before .before .before .before .before .before .before .before .before .before .before .args .lens .now) (p .standing) in
-    let f = round-lt (c .before .before .before .before .before .before .before .before .before .before .before .before .before .before .before .before .before .args .c .limits .slots) (c .before .before .before .before .before .before .before .before .before .before .before .before .before .before .before .before .before .args .c .window .place + c .before .before .before .before .before .before .before .before .before .before .before .before .before .before .before .before .before .args .c .window .ahead) (omega (arith, r .place, r .held)) in
+    let f = round-lt (c .before .before .before .before .before .before .before .before .before .before .before .before .before .before .before .before .before .args .c .limits .slots) (c .before .before .before .before .before .before .before .before .before .before .before .before .before .before .before .before .before .args .c .window .place + c .before .before .before .before .before .before .before .before .before .before .before .before .before .before .before .before .before .args .c .window .ahead) (omega (arith, r .place, r .ahead)) in
     (omega (arith, c .before .before .before .before .before .before .before .before .before .round .ensures), r .most)
 
 add-ahead : tie.Need-add-ahead

@@ -3,7 +3,7 @@
 use mathlib.Core.Path.{_≡_, sym, _∙_}
 use mathlib.Core.Bool.{true, false}
 use borrow.Author.Tests.{not-true, not-false}
-use Rattle.sender.proofs.AskedLaws.{ringed}
+use Rattle.channel.proofs.StandingLaws.{ringed}
 use borrow.Author.Needs.{needs}
 use Rattle.vectors.proofs.alone.next.Statement.{statement}
 use Rattle.vectors.proofs.alone.next.Tie as tie
@@ -45,7 +45,7 @@ hand-step-requires : tie.Need-hand-step-requires
 hand-step-requires c κs =
     let a = c .before .before .before .before .before .before .before .before .before .before .args in
     let l = c .before .before .before .before .before .before .is-lent .ensures (not-false _ (c .before .before .before .before .before .if1 .left)) in
-    (record { standing = l .standing; sized = l .sized; sending = c .before .before .before .if2 .left }, record { is = c .before .before .rank-of .ensures; some = c .before .if3 .left })
+    (record { standing = l .standing; sized = l .sized }, record { is = c .before .before .rank-of .ensures; some = c .before .if3 .left })
 
 same-length : tie.Need-same-length
 same-length c = search needs

@@ -3,8 +3,7 @@
 use mathlib.Core.Path.{_≡_, sym, _∙_}
 use mathlib.Core.Bool.{true, false}
 use borrow.Author.Tests.{not-true, not-false}
-use Rattle.channel.proofs.StandingLaws.{stands-is}
-use Rattle.sender.proofs.AskedLaws.{ringed}
+use Rattle.channel.proofs.StandingLaws.{stands-is, ringed}
 use borrow.Author.Needs.{needs}
 use Rattle.vectors.proofs.alone.tick_sender.Statement.{statement}
 use Rattle.vectors.proofs.alone.tick_sender.Tie as tie

@@ -43,7 +43,7 @@ transfer-step-requires : tie.Need-transfer-step-requires
 transfer-step-requires c κs =
     let a = c .before .before .before .before .before .before .before .before .before .before .before .args in
     let l = c .before .before .before .before .before .is-lent .ensures (not-false _ (c .before .before .before .before .if1 .left)) in
-    record { standing = l .standing; sized = l .sized; sending = c .before .before .if2 .left }
+    record { standing = l .standing; sized = l .sized }
 
 same-length-5 : tie.Need-same-length-5
 same-length-5 c = search needs
