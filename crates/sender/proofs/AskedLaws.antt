@@ -1,40 +1,39 @@
 -- What a record that stands has shown, as far as the steps ask it.
 -- Assumes nothing.
-use mathlib.Core.Path.{_≡_, refl, sym, ap, ap₂, _∙_, subst}
+use mathlib.Core.Path.{_≡_, refl, sym, ap, _∙_}
 use mathlib.Core.Bool.{Bool, true, false, false≢true}
 use mathlib.Core.List.{List}
-use Prim.Native.Nat.{ℕ, _+_, _-_, _*_, _%_, _≤_, _<_}
-use native.Mathlib.Nat.{mul-le-mul-right}
+use Prim.Native.Nat.{ℕ, _+_, _≤_, _<_}
 use native.Mathlib.Omega.{arith}
-use borrow.Author.Tests.{ltb-false, leb-true, eqb-true, ne-eqb, eqb-false}
+use borrow.Author.Tests.{ne-eqb, leb-true, eqb-true, ltb-false, eqb-false}
 use lib.Dec.{ltb, leb, eqb}
-use lib.ListN.{length, getD, take, drop}
+use lib.ListN.{getD}
 use Rattle.laws.specs.Choice.{if_then_else_}
-use Rattle.ring.proofs.Laws.{round-lt}
-use Rattle.slots.specs.Marks.{ends}
-use Rattle.slots.specs.Slots.{segmentIn}
-use Rattle.slots.proofs.Laws.{slot-in}
-use Rattle.store.specs.Store.{EachFits}
-use Rattle.store.proofs.Laws.{segment-length}
-use Rattle.packet.specs.declared.fields.Fields.{Fields}
-use Rattle.channel.specs.declared.record.Node.{Node}
+use Rattle.ring.specs.Ring.{roundOf}
+use Rattle.channel.specs.declared.record.Window.{Window}
 use Rattle.channel.specs.declared.record.Channel.{Channel}
 use Rattle.channel.specs.Record.{sends}
-use Rattle.channel.specs.Standing.{slotFit, Standing}
-use Rattle.channel.specs.Steps.{outgoingOf}
+use Rattle.channel.specs.Standing.{oldestOf, slotFit, Standing}
+use Rattle.sender.specs.Asked.{Ringed}
+use Rattle.sender.specs.Directives.{placeAt}
+use Rattle.ring.proofs.Laws.{round-lt, round-add, back-lt, back-forth}
+use Rattle.slots.specs.Marks.{ends}
 use Rattle.channel.proofs.SettingsLaws.{fit-is}
 use Rattle.channel.proofs.StandingLaws.{counted-is}
-use Rattle.sender.specs.Asked.{Ringed, Asked, Plain}
-use Rattle.sender.specs.Directives.{placeAt}
-use Rattle.sender.specs.HandingOut.{dataFields, sentStep, sentOut}
-use Rattle.sender.proofs.StepLaws.{data-plain}
-use Rattle.sender.proofs.Keeps.{from-oldest}
 
 pub ringed : (c : Channel) (lens : List ℕ) → Standing c lens → Ringed (c .limits) (c .window)
 ringed c lens h =
     let f = fit-is (c .limits) (h .fit) in
     let n = counted-is (c .limits) (c .window) (h .ring) (h .flight) in
     record { most = f .most; octet = f .octet; segments = f .segments; place = n .place; held = n .held; flight = n .flight }
+
+-- the start, or a place further on, counted from the oldest segment
+pub from-oldest : (slots : ℕ) (w : Window) (i : ℕ) → w .place < slots → w .behind + i ≤ slots
+    → roundOf slots (oldestOf slots w + (w .behind + i)) ≡ roundOf slots (w .place + i)
+from-oldest slots w i p h =
+    let o = back-lt slots (w .place) (w .behind) p in
+    sym (round-add slots (oldestOf slots w) (w .behind) i (omega arith))
+    ∙ ap (λ (k : ℕ). roundOf slots (k + i)) (back-forth slots (w .place) (w .behind) p (omega arith))
 
 -- a marked slot that fits has a mark up to 4, and at most P octets
 pub slot-bounds : (sending : Bool) (most mark len : ℕ) → slotFit sending most mark len ≡ true → (mark ≡ 0 → ⊥) → (mark ≤ 4) × (len ≤ most)
@@ -49,7 +48,7 @@ slot-bounds sending most mark len e n = go (ltb 4 mark) refl sending (ends mark)
     go false p true false q = (ltb-false _ _ p, omega (arith, eqb-true len most q))
     go false p false u q = (ltb-false _ _ p, leb-true _ _ q)
 
-some-mark : (mark : ℕ) → (mark ≡ 0 → ⊥) → 1 ≤ mark
+pub some-mark : (mark : ℕ) → (mark ≡ 0 → ⊥) → 1 ≤ mark
 some-mark mark n = omega (arith, eqb-false mark 0 (ne-eqb mark 0 n))
 
 -- a segment from the start on is held: it has a mark from 1 to 4, and at most P octets
@@ -65,82 +64,3 @@ module _ (c : Channel) (lens : List ℕ) (h : Standing c lens) (i : ℕ) (l : i 
 
   pub mark-fits : (getD (c .marks) (placeAt c i) 0 ≤ 4) × (getD lens (placeAt c i) 0 ≤ c .limits .payload)
   mark-fits = slot-bounds (eqb (c .addresses .direction) sends) (c .limits .payload) (getD (c .marks) (placeAt c i) 0) (getD lens (placeAt c i) 0) (h .slots (placeAt c i) place-lt) mark-set
-
--- where the segment lies: its slot's mark and length, and its octets within the memory
-pub record Lying (c : Channel) (mem lens : List ℕ) (s : ℕ) : Type 0 where
-  pub place : s < c .limits .slots
-  pub least : 1 ≤ getD (c .marks) s 0
-  pub mark : getD (c .marks) s 0 ≤ 4
-  pub short : getD lens s 0 ≤ c .limits .payload
-  pub inside : s * c .limits .payload + c .limits .payload ≤ length mem
-  pub small : s * c .limits .payload + c .limits .payload ≤ 131072
-  pub some : s < length lens
-  pub most : c .limits .payload ≤ 1024
-  pub few : c .limits .slots ≤ 128
-
-pub lying : (c : Channel) (mem lens : List ℕ) → Asked c mem lens → (i : ℕ) → i < c .window .ahead → (s : ℕ) → s ≡ placeAt c i → Lying c mem lens s
-lying c mem lens a i l s e = subst (λ (k : ℕ). Lying c mem lens k) (sym e) here
-  where
-    here : Lying c mem lens (placeAt c i)
-    here =
-        let h = a .standing in
-        let p = place-lt c lens h i l in
-        let m = mark-fits c lens h i l in
-        record {
-          place = p;
-          least = some-mark (getD (c .marks) (placeAt c i) 0) (mark-set c lens h i l);
-          mark = m .0;
-          short = m .1;
-          inside = omega (arith, slot-in (placeAt c i) (c .limits .slots) (c .limits .payload) p, a .sized .exact);
-          small = omega (
-            arith,
-            slot-in (placeAt c i) (c .limits .slots) (c .limits .payload) p,
-            mul-le-mul-right (c .limits .payload) (a .sized .few),
-            a .sized .short,
-          );
-          some = omega (arith, h .count);
-          most = a .sized .short;
-          few = a .sized .few;
-        }
-
--- the octets of a slot, as they are handed on
-module _ (c : Channel) (mem lens : List ℕ) (a : Asked c mem lens) (i s : ℕ) (l : i < c .window .ahead) (e : s ≡ placeAt c i) where
-  abbrev part : List ℕ
-  part = take (s * c .limits .payload + getD lens s 0 - s * c .limits .payload) (drop (s * c .limits .payload) mem)
-
-  pub part-is : part ≡ segmentIn (c .limits .payload) mem lens s
-  part-is =
-      let z : s * c .limits .payload + getD lens s 0 - s * c .limits .payload ≡ getD lens s 0 = omega arith in
-      ap (λ (k : ℕ). take k (drop (s * c .limits .payload) mem)) z
-
-  pub part-length : length part ≡ getD lens s 0
-  part-length =
-      let y = lying c mem lens a i l s e in
-      ap length part-is ∙ segment-length (c .limits .slots) (c .limits .payload) mem lens s (a .sized) (y .place) (y .short)
-
-  pub segment-sized : length (segmentIn (c .limits .payload) mem lens (placeAt c i)) ≡ getD lens (placeAt c i) 0
-  segment-sized =
-      let y = lying c mem lens a i l (placeAt c i) refl in
-      segment-length (c .limits .slots) (c .limits .payload) mem lens (placeAt c i) (a .sized) (y .place) (y .short)
-
-  module _ (node : Node) (number : ℕ) (f : Fields) (n : number ≡ (c .window .start + i) % 256)
-      (is : f ≡ outgoingOf node (c .addresses) 0 (getD (c .marks) s 0 - 1) number) where
-    pub part-plain : Plain f (length part)
-    part-plain =
-        let y = lying c mem lens a i l s e in
-        subst (λ (g : Fields). Plain g (length part)) (sym is)
-        (data-plain node (c .addresses) (getD (c .marks) s 0 - 1) number (length part) (omega (arith, y .mark)) (omega (arith, part-length, y .short, y .most)))
-
-    pub part-step : (after : Channel) (k : ℕ) → sentStep c after (length part) k ≡ sentStep c after (getD lens (placeAt c i) 0) k
-    part-step after k = ap (λ (x : ℕ). sentStep c after x k) (part-length ∙ ap (λ (p : ℕ). getD lens p 0) e)
-
-    pub part-out : (out : List ℕ) → sentOut f part out ≡ sentOut (dataFields node c i) (segmentIn (c .limits .payload) mem lens (placeAt c i)) out
-    part-out out =
-        ap₂ (λ (g : Fields) (p : List ℕ). sentOut g p out)
-        (is ∙ ap₂ (λ (p k : ℕ). outgoingOf node (c .addresses) 0 (getD (c .marks) p 0 - 1) k) e n)
-        (part-is ∙ ap (segmentIn (c .limits .payload) mem lens) e)
-
--- the oldest unit: each of its segments has at most P octets
-pub unit-fits : (c : Channel) (mem lens : List ℕ) → Asked c mem lens → (n : ℕ) → n ≤ c .window .ahead
-    → EachFits (c .limits .payload) lens (c .limits .slots) n (c .window .place)
-unit-fits c mem lens a n h i l = mark-fits c lens (a .standing) i (omega arith) .1

@@ -1,0 +1,95 @@
+-- Where a segment that is handed out lies, and that its packet is one that is written.
+-- Assumes nothing.
+use mathlib.Core.Path.{_≡_, refl, sym, ap, ap₂, _∙_, subst}
+use mathlib.Core.List.{List}
+use Prim.Native.Nat.{ℕ, _+_, _-_, _≤_, _<_, _*_, _%_}
+use native.Mathlib.Omega.{arith}
+use lib.ListN.{length, getD, drop, take}
+use Rattle.slots.specs.Slots.{segmentIn}
+use Rattle.packet.specs.declared.fields.Fields.{Fields}
+use Rattle.channel.specs.declared.record.Node.{Node}
+use Rattle.channel.specs.declared.record.Channel.{Channel}
+use Rattle.channel.specs.Steps.{outgoingOf}
+use Rattle.sender_packets.specs.Asked.{Plain}
+use Rattle.sender.specs.Asked.{Asked}
+use Rattle.sender.specs.Directives.{placeAt}
+use Rattle.sender_packets.specs.HandingOut.{dataFields, sentStep, sentOut}
+use native.Mathlib.Nat.{mul-le-mul-right}
+use Rattle.slots.proofs.Laws.{slot-in}
+use Rattle.store.proofs.Laws.{segment-length}
+use Rattle.sender_packets.proofs.HandLaws.{data-plain}
+use Rattle.sender.proofs.AskedLaws.{some-mark, place-lt, mark-set, mark-fits}
+
+-- where the segment lies: its slot's mark and length, and its octets within the memory
+pub record Lying (c : Channel) (mem lens : List ℕ) (s : ℕ) : Type 0 where
+  pub place : s < c .limits .slots
+  pub least : 1 ≤ getD (c .marks) s 0
+  pub mark : getD (c .marks) s 0 ≤ 4
+  pub short : getD lens s 0 ≤ c .limits .payload
+  pub inside : s * c .limits .payload + c .limits .payload ≤ length mem
+  pub small : s * c .limits .payload + c .limits .payload ≤ 131072
+  pub some : s < length lens
+  pub most : c .limits .payload ≤ 1024
+  pub few : c .limits .slots ≤ 128
+
+pub lying : (c : Channel) (mem lens : List ℕ) → Asked c mem lens → (i : ℕ) → i < c .window .ahead → (s : ℕ) → s ≡ placeAt c i → Lying c mem lens s
+lying c mem lens a i l s e = subst (λ (k : ℕ). Lying c mem lens k) (sym e) here
+  where
+    here : Lying c mem lens (placeAt c i)
+    here =
+        let h = a .standing in
+        let p = place-lt c lens h i l in
+        let m = mark-fits c lens h i l in
+        record {
+          place = p;
+          least = some-mark (getD (c .marks) (placeAt c i) 0) (mark-set c lens h i l);
+          mark = m .0;
+          short = m .1;
+          inside = omega (arith, slot-in (placeAt c i) (c .limits .slots) (c .limits .payload) p, a .sized .exact);
+          small = omega (
+            arith,
+            slot-in (placeAt c i) (c .limits .slots) (c .limits .payload) p,
+            mul-le-mul-right (c .limits .payload) (a .sized .few),
+            a .sized .short,
+          );
+          some = omega (arith, h .count);
+          most = a .sized .short;
+          few = a .sized .few;
+        }
+
+-- the octets of a slot, as they are handed on
+module _ (c : Channel) (mem lens : List ℕ) (a : Asked c mem lens) (i s : ℕ) (l : i < c .window .ahead) (e : s ≡ placeAt c i) where
+  abbrev part : List ℕ
+  part = take (s * c .limits .payload + getD lens s 0 - s * c .limits .payload) (drop (s * c .limits .payload) mem)
+
+  pub part-is : part ≡ segmentIn (c .limits .payload) mem lens s
+  part-is =
+      let z : s * c .limits .payload + getD lens s 0 - s * c .limits .payload ≡ getD lens s 0 = omega arith in
+      ap (λ (k : ℕ). take k (drop (s * c .limits .payload) mem)) z
+
+  pub part-length : length part ≡ getD lens s 0
+  part-length =
+      let y = lying c mem lens a i l s e in
+      ap length part-is ∙ segment-length (c .limits .slots) (c .limits .payload) mem lens s (a .sized) (y .place) (y .short)
+
+  pub segment-sized : length (segmentIn (c .limits .payload) mem lens (placeAt c i)) ≡ getD lens (placeAt c i) 0
+  segment-sized =
+      let y = lying c mem lens a i l (placeAt c i) refl in
+      segment-length (c .limits .slots) (c .limits .payload) mem lens (placeAt c i) (a .sized) (y .place) (y .short)
+
+  module _ (node : Node) (number : ℕ) (f : Fields) (n : number ≡ (c .window .start + i) % 256)
+      (is : f ≡ outgoingOf node (c .addresses) 0 (getD (c .marks) s 0 - 1) number) where
+    pub part-plain : Plain f (length part)
+    part-plain =
+        let y = lying c mem lens a i l s e in
+        subst (λ (g : Fields). Plain g (length part)) (sym is)
+        (data-plain node (c .addresses) (getD (c .marks) s 0 - 1) number (length part) (omega (arith, y .mark)) (omega (arith, part-length, y .short, y .most)))
+
+    pub part-step : (after : Channel) (k : ℕ) → sentStep c after (length part) k ≡ sentStep c after (getD lens (placeAt c i) 0) k
+    part-step after k = ap (λ (x : ℕ). sentStep c after x k) (part-length ∙ ap (λ (p : ℕ). getD lens p 0) e)
+
+    pub part-out : (out : List ℕ) → sentOut f part out ≡ sentOut (dataFields node c i) (segmentIn (c .limits .payload) mem lens (placeAt c i)) out
+    part-out out =
+        ap₂ (λ (g : Fields) (p : List ℕ). sentOut g p out)
+        (is ∙ ap₂ (λ (p k : ℕ). outgoingOf node (c .addresses) 0 (getD (c .marks) p 0 - 1) k) e n)
+        (part-is ∙ ap (segmentIn (c .limits .payload) mem lens) e)
