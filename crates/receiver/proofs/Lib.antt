@@ -1,11 +1,1 @@
-pub mod SortLaws
-pub mod MoveLaws
 pub mod StepLaws
-pub mod TakeLaws
-pub mod Rings
-pub mod Receivers
-pub mod Cases
-pub mod Keeps
-pub mod Refusals
-pub mod Starred
-pub mod Fixed

@@ -1,5 +1,2 @@
 pub mod Asked
-pub mod Sorting
-pub mod Moving
 pub mod Receiving
-pub mod Taking

@@ -1,34 +1,32 @@
 -- What a record that stands has shown, as far as the steps ask it.
 -- Assumes nothing.
-use mathlib.Core.Path.{_≡_, refl, sym, ap, ap₂, _∙_, subst}
+use mathlib.Core.Path.{_≡_, refl, sym, ap, _∙_}
 use mathlib.Core.Bool.{Bool, true, false, false≢true}
 use mathlib.Core.List.{List}
-use Prim.Native.Nat.{ℕ, _+_, _-_, _*_, _%_, _≤_, _<_}
-use native.Mathlib.Nat.{mul-le-mul-right}
+use Prim.Native.Nat.{ℕ, _+_, _≤_, _<_}
 use native.Mathlib.Omega.{arith}
-use borrow.Author.Tests.{ltb-false, leb-true, eqb-true, ne-eqb, eqb-false}
+use borrow.Author.Tests.{ne-eqb, leb-true, eqb-true, ltb-false, eqb-false}
 use lib.Dec.{ltb, leb, eqb}
-use lib.ListN.{length, getD, take, drop}
+use lib.ListN.{getD}
 use Rattle.laws.specs.Choice.{if_then_else_}
-use Rattle.ring.proofs.Laws.{round-lt}
-use Rattle.slots.specs.Marks.{ends}
-use Rattle.slots.specs.Slots.{slotOf, segmentIn}
-use Rattle.slots.proofs.Laws.{slot-bound, slot-in}
-use Rattle.store.specs.Store.{EachFits}
-use Rattle.store.proofs.Laws.{segment-length}
-use Rattle.packet.specs.declared.fields.Fields.{Fields}
-use Rattle.channel.specs.declared.record.Node.{Node}
+use Rattle.ring.specs.Ring.{roundOf}
+use Rattle.channel.specs.declared.record.Window.{Window}
 use Rattle.channel.specs.declared.record.Channel.{Channel}
 use Rattle.channel.specs.Record.{sends}
-use Rattle.channel.specs.Standing.{slotFit, Standing}
-use Rattle.channel.specs.Steps.{outgoingOf}
-use Rattle.channel.proofs.StandingLaws.{counted-is, ringed}
-use Rattle.channel.specs.Asked.{Asked}
-use Rattle.sender.specs.Asked.{Plain}
+use Rattle.channel.specs.Standing.{oldestOf, slotFit, Standing}
 use Rattle.sender.specs.Directives.{placeAt}
-use Rattle.sender.specs.HandingOut.{dataFields, sentStep, sentOut}
-use Rattle.sender.proofs.StepLaws.{data-plain}
-use Rattle.sender.proofs.Keeps.{from-oldest}
+use Rattle.ring.proofs.Laws.{round-lt, round-add, back-lt, back-forth}
+use Rattle.slots.specs.Slots.{slotOf}
+use Rattle.slots.specs.Marks.{ends}
+use Rattle.channel.proofs.StandingLaws.{counted-is, ringed}
+
+-- the start, or a place further on, counted from the oldest segment
+pub from-oldest : (slots : ℕ) (w : Window) (i : ℕ) → w .place < slots → w .behind + i ≤ slots
+    → roundOf slots (oldestOf slots w + (w .behind + i)) ≡ roundOf slots (w .place + i)
+from-oldest slots w i p h =
+    let o = back-lt slots (w .place) (w .behind) p in
+    sym (round-add slots (oldestOf slots w) (w .behind) i (omega arith))
+    ∙ ap (λ (k : ℕ). roundOf slots (k + i)) (back-forth slots (w .place) (w .behind) p (omega arith))
 
 -- a marked slot that fits has a mark up to 4, and at most P octets
 pub slot-bounds : (sending : Bool) (most mark len : ℕ) → slotFit sending most mark len ≡ true → (mark ≡ 0 → ⊥) → (mark ≤ 4) × (len ≤ most)
@@ -43,7 +41,7 @@ slot-bounds sending most mark len e n = go (ltb 4 mark) refl sending (ends mark)
     go false p true false q = (ltb-false _ _ p, omega (arith, eqb-true len most q))
     go false p false u q = (ltb-false _ _ p, leb-true _ _ q)
 
-some-mark : (mark : ℕ) → (mark ≡ 0 → ⊥) → 1 ≤ mark
+pub some-mark : (mark : ℕ) → (mark ≡ 0 → ⊥) → 1 ≤ mark
 some-mark mark n = omega (arith, eqb-false mark 0 (ne-eqb mark 0 n))
 
 -- a segment from the start on is held: it has a mark from 1 to 4, and at most P octets
@@ -59,88 +57,3 @@ module _ (c : Channel) (lens : List ℕ) (h : Standing c lens) (i : ℕ) (l : i 
 
   pub mark-fits : (getD (c .marks) (placeAt c i) 0 ≤ 4) × (getD lens (slotOf (placeAt c i)) 0 ≤ c .limits .payload)
   mark-fits = slot-bounds (eqb (c .addresses .direction) sends) (c .limits .payload) (getD (c .marks) (placeAt c i) 0) (getD lens (slotOf (placeAt c i)) 0) (h .slots (placeAt c i) place-lt) mark-set
-
--- where the segment lies: its mark by its place s, its length by its slot t, and its octets within the memory
-pub record Lying (c : Channel) (mem lens : List ℕ) (s t : ℕ) : Type 0 where
-  pub place : s < c .limits .slots
-  pub slot : t < c .limits .slots
-  pub least : 1 ≤ getD (c .marks) s 0
-  pub mark : getD (c .marks) s 0 ≤ 4
-  pub short : getD lens t 0 ≤ c .limits .payload
-  pub inside : t * c .limits .payload + c .limits .payload ≤ length mem
-  pub small : t * c .limits .payload + c .limits .payload ≤ 131072
-  pub some : t < length lens
-  pub most : c .limits .payload ≤ 1024
-  pub few : c .limits .slots ≤ 128
-
-pub lying : (c : Channel) (mem lens : List ℕ) → Asked c mem lens → (i : ℕ) → i < c .window .ahead → (s t : ℕ) → s ≡ placeAt c i → t ≡ slotOf s
-    → Lying c mem lens s t
-lying c mem lens a i l s t e f =
-    subst (λ (k : ℕ). Lying c mem lens s k) (sym f) (subst (λ (k : ℕ). Lying c mem lens k (slotOf k)) (sym e) here)
-  where
-    here : Lying c mem lens (placeAt c i) (slotOf (placeAt c i))
-    here =
-        let h = a .standing in
-        let p = place-lt c lens h i l in
-        let b = slot-bound (c .limits .slots) (placeAt c i) p in
-        let m = mark-fits c lens h i l in
-        record {
-          place = p;
-          slot = b;
-          least = some-mark (getD (c .marks) (placeAt c i) 0) (mark-set c lens h i l);
-          mark = m .0;
-          short = m .1;
-          inside = omega (arith, slot-in (slotOf (placeAt c i)) (c .limits .slots) (c .limits .payload) b, a .sized .exact);
-          small = omega (
-            arith,
-            slot-in (slotOf (placeAt c i)) (c .limits .slots) (c .limits .payload) b,
-            mul-le-mul-right (c .limits .payload) (a .sized .few),
-            a .sized .short,
-          );
-          some = omega (arith, h .count);
-          most = a .sized .short;
-          few = a .sized .few;
-        }
-
-pub segment-sized : (c : Channel) (mem lens : List ℕ) → Asked c mem lens → (i : ℕ) → i < c .window .ahead
-    → length (segmentIn (c .limits .payload) mem lens (slotOf (placeAt c i))) ≡ getD lens (slotOf (placeAt c i)) 0
-segment-sized c mem lens a i l =
-    let y = lying c mem lens a i l (placeAt c i) (slotOf (placeAt c i)) refl refl in
-    segment-length (c .limits .slots) (c .limits .payload) mem lens (slotOf (placeAt c i)) (a .sized) (y .slot) (y .short)
-
--- the octets of a slot, as they are handed on
-module _ (c : Channel) (mem lens : List ℕ) (a : Asked c mem lens) (i s t : ℕ) (l : i < c .window .ahead) (e : s ≡ placeAt c i) (f : t ≡ slotOf s) where
-  abbrev part : List ℕ
-  part = take (t * c .limits .payload + getD lens t 0 - t * c .limits .payload) (drop (t * c .limits .payload) mem)
-
-  pub part-is : part ≡ segmentIn (c .limits .payload) mem lens t
-  part-is =
-      let z : t * c .limits .payload + getD lens t 0 - t * c .limits .payload ≡ getD lens t 0 = omega arith in
-      ap (λ (k : ℕ). take k (drop (t * c .limits .payload) mem)) z
-
-  pub part-length : length part ≡ getD lens t 0
-  part-length =
-      let y = lying c mem lens a i l s t e f in
-      ap length part-is ∙ segment-length (c .limits .slots) (c .limits .payload) mem lens t (a .sized) (y .slot) (y .short)
-
-  module _ (node : Node) (number : ℕ) (g : Fields) (n : number ≡ (c .window .start + i) % 256)
-      (is : g ≡ outgoingOf node (c .addresses) 0 (getD (c .marks) s 0 - 1) number) where
-    pub part-plain : Plain g (length part)
-    part-plain =
-        let y = lying c mem lens a i l s t e f in
-        subst (λ (x : Fields). Plain x (length part)) (sym is)
-        (data-plain node (c .addresses) (getD (c .marks) s 0 - 1) number (length part) (omega (arith, y .mark)) (omega (arith, part-length, y .short, y .most)))
-
-    pub part-step : (after : Channel) (k : ℕ) → sentStep c after (length part) k ≡ sentStep c after (getD lens (slotOf (placeAt c i)) 0) k
-    part-step after k = ap (λ (x : ℕ). sentStep c after x k) (part-length ∙ ap (λ (p : ℕ). getD lens p 0) (f ∙ ap slotOf e))
-
-    pub part-out : (out : List ℕ) → sentOut g part out ≡ sentOut (dataFields node c i) (segmentIn (c .limits .payload) mem lens (slotOf (placeAt c i))) out
-    part-out out =
-        ap₂ (λ (x : Fields) (p : List ℕ). sentOut x p out)
-        (is ∙ ap₂ (λ (p k : ℕ). outgoingOf node (c .addresses) 0 (getD (c .marks) p 0 - 1) k) e n)
-        (part-is ∙ ap (segmentIn (c .limits .payload) mem lens) (f ∙ ap slotOf e))
-
--- the oldest unit: each of its segments has at most P octets
-pub unit-fits : (c : Channel) (mem lens : List ℕ) → Asked c mem lens → (n : ℕ) → n ≤ c .window .ahead
-    → EachFits slotOf (c .limits .payload) lens (c .limits .slots) n (c .window .place)
-unit-fits c mem lens a n h i l = mark-fits c lens (a .standing) i (omega arith) .1

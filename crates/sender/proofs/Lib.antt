@@ -1,12 +1,3 @@
 pub mod Mapped
 pub mod StepLaws
-pub mod Keeps
 pub mod AskedLaws
-pub mod KeepsDirectives
-pub mod KeepsHandingOut
-pub mod KeepsReclaiming
-pub mod KeepsAcks
-pub mod KeepsTransfer
-pub mod Refusals
-pub mod Fixed
-pub mod Passed

@@ -30,7 +30,7 @@ pub fn ask(c: Channel, n: usize, lens: &[u16]) -> Stepped {
     if !stands(c, lens) {
         return refused(c, Refusal::Settings);
     }
-    sender::would_transfer(c, n)
+    sender_units::would_transfer(c, n)
 }
 
 // A unit is given to a sender.
@@ -41,7 +41,7 @@ pub fn transfer(c: Channel, unit: &[u8], mem: &mut [u8], lens: &mut [u16]) -> St
     if c.addresses.direction != SENDS {
         return refused(c, Refusal::State);
     }
-    sender::transfer_step(c, unit, mem, lens)
+    sender_units::transfer_step(c, unit, mem, lens)
 }
 
 // A sender's next packet.
@@ -52,11 +52,11 @@ pub fn next(node: Node, c: Channel, mem: &[u8], lens: &[u16], out: &mut [u8]) ->
     if c.addresses.direction != SENDS {
         return refused(c, Refusal::State);
     }
-    let rank = sender::rank_of(c);
+    let rank = sender_packets::rank_of(c);
     if 3 <= rank {
         return refused(c, Refusal::Nothing);
     }
-    sender::hand_step(node, c, mem, lens, rank, out)
+    sender_packets::hand_step(node, c, mem, lens, rank, out)
 }
 
 // A packet arrives at a receiver; its reply goes to a buffer of 12 octets.
@@ -136,7 +136,7 @@ pub fn data(
     if c.limits.payload < part.len() {
         return refused(c, Refusal::Strange);
     }
-    receiver::data_step(c, number, flags, part, mem, lens)
+    receiver_data::data_step(c, number, flags, part, mem, lens)
 }
 
 fn reply_to(node: Node, s: Stepped, of_data: bool, number: u8, reply: &mut [u8]) {
@@ -163,9 +163,9 @@ pub fn acked(c: Channel, octets: &[u8], lens: &[u16]) -> Stepped {
             length: _,
         } => {
             if fields.kind == 7 {
-                return sender::control_ack_step(c, fields.number);
+                return sender_acks::control_ack_step(c, fields.number);
             }
-            sender::data_ack_step(c, fields.number)
+            sender_acks::data_ack_step(c, fields.number)
         }
         Read::Short => refused(c, Refusal::Short),
         Read::Damaged => refused(c, Refusal::Damaged),
@@ -179,7 +179,7 @@ pub fn take(c: Channel, mem: &[u8], lens: &[u16], out: &mut [u8]) -> Stepped {
     if !is_lent(c, mem, lens) {
         return refused(c, Refusal::Settings);
     }
-    receiver::take_step(c, mem, lens, out)
+    receiver_data::take_step(c, mem, lens, out)
 }
 
 // A directive to a sender.

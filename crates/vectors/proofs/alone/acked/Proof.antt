@@ -12,8 +12,8 @@ use Rattle.vectors.proofs.alone.acked.Lts as lts
 use Rattle.channel.proofs.standing.stands.Reads as stands-reads
 use Rattle.channel.proofs.step.refused.Reads as refused-reads
 use Rattle.packet.proofs.read_packet.Reads as read-packet-reads
-use Rattle.sender.proofs.control_ack_step.Reads as control-ack-step-reads
-use Rattle.sender.proofs.data_ack_step.Reads as data-ack-step-reads
+use Rattle.sender_acks.proofs.control_ack_step.Reads as control-ack-step-reads
+use Rattle.sender_acks.proofs.data_ack_step.Reads as data-ack-step-reads
 
 stands-requires : tie.Need-stands-requires
 stands-requires c κs = search needs

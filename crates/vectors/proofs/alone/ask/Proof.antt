@@ -11,7 +11,7 @@ use Rattle.vectors.proofs.alone.ask.Reads as reads
 use Rattle.vectors.proofs.alone.ask.Lts as lts
 use Rattle.channel.proofs.standing.stands.Reads as stands-reads
 use Rattle.channel.proofs.step.refused.Reads as refused-reads
-use Rattle.sender.proofs.would_transfer.Reads as would-transfer-reads
+use Rattle.sender_units.proofs.would_transfer.Reads as would-transfer-reads
 
 stands-requires : tie.Need-stands-requires
 stands-requires c κs = search needs

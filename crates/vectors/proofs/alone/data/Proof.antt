@@ -9,7 +9,7 @@ use Rattle.vectors.proofs.alone.data.Tie as tie
 use Rattle.vectors.proofs.alone.data.Reads as reads
 use Rattle.vectors.proofs.alone.data.Lts as lts
 use Rattle.channel.proofs.step.refused.Reads as refused-reads
-use Rattle.receiver.proofs.data_step.Reads as data-step-reads
+use Rattle.receiver_data.proofs.data_step.Reads as data-step-reads
 use Rattle.vectors.proofs.alone.is_lent.Reads as is-lent-reads
 
 is-lent-requires : tie.Need-is-lent-requires

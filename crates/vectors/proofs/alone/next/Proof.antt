@@ -10,8 +10,8 @@ use Rattle.vectors.proofs.alone.next.Tie as tie
 use Rattle.vectors.proofs.alone.next.Reads as reads
 use Rattle.vectors.proofs.alone.next.Lts as lts
 use Rattle.channel.proofs.step.refused.Reads as refused-reads
-use Rattle.sender.proofs.hand_step.Reads as hand-step-reads
-use Rattle.sender.proofs.rank_of.Reads as rank-of-reads
+use Rattle.sender_packets.proofs.hand_step.Reads as hand-step-reads
+use Rattle.sender_packets.proofs.rank_of.Reads as rank-of-reads
 use Rattle.vectors.proofs.alone.is_lent.Reads as is-lent-reads
 
 is-lent-requires : tie.Need-is-lent-requires

@@ -9,7 +9,7 @@ use Rattle.vectors.proofs.alone.take.Tie as tie
 use Rattle.vectors.proofs.alone.take.Reads as reads
 use Rattle.vectors.proofs.alone.take.Lts as lts
 use Rattle.channel.proofs.step.refused.Reads as refused-reads
-use Rattle.receiver.proofs.take_step.Reads as take-step-reads
+use Rattle.receiver_data.proofs.take_step.Reads as take-step-reads
 use Rattle.vectors.proofs.alone.is_lent.Reads as is-lent-reads
 
 is-lent-requires : tie.Need-is-lent-requires

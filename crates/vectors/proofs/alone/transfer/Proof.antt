@@ -9,7 +9,7 @@ use Rattle.vectors.proofs.alone.transfer.Tie as tie
 use Rattle.vectors.proofs.alone.transfer.Reads as reads
 use Rattle.vectors.proofs.alone.transfer.Lts as lts
 use Rattle.channel.proofs.step.refused.Reads as refused-reads
-use Rattle.sender.proofs.transfer_step.Reads as transfer-step-reads
+use Rattle.sender_units.proofs.transfer_step.Reads as transfer-step-reads
 use Rattle.vectors.proofs.alone.is_lent.Reads as is-lent-reads
 
 is-lent-requires : tie.Need-is-lent-requires

@@ -1,0 +1,211 @@
+-- Directives, Control Acks and ticks keep the standing condition.
+-- Assumes nothing.
+use mathlib.Core.Path.{_≡_, refl, sym, ap, _∙_}
+use mathlib.Core.Bool.{Bool, true, false, not, _||_}
+use mathlib.Core.List.{List, map}
+use Prim.Native.Nat.{ℕ, _+_, _-_, _≤_}
+use native.Mathlib.Omega.{arith}
+use lib.Dec.{leb, eqb}
+use lib.ListN.{getD}
+use Rattle.laws.specs.Choice.{if_then_else_}
+use Rattle.ring.specs.Ring.{roundOf}
+use Rattle.ring.proofs.Laws.{back-lt}
+use Rattle.channel.specs.declared.record.Lone.{Lone}
+use Rattle.channel.specs.declared.record.Timers.{Timers}
+use Rattle.channel.specs.declared.record.Channel.{Channel}
+use Rattle.channel.specs.declared.lone.Fallen.{Fallen}
+use Rattle.channel.specs.declared.answer.Refusal.the-variants as refusal
+use Rattle.channel.specs.Record.{sends, closed, enabled, opened, closing, retriesOut, noLone, heldIn, withState, withReason, withKept, withControl, withTimers, withAcked}
+use Rattle.channel.specs.Lone.{readyLone, isOut, fallen}
+use Rattle.channel.specs.Standing.{named, oldestOf, Standing}
+use Rattle.channel.specs.Steps.{refusing, doing, enabledOf}
+use Rattle.channel.proofs.StandingLaws.{counted-is}
+use Rattle.channel.proofs.MadeLaws.{enabled-stands}
+use Rattle.sender.specs.declared.ticking.Ticked.{Ticked}
+use Rattle.sender.specs.Directives.{parked, parkedWindow, shutFor, openStep, closeStep}
+use Rattle.sender_acks.specs.Acks.{controlAckStep}
+use Rattle.sender.specs.Ticking.{lowered, anySpent, tickStep}
+use Rattle.sender_keeps.proofs.Keeps.{named-is, is-named, sided-way, still-sided, open-sided, stand, back-none}
+
+module _ (c : Channel) (lens : List ℕ) (h : Standing c lens) where
+  -- ---- it does not look at timers and acks, and at the small numbers only as far as they have a meaning
+
+  pub changed-stands : (reason kept : ℕ) (control : Lone) (timers : Timers) (acked : List ℕ) → reason ≤ 5 → kept ≤ 1 → control .state ≤ 3
+      → Standing (withAcked (withTimers (withControl (withKept (withReason c reason) kept) control) timers) acked) lens
+  changed-stands reason kept control timers acked r k l =
+      let n = named-is c (h .named) in
+      record {
+        fit = h .fit;
+        count = h .count;
+        named = is-named (withAcked (withTimers (withControl (withKept (withReason c reason) kept) control) timers) acked)
+            (record { direction = n .direction; state = n .state; reason = r; kept = k; accepted = n .accepted; control = l });
+        ring = h .ring;
+        flight = h .flight;
+        sided = h .sided;
+        held = h .held;
+        slots = h .slots;
+      }
+
+  pub timers-stand : (t : Timers) → Standing (withTimers c t) lens
+  timers-stand t =
+      let n = named-is c (h .named) in
+      changed-stands (c .reason) (c .kept) (c .control) t (c .acked) (n .reason) (n .kept) (n .control)
+
+  pub acked-stand : (a : List ℕ) → Standing (withAcked c a) lens
+  acked-stand a =
+      let n = named-is c (h .named) in
+      changed-stands (c .reason) (c .kept) (c .control) (c .timers) a (n .reason) (n .kept) (n .control)
+
+  pub control-stands : (l : Lone) → l .state ≤ 3 → Standing (withControl c l) lens
+  control-stands l small =
+      let n = named-is c (h .named) in
+      changed-stands (c .reason) (c .kept) l (c .timers) (c .acked) (n .reason) (n .kept) small
+
+  pub kept-stands : (k : ℕ) → k ≤ 1 → Standing (withKept c k) lens
+  kept-stands k small =
+      let n = named-is c (h .named) in
+      changed-stands (c .reason) k (c .control) (c .timers) (c .acked) (n .reason) small (n .control)
+
+  pub reason-stands : (why : ℕ) → why ≤ 5 → Standing (withReason c why) lens
+  reason-stands why small =
+      let n = named-is c (h .named) in
+      changed-stands why (c .kept) (c .control) (c .timers) (c .acked) small (n .kept) (n .control)
+
+  -- ---- leaving OPEN, and going to it
+
+  module _ (s : c .addresses .direction ≡ sends) where
+    pub parked-stands : (state : ℕ) (control : Lone) → state ≤ 3 → control .state ≤ 3 → Standing (parked c state control) lens
+    unfolding parked
+    parked-stands state control small lone =
+        let n = named-is c (h .named) in
+        let k = counted-is (c .limits) (c .window) (h .ring) (h .flight) in
+        let z = sided-way (c .addresses .direction) (c .state) (c .window) s (h .sided) in
+        let slots = c .limits .slots in
+        let o = back-lt slots (c .window .place) (c .window .behind) (k .place) in
+        stand (parked c state control) lens (h .fit) (h .count)
+        (record { direction = n .direction; state = small; reason = n .reason; kept = omega arith; accepted = n .accepted; control = lone })
+        (record { place = o; held = omega (arith, k .held); flight = omega arith; window = omega arith; way = omega arith; unit = k .unit })
+        (still-sided (c .addresses .direction) state (parkedWindow (c .limits) (c .window)) s z refl refl)
+        (λ i l q.
+        h .held i (omega arith)
+        (ap (λ (p : ℕ). getD (c .marks) (roundOf slots (p + i)) 0) (sym (back-none slots (oldestOf slots (c .window)) o)) ∙ q))
+        (h .slots)
+
+    pub opened-stands : Standing (withControl (withState c opened) noLone) lens
+    opened-stands =
+        let n = named-is c (h .named) in
+        let k = counted-is (c .limits) (c .window) (h .ring) (h .flight) in
+        let z = sided-way (c .addresses .direction) (c .state) (c .window) s (h .sided) in
+        stand (withControl (withState c opened) noLone) lens (h .fit) (h .count)
+        (record { direction = n .direction; state = omega arith; reason = n .reason; kept = n .kept; accepted = n .accepted; control = omega arith })
+        k
+        (open-sided (c .addresses .direction) opened (c .window) s z refl)
+        (h .held)
+        (h .slots)
+
+-- inactive
+pub shut-stands : (c : Channel) (lens : List ℕ) → Standing c lens → c .addresses .direction ≡ sends → (why : ℕ) → why ≤ 5 → Standing (shutFor c why) lens
+shut-stands c lens h s why small =
+    reason-stands (parked c closed noLone) lens (parked-stands c lens h s closed noLone (omega arith) (omega arith)) why small
+
+-- ---- the theorems
+
+pub open-stands : (c : Channel) (lens : List ℕ) → Standing c lens → Standing (openStep c .channel) lens
+unfolding openStep
+open-stands c lens h = go (eqb (c .state) closed) (eqb (heldIn (c .window)) 0)
+  where
+    go : (a b : Bool)
+        → Standing
+        ((if not a then refusing c refusal.State else if not b then refusing c refusal.Untaken else doing (enabledOf c readyLone) 0) .channel)
+        lens
+    go false b = h
+    go true false = h
+    go true true = enabled-stands c lens readyLone (omega arith) h
+
+pub close-stands : (c : Channel) (lens : List ℕ) → Standing c lens → c .addresses .direction ≡ sends → Standing (closeStep c .channel) lens
+unfolding closeStep
+close-stands c lens h s = go (eqb (c .state) opened) (eqb (c .state) enabled) (eqb (c .kept) 0)
+  where
+    go : (a b k : Bool)
+        → Standing
+        ((if a then doing (parked c closing readyLone) 0
+        else if not b then refusing c refusal.State
+        else if k then doing (withKept c 1) 0
+        else refusing c refusal.State)
+        .channel)
+        lens
+    go true b k = parked-stands c lens h s closing readyLone (omega arith) (omega arith)
+    go false false k = h
+    go false true true = kept-stands c lens h 1 (omega arith)
+    go false true false = h
+
+pub control-ack-stands : (c : Channel) (lens : List ℕ) (number : ℕ) → Standing c lens → c .addresses .direction ≡ sends
+    → Standing (controlAckStep c number .channel) lens
+unfolding controlAckStep
+control-ack-stands c lens number h s =
+    go (eqb (c .state) enabled || eqb (c .state) closing) (eqb number 0) (isOut (c .control)) (eqb (c .state) closing) (eqb (c .kept) 0)
+  where
+    go : (a b o e k : Bool)
+        → Standing
+        ((if not a then refusing c refusal.State
+        else if not b then refusing c refusal.Ignored
+        else if not o then refusing c refusal.Ignored
+        else doing
+        (if e then parked c closed noLone
+        else if k then withControl (withState c opened) noLone
+        else parked c closing readyLone)
+        0)
+        .channel)
+        lens
+    go false b o e k = h
+    go true false o e k = h
+    go true true false e k = h
+    go true true true true k = parked-stands c lens h s closed noLone (omega arith) (omega arith)
+    go true true true false true = opened-stands c lens h s
+    go true true true false false = parked-stands c lens h s closing readyLone (omega arith) (omega arith)
+
+-- a packet sent alone keeps a state that has a meaning
+fallen-state : (l : Lone) → l .state ≤ 3 → fallen l .lone .state ≤ 3
+unfolding fallen
+fallen-state l small = go (eqb (l .state) 2) (leb 2 (l .timer)) (eqb (l .tries) 0)
+  where
+    by : Bool → Bool → Bool → Fallen
+    by a b t =
+        if not a then record { lone = l; spent = false }
+        else if b then record { lone = record { state = 2; timer = l .timer - 1; tries = l .tries }; spent = false }
+        else if t then record { lone = noLone; spent = true }
+        else record { lone = record { state = 3; timer = 0; tries = l .tries }; spent = false }
+
+    go : (a b t : Bool) → by a b t .lone .state ≤ 3
+    go false b t = small
+    go true true t = omega arith
+    go true false true = omega arith
+    go true false false = omega arith
+
+pub tick-stands : (c : Channel) (lens : List ℕ) → Standing c lens → c .addresses .direction ≡ sends → Standing (tickStep c .channel) lens
+unfolding tickStep
+tick-stands c lens h s =
+    go (eqb (c .state) opened) (anySpent (c .timers .left) (c .timers .tries)) (eqb (c .state) enabled || eqb (c .state) closing) (fallen (c .control) .spent)
+  where
+    shut : Standing (shutFor c retriesOut) lens
+    shut = shut-stands c lens h s retriesOut (omega arith)
+
+    by : Bool → Bool → Bool → Bool → Ticked
+    by a d b f =
+        if a then
+        (if d then record { channel = shutFor c retriesOut; inactive = true }
+        else record {
+          channel = withTimers c (record { closing = c .timers .closing; left = map lowered (c .timers .left); tries = c .timers .tries });
+          inactive = false;
+        })
+        else if b then
+        (if f then record { channel = shutFor c retriesOut; inactive = true }
+        else record { channel = withControl c (fallen (c .control) .lone); inactive = false })
+        else record { channel = c; inactive = false }
+
+    go : (a d b f : Bool) → Standing (by a d b f .channel) lens
+    go true true b f = shut
+    go true false b f = timers-stand c lens h _
+    go false d true true = shut
+    go false d true false = control-stands c lens h (fallen (c .control) .lone) (fallen-state (c .control) (named-is c (h .named) .control))
+    go false d false f = h

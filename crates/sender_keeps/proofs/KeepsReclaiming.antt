@@ -1,0 +1,79 @@
+-- A unit reclaimed keeps the standing condition.
+-- Assumes nothing.
+use mathlib.Core.Path.{_≡_, refl, sym, ap, _∙_}
+use mathlib.Core.Bool.{Bool, true, false, not}
+use mathlib.Core.List.{List}
+use Prim.Native.Nat.{ℕ, _+_, _-_, _≤_, _<_}
+use native.Mathlib.Omega.{arith}
+use borrow.Author.Tests.{eqb-true}
+use lib.Dec.{ltb, eqb}
+use lib.ListN.{getD}
+use Rattle.laws.specs.Choice.{if_then_else_}
+use Rattle.ring.specs.Ring.{roundOf, backOf, cleared}
+use Rattle.ring.proofs.Laws.{round-lt, round-add, cleared-out}
+use Rattle.store.proofs.Laws.{unit-le}
+use Rattle.channel.specs.declared.record.Channel.{Channel}
+use Rattle.channel.specs.declared.answer.Refusal.the-variants as refusal
+use Rattle.channel.specs.Record.{sends, closed, opened}
+use Rattle.channel.specs.Standing.{Standing}
+use Rattle.channel.specs.Steps.{refusing, doing}
+use Rattle.channel.proofs.StandingLaws.{counted-is}
+use Rattle.sender_units.specs.Reclaiming.{unitAt, sizeAt, dropped, reclaimStep}
+use Rattle.sender_keeps.proofs.Keeps.{named-is, sided-way, sided-still, still-sided, stand, back-none, cleared-fit}
+
+-- the oldest n segments are gone
+dropped-stands : (c : Channel) (lens : List ℕ) → Standing c lens → c .addresses .direction ≡ sends → (c .state ≡ opened → ⊥)
+    → (n : ℕ) → n ≤ c .window .ahead → Standing (dropped c n) lens
+dropped-stands c lens h s shut n l =
+    let w = c .window in
+    let slots = c .limits .slots in
+    let small = named-is c (h .named) in
+    let k = counted-is (c .limits) w (h .ring) (h .flight) in
+    let z = sided-way (c .addresses .direction) (c .state) w s (h .sided) in
+    let still = sided-still (c .addresses .direction) (c .state) w s shut (h .sided) in
+    let from = roundOf slots (w .place + n) in
+    let f : from < slots = round-lt slots (w .place + n) (omega (arith, k .place, k .held)) in
+    let old : backOf slots (w .place) (w .behind) ≡ w .place = ap (backOf slots (w .place)) (still .0) ∙ back-none slots (w .place) (k .place) in
+    let new : backOf slots from (w .behind) ≡ from = ap (backOf slots from) (still .0) ∙ back-none slots from f in
+    stand (dropped c n) lens (h .fit) (h .count)
+    (record { direction = small .direction; state = small .state; reason = small .reason; kept = small .kept; accepted = small .accepted; control = small .control })
+    (record {
+      place = f;
+      held = omega (arith, k .held);
+      flight = omega (arith, still .1);
+      window = k .window;
+      way = k .way;
+      unit = k .unit;
+    })
+    (still-sided (c .addresses .direction) (c .state) (dropped c n .window) s z (still .0) (still .1))
+    (λ i less q.
+    let far : n + i < slots = omega (arith, still .0, k .held) in
+    let on : roundOf slots (from + i) ≡ roundOf slots (w .place + (n + i)) = round-add slots (w .place) n i (omega (arith, k .place)) in
+    let m = cleared (c .marks) slots n (w .place) in
+    h .held (n + i) (omega (arith, still .0))
+    (ap (λ (p : ℕ). getD (c .marks) (roundOf slots (p + (n + i))) 0) old
+    ∙ sym (cleared-out (c .marks) slots n (w .place) (n + i) (k .place) far (omega arith))
+    ∙ ap (λ (p : ℕ). getD m p 0) (sym on)
+    ∙ ap (λ (p : ℕ). getD m (roundOf slots (p + i)) 0) (sym new)
+    ∙ q))
+    (cleared-fit (eqb (c .addresses .direction) sends) (c .limits .payload) (c .marks) lens slots n (w .place) (k .place) (h .slots))
+
+pub reclaim-stands : (c : Channel) (lens : List ℕ) (n : ℕ) → Standing c lens → c .addresses .direction ≡ sends
+    → Standing (reclaimStep c lens n .channel) lens
+unfolding reclaimStep
+reclaim-stands c lens n h s = go (eqb (c .state) closed) refl (eqb (c .window .ahead) 0) (ltb n (sizeAt c lens))
+  where
+    go : (a : Bool) → eqb (c .state) closed ≡ a → (b d : Bool)
+        → Standing
+        ((if not a then refusing c refusal.State
+        else if b then refusing c refusal.Nothing
+        else if d then refusing c refusal.Small
+        else doing (dropped c (unitAt c)) (sizeAt c lens))
+        .channel)
+        lens
+    go false e b d = h
+    go true e true d = h
+    go true e false true = h
+    go true e false false =
+        let is = eqb-true (c .state) closed e in
+        dropped-stands c lens h s (λ o. omega arith) (unitAt c) (unit-le (c .marks) (c .limits .slots) (c .window .ahead) (c .window .place))

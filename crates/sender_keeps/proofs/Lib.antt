@@ -1,0 +1,9 @@
+pub mod Keeps
+pub mod KeepsDirectives
+pub mod KeepsHandingOut
+pub mod KeepsReclaiming
+pub mod KeepsAcks
+pub mod KeepsTransfer
+pub mod Refusals
+pub mod Fixed
+pub mod Passed

@@ -1,0 +1,225 @@
+-- Laws of the hand-out: which packet is ready, and what its hand-out answers in each case.
+-- Assumes nothing.
+use mathlib.Core.Path.{_≡_, refl, sym, ap, _∙_}
+use mathlib.Core.Bool.{Bool, true, false, _&&_, _||_}
+use mathlib.Core.List.{List, []}
+use Prim.Native.Nat.{ℕ, zero, suc, _+_, _-_, _≤_, _<_}
+use native.Mathlib.Omega.{arith}
+use native.Mathlib.Numerals.{add-one}
+use borrow.Author.Tests.{lt-ltb, le-ltb, le-leb, eq-eqb, ne-eqb, ltb-true, eqb-true}
+use lib.Dec.{ltb, eqb}
+use lib.ListN.{length, getD}
+use Rattle.laws.specs.Choice.{if_then_else_}
+use Rattle.laws.proofs.Choice.{chosen, passed-by, not-first, both}
+use Rattle.ring.specs.Ring.{roundOf}
+use Rattle.slots.specs.Slots.{slotOf, segmentIn}
+use Rattle.packet.specs.declared.fields.Fields.{Fields}
+use Rattle.packet.specs.declared.writing.Written.the-variants as written
+use Rattle.packet.specs.Tests.{lacking, strange}
+use Rattle.packet.specs.Writing.{afterWrite}
+use Rattle.channel.specs.declared.record.Node.{Node}
+use Rattle.channel.specs.declared.record.Addresses.{Addresses}
+use Rattle.channel.specs.declared.record.Channel.{Channel}
+use Rattle.channel.specs.declared.answer.Answer.the-variants.{Done}
+use Rattle.channel.specs.declared.answer.Refusal.the-variants as refusal
+use Rattle.channel.specs.Record.{enabled, opened, closing}
+use Rattle.channel.specs.Steps.{refusing, doing, outgoingOf}
+use Rattle.sender_packets.specs.Asked.{Plain}
+use Rattle.sender.specs.Directives.{placeAt}
+use Rattle.sender_packets.specs.HandingOut.{againIn, againAt, readyControl, readyAgain, nextInWindow, readyNew, ready, rankOf, controlFields, controlOut, againOut, newOut, dataFields, nextFields, nextPayload, nextOut, sentStep, sentOut, handStep, handOut}
+
+module _ (c : Channel) where
+  -- ---- the rank of the packet that is ready
+
+  pub rank-control : readyControl c ≡ true → rankOf c ≡ 0
+  unfolding rankOf ready
+  rank-control h = chosen (readyControl c) _ _ h
+
+  pub rank-state : readyControl c ≡ false → (c .state ≡ opened → ⊥) → rankOf c ≡ 3
+  unfolding rankOf ready
+  rank-state h k = passed-by (readyControl c) _ _ h ∙ simp (ne-eqb _ _ k)
+
+  pub rank-again : readyControl c ≡ false → c .state ≡ opened → againAt c < c .window .flight → rankOf c ≡ 1
+  unfolding rankOf ready
+  rank-again h k a = passed-by (readyControl c) _ _ h ∙ simp (eq-eqb _ _ k, lt-ltb _ _ a)
+
+  pub rank-new : readyControl c ≡ false → c .state ≡ opened → c .window .flight ≤ againAt c → nextInWindow (c .limits) (c .window) ≡ true
+      → rankOf c ≡ 2
+  unfolding rankOf ready
+  rank-new h k a n = passed-by (readyControl c) _ _ h ∙ simp (eq-eqb _ _ k, le-ltb _ _ a) (chosen (nextInWindow (c .limits) (c .window)) _ _ n)
+
+  pub rank-none : readyControl c ≡ false → c .state ≡ opened → c .window .flight ≤ againAt c → nextInWindow (c .limits) (c .window) ≡ false
+      → rankOf c ≡ 3
+  unfolding rankOf ready
+  rank-none h k a n = passed-by (readyControl c) _ _ h ∙ simp (eq-eqb _ _ k, le-ltb _ _ a) (passed-by (nextInWindow (c .limits) (c .window)) _ _ n)
+
+-- the control packet is looked at in ENABLED and CLOSING
+module _ (state : ℕ) (b : Bool) where
+  pub control-enabled : state ≡ enabled → ((eqb state enabled || eqb state closing) && b) ≡ b
+  control-enabled h = simp (eq-eqb state enabled h)
+
+  pub control-closing : (state ≡ enabled → ⊥) → state ≡ closing → ((eqb state enabled || eqb state closing) && b) ≡ b
+  control-closing h k = simp (ne-eqb state enabled h, eq-eqb state closing k)
+
+  pub control-other : (state ≡ enabled → ⊥) → (state ≡ closing → ⊥) → ((eqb state enabled || eqb state closing) && b) ≡ false
+  control-other h k = simp (ne-eqb state enabled h, ne-eqb state closing k)
+
+-- ---- and back: what a rank has shown
+
+module _ (c : Channel) where
+  -- a packet of the rank is ready
+  pub rank-ready : (r : ℕ) → rankOf c ≡ r → r < 3 → ready r c ≡ true
+  unfolding rankOf
+  rank-ready r e l = go (ready 0 c) refl (ready 1 c) refl (ready 2 c) refl e
+    where
+      go : (x : Bool) → ready 0 c ≡ x → (y : Bool) → ready 1 c ≡ y → (z : Bool) → ready 2 c ≡ z
+          → (if x then 0 else if y then 1 else if z then 2 else 3) ≡ r
+          → ready r c ≡ true
+      go true p y q z s e = ap (λ (k : ℕ). ready k c) (sym e) ∙ p
+      go false p true q z s e = ap (λ (k : ℕ). ready k c) (sym e) ∙ q
+      go false p false q true s e = ap (λ (k : ℕ). ready k c) (sym e) ∙ s
+      go false p false q false s e = absurd (omega arith)
+
+  -- and of no lower one
+  pub rank-lowest : (r k : ℕ) → rankOf c ≡ r → k < r → ready k c ≡ false
+  unfolding rankOf
+  rank-lowest r k e l = go k l (ready 0 c) refl (ready 1 c) refl (ready 2 c) refl e
+    where
+      go : (k : ℕ) → k < r → (x : Bool) → ready 0 c ≡ x → (y : Bool) → ready 1 c ≡ y → (z : Bool) → ready 2 c ≡ z
+          → (if x then 0 else if y then 1 else if z then 2 else 3) ≡ r
+          → ready k c ≡ false
+      go k l true p y q z s e = absurd (omega arith)
+      go zero l false p y q z s e = p
+      go (suc k) l false p true q z s e = absurd (omega arith)
+      go (suc zero) l false p false q z s e = q
+      go (suc (suc k)) l false p false q true s e = absurd (omega arith)
+      go (suc (suc zero)) l false p false q false s e = s
+      go (suc (suc (suc k))) l false p false q false s e = absurd (omega arith)
+
+  -- ranks 1 and 2 are of OPEN
+  pub rank-open : (r : ℕ) → rankOf c ≡ r → (0 ≡ r → ⊥) → (3 ≡ r → ⊥) → c .state ≡ opened
+  unfolding rankOf ready
+  rank-open r e z t = go (readyAgain c) refl (readyNew c) refl (not-first (readyControl c) _ _ _ e z .1)
+    where
+      go : (x : Bool) → readyAgain c ≡ x → (y : Bool) → readyNew c ≡ y → (if x then 1 else if y then 2 else 3) ≡ r → c .state ≡ opened
+      go true p y q e = eqb-true _ _ (both (eqb (c .state) opened) _ p .0)
+      go false p true q e = eqb-true _ _ (both (eqb (c .state) opened) _ q .0)
+      go false p false q e = absurd (t e)
+
+  pub rank-1-is : rankOf c ≡ 1 → againAt c < c .window .flight
+  unfolding ready
+  rank-1-is e = ltb-true _ _ (both (eqb (c .state) opened) _ (rank-ready 1 e (omega arith)) .1)
+
+  pub rank-2-is : rankOf c ≡ 2 → (c .window .flight < c .window .ahead) × (c .window .flight < c .limits .window)
+  unfolding ready
+  rank-2-is e =
+      let q = both _ _ (both (eqb (c .state) opened) (nextInWindow (c .limits) (c .window)) (rank-ready 2 e (omega arith)) .1) in
+      (ltb-true _ _ (q .0), ltb-true _ _ (q .1))
+
+-- ---- segments that wait to be resent: at one that does, at one that does not, and at their end
+
+module _ (acked left : List ℕ) (slots : ℕ) where
+  pub again-stop : (n s : ℕ) → (eqb (getD acked s 0) 0 && eqb (getD left s 0) 0) ≡ true → againIn acked left slots n s ≡ 0
+  unfolding againIn
+  again-stop zero s h = refl
+  again-stop (suc n) s h = chosen (eqb (getD acked s 0) 0 && eqb (getD left s 0) 0) _ _ h
+
+  pub again-more : (n i s : ℕ) → i < n → (eqb (getD acked s 0) 0 && eqb (getD left s 0) 0) ≡ false
+      → againIn acked left slots (n - i) s ≡ againIn acked left slots (n - (i + 1)) (roundOf slots (s + 1)) + 1
+  unfolding againIn
+  again-more n i s l h =
+      let e : n - i ≡ suc (n - (i + 1)) = omega arith in
+      ap (λ (k : ℕ). againIn acked left slots k s) e
+      ∙ passed-by (eqb (getD acked s 0) 0 && eqb (getD left s 0) 0) _ _ h
+      ∙ sym (add-one _)
+
+  pub again-none : (n i s : ℕ) → n ≤ i → againIn acked left slots (n - i) s ≡ 0
+  unfolding againIn
+  again-none n i s h = let e : n - i ≡ 0 = omega arith in rw e
+
+-- ---- a packet that goes out
+
+module _ (before after : Channel) (x n : ℕ) where
+  pub sent-small : n < 12 + x → sentStep before after x n ≡ refusing before refusal.Small
+  sent-small h = chosen (ltb n (12 + x)) _ _ (lt-ltb _ _ h)
+
+  pub sent-done : 12 + x ≤ n → sentStep before after x n ≡ doing after (12 + x)
+  sent-done h = passed-by (ltb n (12 + x)) _ _ (le-ltb _ _ h)
+
+module _ (f : Fields) (p out : List ℕ) where
+  pub out-small : length out < 12 + length p → sentOut f p out ≡ out
+  out-small h = chosen (ltb (length out) (12 + length p)) _ _ (lt-ltb _ _ h)
+
+  pub out-done : 12 + length p ≤ length out → sentOut f p out ≡ afterWrite (written.Done (12 + length p)) f p out
+  out-done h = passed-by (ltb (length out) (12 + length p)) _ _ (le-ltb _ _ h)
+
+-- its writer never refuses it
+module _ (node : Node) (a : Addresses) where
+  open-base : lacking (outgoingOf node a 2 3 0) ≡ false
+  unfolding lacking
+  open-base = refl
+
+  close-base : lacking (outgoingOf node a 3 3 0) ≡ false
+  unfolding lacking
+  close-base = refl
+
+  open-plain : strange (outgoingOf node a 2 3 0) 0 ≡ false
+  unfolding strange
+  open-plain = refl
+
+  close-plain : strange (outgoingOf node a 3 3 0) 0 ≡ false
+  unfolding strange
+  close-plain = refl
+
+  pub control-plain : (state : ℕ) → Plain (outgoingOf node a (if eqb state enabled then 2 else 3) 3 0) 0
+  control-plain state = go (eqb state enabled)
+    where
+      go : (t : Bool) → Plain (outgoingOf node a (if t then 2 else 3) 3 0) 0
+      go true = record { base = open-base; plain = open-plain; short = omega arith }
+      go false = record { base = close-base; plain = close-plain; short = omega arith }
+
+  module _ (flags number x : ℕ) where
+    data-base : lacking (outgoingOf node a 0 flags number) ≡ false
+    unfolding lacking
+    data-base = refl
+
+    data-strange : flags ≤ 3 → x ≤ 1024 → strange (outgoingOf node a 0 flags number) x ≡ false
+    unfolding strange
+    data-strange h k = simp (le-leb flags 3 h, le-leb x 65535 (omega arith))
+
+    pub data-plain : flags ≤ 3 → x ≤ 1024 → Plain (outgoingOf node a 0 flags number) x
+    data-plain h k = record { base = data-base; plain = data-strange h k; short = k }
+
+-- ---- the hand-out of each rank
+
+module _ (node : Node) (c : Channel) (lens mem out : List ℕ) where
+  pub hand-control : handStep c lens 0 (length out) ≡ sentStep c (controlOut c) 0 (length out)
+  unfolding handStep nextOut
+  hand-control = refl
+
+  pub hand-again : handStep c lens 1 (length out) ≡ sentStep c (againOut c) (getD lens (slotOf (placeAt c (againAt c))) 0) (length out)
+  unfolding handStep nextOut
+  hand-again = refl
+
+  pub hand-new : handStep c lens 2 (length out) ≡ sentStep c (newOut c) (getD lens (slotOf (placeAt c (c .window .flight))) 0) (length out)
+  unfolding handStep nextOut
+  hand-new = refl
+
+  pub out-control : handOut node c lens mem 0 out ≡ sentOut (controlFields node c) [] out
+  unfolding handOut nextFields nextPayload
+  out-control = refl
+
+  -- the buffer, where the segment in the slot has the slot's length
+  sized-out : (f : Fields) (p : List ℕ) (x : ℕ) → length p ≡ x
+      → (if ltb (length out) (12 + x) then out else afterWrite (written.Done (12 + x)) f p out) ≡ sentOut f p out
+  sized-out f p x e = ap (λ (k : ℕ). if ltb (length out) (12 + k) then out else afterWrite (written.Done (12 + k)) f p out) (sym e)
+
+  pub out-again : length (segmentIn (c .limits .payload) mem lens (slotOf (placeAt c (againAt c)))) ≡ getD lens (slotOf (placeAt c (againAt c))) 0
+      → handOut node c lens mem 1 out ≡ sentOut (dataFields node c (againAt c)) (segmentIn (c .limits .payload) mem lens (slotOf (placeAt c (againAt c)))) out
+  unfolding handOut nextFields nextPayload
+  out-again e = sized-out (dataFields node c (againAt c)) (segmentIn (c .limits .payload) mem lens (slotOf (placeAt c (againAt c)))) (getD lens (slotOf (placeAt c (againAt c))) 0) e
+
+  pub out-new : length (segmentIn (c .limits .payload) mem lens (slotOf (placeAt c (c .window .flight)))) ≡ getD lens (slotOf (placeAt c (c .window .flight))) 0
+      → handOut node c lens mem 2 out ≡ sentOut (dataFields node c (c .window .flight)) (segmentIn (c .limits .payload) mem lens (slotOf (placeAt c (c .window .flight)))) out
+  unfolding handOut nextFields nextPayload
+  out-new e = sized-out (dataFields node c (c .window .flight)) (segmentIn (c .limits .payload) mem lens (slotOf (placeAt c (c .window .flight)))) (getD lens (slotOf (placeAt c (c .window .flight))) 0) e

@@ -1,0 +1,137 @@
+-- Which packet of a channel is next, of what rank, and its hand-out (document 01, Sending: Control before resent Data before new Data; within a
+-- channel the lowest segment).
+use Prim.Native.Nat.{ℕ, zero, suc, _+_, _-_, _%_}
+use mathlib.Core.Bool.{Bool, false, _&&_, _||_}
+use mathlib.Core.List.{List, []}
+use lib.Dec.{ltb, eqb}
+use lib.ListN.{length, getD, set}
+use Rattle.laws.specs.Choice.{if_then_else_}
+use Rattle.ring.specs.Ring.{roundOf}
+use Rattle.slots.specs.Slots.{slotOf, segmentIn}
+use Rattle.packet.specs.declared.fields.Fields.{Fields}
+use Rattle.packet.specs.declared.writing.Written.the-variants as written
+use Rattle.packet.specs.Writing.{afterWrite}
+use Rattle.channel.specs.declared.record.Node.{Node}
+use Rattle.channel.specs.declared.record.Limits.{Limits}
+use Rattle.channel.specs.declared.record.Window.{Window}
+use Rattle.channel.specs.declared.record.Channel.{Channel}
+use Rattle.channel.specs.declared.step.Stepped.{Stepped}
+use Rattle.channel.specs.declared.answer.Refusal.the-variants as refusal
+use Rattle.channel.specs.Record.{enabled, opened, closing, withControl, withWindow, withTimers}
+use Rattle.channel.specs.Steps.{refusing, doing, outgoingOf}
+use Rattle.channel.specs.Lone.{isReady, handedOut}
+use Rattle.sender.specs.Directives.{placeAt}
+
+-- ---- ready packets, by rank: 0 Control, 1 resent Data, 2 new Data
+
+-- of n segments from a place on, how many there are before the first that is not acknowledged and whose timer has ended; n if none is so
+unfoldable pub againIn : List ℕ → List ℕ → ℕ → ℕ → ℕ → ℕ
+againIn acked left slots zero from = 0
+againIn acked left slots (suc n) from =
+    if eqb (getD acked from 0) 0 && eqb (getD left from 0) 0 then 0
+    else suc (againIn acked left slots n (roundOf slots (from + 1)))
+
+-- the lowest segment that is ready again, counted from the start; as many as are in flight if none is
+abbrev pub againAt : Channel → ℕ
+againAt c = againIn (c .acked) (c .timers .left) (c .limits .slots) (c .window .flight) (c .window .place)
+
+-- the Open in ENABLED, the Close in CLOSING
+abbrev pub readyControl : Channel → Bool
+readyControl c = (eqb (c .state) enabled || eqb (c .state) closing) && isReady (c .control)
+
+abbrev pub readyAgain : Channel → Bool
+readyAgain c = eqb (c .state) opened && ltb (againAt c) (c .window .flight)
+
+-- there is a segment that was not yet handed out, and only the k numbers from the window start may be sent
+abbrev pub nextInWindow : Limits → Window → Bool
+nextInWindow l w = ltb (w .flight) (w .ahead) && ltb (w .flight) (l .window)
+
+abbrev pub readyNew : Channel → Bool
+readyNew c = eqb (c .state) opened && nextInWindow (c .limits) (c .window)
+
+-- a packet of this rank is ready
+unfoldable pub ready : ℕ → Channel → Bool
+ready rank c =
+    if eqb rank 0 then readyControl c
+    else if eqb rank 1 then readyAgain c
+    else if eqb rank 2 then readyNew c
+    else false
+
+-- the lowest rank of which a packet is ready; 3 if none is
+unfoldable pub rankOf : Channel → ℕ
+rankOf c = if ready 0 c then 0 else if ready 1 c then 1 else if ready 2 c then 2 else 3
+
+-- ---- the hand-out of the packet of a rank
+
+-- an Open in ENABLED, a Close in CLOSING, both numbered 0
+abbrev pub controlFields : Node → Channel → Fields
+controlFields node c = outgoingOf node (c .addresses) (if eqb (c .state) enabled then 2 else 3) 3 0
+
+-- the i-th segment from the start on: its flags are its mark less 1, its number counts on from the start
+abbrev pub dataFields : Node → Channel → ℕ → Fields
+dataFields node c i =
+    outgoingOf node (c .addresses) 0 (getD (c .marks) (placeAt c i) 0 - 1) ((c .window .start + i) % 256)
+
+-- the timer of the segment at a place starts at the timeout, and so many resends are left to it
+abbrev pub timedAt : Channel → ℕ → ℕ → Channel
+timedAt c place tries =
+    withTimers c
+    (record {
+      closing = c .timers .closing;
+      left = set (c .timers .left) place (c .limits .timeout);
+      tries = set (c .timers .tries) place tries;
+    })
+
+abbrev pub oneMore : Window → Window
+oneMore w =
+    record { start = w .start; place = w .place; behind = w .behind; ahead = w .ahead; flight = w .flight + 1; way = w .way }
+
+abbrev pub controlOut : Channel → Channel
+controlOut c = withControl c (handedOut (c .control) (c .limits .timeout) (c .limits .retries))
+
+abbrev pub againOut : Channel → Channel
+againOut c = timedAt c (placeAt c (againAt c)) (getD (c .timers .tries) (placeAt c (againAt c)) 0 - 1)
+
+abbrev pub newOut : Channel → Channel
+newOut c = withWindow (timedAt c (placeAt c (c .window .flight)) (c .limits .retries)) (oneMore (c .window))
+
+-- the segment of a rank, counted from the start
+abbrev pub segmentFor : Channel → ℕ → ℕ
+segmentFor c rank = if eqb rank 1 then againAt c else c .window .flight
+
+-- the fields and the payload of the packet of a rank
+unfoldable pub nextFields : Node → Channel → ℕ → Fields
+nextFields node c rank = if eqb rank 0 then controlFields node c else dataFields node c (segmentFor c rank)
+
+unfoldable pub nextPayload : Channel → List ℕ → List ℕ → ℕ → List ℕ
+nextPayload c lens mem rank =
+    if eqb rank 0 then [] else segmentIn (c .limits .payload) mem lens (slotOf (placeAt c (segmentFor c rank)))
+
+-- the channel once it is handed out
+unfoldable pub nextOut : Channel → ℕ → Channel
+nextOut c rank = if eqb rank 0 then controlOut c else if eqb rank 1 then againOut c else newOut c
+
+-- how many octets the packet has: only its payload's length counts
+abbrev pub nextLength : Channel → List ℕ → ℕ → ℕ
+nextLength c lens rank = 12 + (if eqb rank 0 then 0 else getD lens (slotOf (placeAt c (segmentFor c rank))) 0)
+
+-- a packet with a payload of x octets goes out into a buffer of n, and the channel is then another; 11 if it does not fit, and nothing changes
+abbrev pub sentStep : Channel → Channel → ℕ → ℕ → Stepped
+sentStep before after x n = if ltb n (12 + x) then refusing before refusal.Small else doing after (12 + x)
+
+-- the buffer afterwards
+abbrev pub sentOut : Fields → List ℕ → List ℕ → List ℕ
+sentOut f p out =
+    if ltb (length out) (12 + length p) then out else afterWrite (written.Done (12 + length p)) f p out
+
+-- the answer for a rank that is ready, with a buffer of n octets: 11 if the packet does not fit, and nothing changes
+unfoldable pub handStep : Channel → List ℕ → ℕ → ℕ → Stepped
+handStep c lens rank n =
+    if ltb n (nextLength c lens rank) then refusing c refusal.Small
+    else doing (nextOut c rank) (nextLength c lens rank)
+
+-- the buffer afterwards
+unfoldable pub handOut : Node → Channel → List ℕ → List ℕ → ℕ → List ℕ → List ℕ
+handOut node c lens mem rank out =
+    if ltb (length out) (nextLength c lens rank) then out
+    else afterWrite (written.Done (nextLength c lens rank)) (nextFields node c rank) (nextPayload c lens mem rank) out

@@ -1,0 +1,181 @@
+-- Laws of units filed and reclaimed: what each step answers in each case.
+-- Assumes nothing.
+use mathlib.Core.Path.{_≡_, refl, sym, ap, ap₂, _∙_}
+use mathlib.Core.Bool.{Bool, true, false, not}
+use mathlib.Core.List.{List}
+use Prim.Native.Nat.{ℕ, _+_, _≤_, _<_}
+use native.Mathlib.Omega.{arith}
+use borrow.Author.Tests.{lt-ltb, le-ltb, lt-leb, le-leb, eq-eqb, ne-eqb, leb-true, eqb-true}
+use lib.Dec.{ltb, leb, eqb}
+use lib.ListN.{length}
+use Rattle.laws.specs.Choice.{if_then_else_}
+use Rattle.laws.proofs.Choice.{chosen, passed-by, both}
+use Rattle.ring.specs.Ring.{cleared}
+use Rattle.slots.specs.Slots.{slotOf, laid}
+use Rattle.slots.specs.Units.{segmentsOf}
+use Rattle.store.specs.Store.{sizeIn, octetsIn, filedMem, filedLens, filedMarks, EachFits}
+use Rattle.channel.specs.declared.record.Channel.{Channel}
+use Rattle.channel.specs.declared.answer.Refusal.the-variants as refusal
+use Rattle.channel.specs.Record.{closed, opened, heldIn, withWindow, withMarks, withAcked}
+use Rattle.channel.specs.Steps.{refusing, doing}
+use Rattle.channel.specs.Asked.{Asked}
+use Rattle.sender_units.specs.Transfer.{wouldTransfer, isAccepted, longer, filedUnit, transferStep, transferMem, transferLens, freeAt}
+use Rattle.sender_units.specs.Reclaiming.{unitAt, sizeAt, dropped, reclaimStep, reclaimOut}
+use Rattle.sender.proofs.AskedLaws.{mark-fits}
+
+-- ---- transfer
+
+module _ (c : Channel) (n count : ℕ) (e : count ≡ segmentsOf (c .limits .payload) n) where
+  module _ (h : c .state ≡ opened) where
+    pub would-long : c .limits .segments < count → wouldTransfer c n ≡ refusing c refusal.Long
+    unfolding wouldTransfer
+    would-long k = simp (eq-eqb _ _ h, ← e, lt-ltb _ _ k)
+
+    pub would-room : count ≤ c .limits .segments → c .limits .slots < heldIn (c .window) + count → wouldTransfer c n ≡ refusing c refusal.NoRoom
+    unfolding wouldTransfer
+    would-room k r = simp (eq-eqb _ _ h, ← e, le-ltb _ _ k, lt-ltb _ _ r)
+
+    pub would-done : count ≤ c .limits .segments → heldIn (c .window) + count ≤ c .limits .slots → wouldTransfer c n ≡ doing c 0
+    unfolding wouldTransfer
+    would-done k r = simp (eq-eqb _ _ h, ← e, le-ltb _ _ k, le-ltb _ _ r)
+
+    pub not-accepted : c .limits .segments < count → isAccepted c n ≡ false
+    unfolding isAccepted
+    not-accepted k = simp (eq-eqb _ _ h, ← e, lt-leb _ _ k)
+
+    pub accepted-by : count ≤ c .limits .segments → isAccepted c n ≡ leb (heldIn (c .window) + count) (c .limits .slots)
+    unfolding isAccepted
+    accepted-by k = simp (eq-eqb _ _ h, ← e, le-leb _ _ k)
+
+pub would-state : (c : Channel) (n : ℕ) → (c .state ≡ opened → ⊥) → wouldTransfer c n ≡ refusing c refusal.State
+unfolding wouldTransfer
+would-state c n h = simp (ne-eqb _ _ h)
+
+-- it is a question: the channel is as it was
+pub would-same : (c : Channel) (n : ℕ) → wouldTransfer c n .channel ≡ c
+unfolding wouldTransfer
+would-same c n =
+    go (eqb (c .state) opened) (ltb (c .limits .segments) (segmentsOf (c .limits .payload) n))
+    (ltb (c .limits .slots) (heldIn (c .window) + segmentsOf (c .limits .payload) n))
+  where
+    go : (a b d : Bool)
+        → (if not a then refusing c refusal.State
+        else if b then refusing c refusal.Long
+        else if d then refusing c refusal.NoRoom
+        else doing c 0) .channel
+        ≡ c
+    go false b d = refl
+    go true true d = refl
+    go true false true = refl
+    go true false false = refl
+
+pub closed-accepts : (c : Channel) (n : ℕ) → (c .state ≡ opened → ⊥) → isAccepted c n ≡ false
+unfolding isAccepted
+closed-accepts c n h = simp (ne-eqb _ _ h)
+
+pub accepted-is : (c : Channel) (n : ℕ) → isAccepted c n ≡ true
+    → (c .state ≡ opened) × (segmentsOf (c .limits .payload) n ≤ c .limits .segments) × (heldIn (c .window) + segmentsOf (c .limits .payload) n ≤ c .limits .slots)
+unfolding isAccepted
+accepted-is c n e =
+    let p = both _ _ e in
+    let q = both _ _ (p .0) in
+    (eqb-true _ _ (q .0), leb-true _ _ (q .1), leb-true _ _ (p .1))
+
+module _ (c : Channel) (u mem lens : List ℕ) where
+  module _ (e : isAccepted c (length u) ≡ false) where
+    pub transfer-no : transferStep c (length u) ≡ wouldTransfer c (length u)
+    unfolding transferStep
+    transfer-no = passed-by (isAccepted c (length u)) _ _ e
+
+    pub transfer-no-mem : transferMem c u mem ≡ mem
+    unfolding transferMem
+    transfer-no-mem = passed-by (isAccepted c (length u)) _ _ e
+
+    pub transfer-no-lens : transferLens c u lens ≡ lens
+    unfolding transferLens
+    transfer-no-lens = passed-by (isAccepted c (length u)) _ _ e
+
+  module _ (e : isAccepted c (length u) ≡ true) where
+    pub transfer-done : transferStep c (length u) ≡ doing (filedUnit c (length u)) 0
+    unfolding transferStep
+    transfer-done = chosen (isAccepted c (length u)) _ _ e
+
+    pub transfer-done-mem : transferMem c u mem ≡ filedMem slotOf (c .limits .payload) (c .limits .slots) u mem (segmentsOf (c .limits .payload) (length u)) 0 (freeAt c)
+    unfolding transferMem
+    transfer-done-mem = chosen (isAccepted c (length u)) _ _ e
+
+    pub transfer-done-lens : transferLens c u lens ≡ filedLens slotOf (c .limits .payload) (c .limits .slots) u lens (segmentsOf (c .limits .payload) (length u)) 0 (freeAt c)
+    unfolding transferLens
+    transfer-done-lens = chosen (isAccepted c (length u)) _ _ e
+
+-- the unit filed, from what the calls gave
+pub filed-is : (c : Channel) (n count from ahead : ℕ) (marks acked : List ℕ)
+    → count ≡ segmentsOf (c .limits .payload) n
+    → from ≡ freeAt c
+    → ahead ≡ c .window .ahead + count
+    → marks ≡ filedMarks (c .limits .slots) count (c .marks) count 0 from
+    → acked ≡ cleared (c .acked) (c .limits .slots) count from
+    → withAcked (withMarks (withWindow c (longer (c .window) count)) marks) acked ≡ filedUnit c n
+filed-is c n count from ahead marks acked ec ef ea em ek =
+    ap₂ (λ (m a : List ℕ). withAcked (withMarks (withWindow c (longer (c .window) count)) m) a)
+    (em ∙ ap (λ (k : ℕ). filedMarks (c .limits .slots) count (c .marks) count 0 k) ef)
+    (ek ∙ ap (λ (k : ℕ). cleared (c .acked) (c .limits .slots) count k) ef)
+    ∙ ap
+    (λ (k : ℕ).
+    withAcked (withMarks (withWindow c (longer (c .window) k)) (filedMarks (c .limits .slots) k (c .marks) k 0 (freeAt c)))
+    (cleared (c .acked) (c .limits .slots) k (freeAt c)))
+    ec
+
+-- ---- a unit reclaimed
+
+module _ (c : Channel) (lens mem out : List ℕ) where
+  pub reclaim-state : (c .state ≡ closed → ⊥) → reclaimStep c lens (length out) ≡ refusing c refusal.State
+  unfolding reclaimStep
+  reclaim-state h = simp (ne-eqb _ _ h)
+
+  pub reclaim-state-out : (c .state ≡ closed → ⊥) → reclaimOut c lens mem out ≡ out
+  unfolding reclaimOut
+  reclaim-state-out h = simp (ne-eqb _ _ h)
+
+  module _ (h : c .state ≡ closed) where
+    pub reclaim-none : c .window .ahead ≡ 0 → reclaimStep c lens (length out) ≡ refusing c refusal.Nothing
+    unfolding reclaimStep
+    reclaim-none k = simp (eq-eqb _ _ h, eq-eqb _ _ k)
+
+    pub reclaim-none-out : c .window .ahead ≡ 0 → reclaimOut c lens mem out ≡ out
+    unfolding reclaimOut
+    reclaim-none-out k = simp (eq-eqb _ _ h, eq-eqb _ _ k)
+
+    module _ (k : c .window .ahead ≡ 0 → ⊥) (n size : ℕ) (en : n ≡ unitAt c) (es : size ≡ sizeIn slotOf lens (c .limits .slots) n (c .window .place)) where
+      size-is : size ≡ sizeAt c lens
+      size-is = es ∙ ap (λ (m : ℕ). sizeIn slotOf lens (c .limits .slots) m (c .window .place)) en
+
+      fits-not : length out < size → ltb (length out) (sizeAt c lens) ≡ true
+      fits-not l = ap (ltb (length out)) (sym size-is) ∙ lt-ltb _ _ l
+
+      fits : size ≤ length out → ltb (length out) (sizeAt c lens) ≡ false
+      fits l = ap (ltb (length out)) (sym size-is) ∙ le-ltb _ _ l
+
+      pub reclaim-small : length out < size → reclaimStep c lens (length out) ≡ refusing c refusal.Small
+      unfolding reclaimStep
+      reclaim-small l = simp (eq-eqb _ _ h, ne-eqb _ _ k, fits-not l)
+
+      pub reclaim-small-out : length out < size → reclaimOut c lens mem out ≡ out
+      unfolding reclaimOut
+      reclaim-small-out l = simp (eq-eqb _ _ h, ne-eqb _ _ k, fits-not l)
+
+      pub reclaim-done : size ≤ length out → doing (dropped c n) size ≡ reclaimStep c lens (length out)
+      unfolding reclaimStep
+      reclaim-done l = ap₂ (λ (m s : ℕ). doing (dropped c m) s) en size-is ∙ sym (simp (eq-eqb _ _ h, ne-eqb _ _ k, fits l))
+
+      pub reclaim-done-out : size ≤ length out
+          → laid out 0 (octetsIn slotOf (c .limits .payload) mem lens (c .limits .slots) n (c .window .place)) ≡ reclaimOut c lens mem out
+      unfolding reclaimOut
+      reclaim-done-out l =
+          ap (λ (m : ℕ). laid out 0 (octetsIn slotOf (c .limits .payload) mem lens (c .limits .slots) m (c .window .place))) en
+          ∙ sym (simp (eq-eqb _ _ h, ne-eqb _ _ k, fits l))
+
+-- the oldest unit: each of its segments has at most P octets
+pub unit-fits : (c : Channel) (mem lens : List ℕ) → Asked c mem lens → (n : ℕ) → n ≤ c .window .ahead
+    → EachFits slotOf (c .limits .payload) lens (c .limits .slots) n (c .window .place)
+unit-fits c mem lens a n h i l = mark-fits c lens (a .standing) i (omega arith) .1
