@@ -1,6 +1,4 @@
 // Runs what document 01 gives as numbers to check of the check sum and the packet, and shows one packet written and read.
-mod alone;
-mod exchange;
 mod numbers;
 mod show;
 
@@ -16,12 +14,6 @@ fn main() {
     packet_controls();
     one_packet();
     numbers::say_numbers();
-    say(b"\n000, Appendix B, no error:\n");
-    exchange::exchange(0, 0);
-    say(b"000, Appendix B, a Data packet is lost:\n");
-    exchange::exchange(2, 0);
-    say(b"000, Appendix B, an Ack is lost:\n");
-    exchange::exchange(0, 2);
 }
 
 fn check_sums() {
