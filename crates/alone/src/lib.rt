@@ -4,9 +4,9 @@ use channel::Node;
 use channel::Refusal;
 use channel::Stepped;
 use channel::record::SENDS;
-use channel::standing::stands;
 use channel::step::refused;
-use packet::Read;
+use channel_stands::stands;
+use packet_read::Read;
 ghost use mathlib.Core.Path.{_≡_};
 ghost use mathlib.Core.Bool.{true};
 ghost use Prim.Native.Nat.{_<_, _+_, _≤_};
@@ -83,7 +83,7 @@ pub fn arrive(
     lens: &mut [u16],
     reply: &mut [u8],
 ) -> Stepped {
-    let read = packet::read_packet(octets);
+    let read = packet_read::read_packet(octets);
     let Read::Found {
         fields,
         start,
@@ -159,7 +159,7 @@ fn reply_to(node: Node, s: Stepped, of_data: bool, number: u8, reply: &mut [u8])
 
 // An ack arrives at a sender.
 pub fn acked(c: Channel, octets: &[u8], lens: &[u16]) -> Stepped {
-    let read = packet::read_packet(octets);
+    let read = packet_read::read_packet(octets);
     let Read::Found {
         fields,
         start: _,

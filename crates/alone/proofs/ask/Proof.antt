@@ -10,7 +10,7 @@ use Rattle.alone.proofs.ask.Statement.{statement}
 use Rattle.alone.proofs.ask.Tie as tie
 use Rattle.alone.proofs.ask.Reads as reads
 use Rattle.alone.proofs.ask.Lts as lts
-use Rattle.channel.proofs.standing.stands.Reads as stands-reads
+use Rattle.channel_stands.proofs.stands.Reads as stands-reads
 use Rattle.channel.proofs.step.refused.Reads as refused-reads
 use Rattle.sender_units.proofs.would_transfer.Reads as would-transfer-reads
 

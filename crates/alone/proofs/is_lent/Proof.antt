@@ -15,7 +15,7 @@ use Rattle.alone.proofs.is_lent.Statement.{statement}
 use Rattle.alone.proofs.is_lent.Tie as tie
 use Rattle.alone.proofs.is_lent.Reads as reads
 use Rattle.alone.proofs.is_lent.Lts as lts
-use Rattle.channel.proofs.standing.stands.Reads as stands-reads
+use Rattle.channel_stands.proofs.stands.Reads as stands-reads
 
 stands-requires : tie.Need-stands-requires
 stands-requires c κs = search needs

@@ -10,7 +10,7 @@ use Rattle.alone.proofs.open_sender.Statement.{statement}
 use Rattle.alone.proofs.open_sender.Tie as tie
 use Rattle.alone.proofs.open_sender.Reads as reads
 use Rattle.alone.proofs.open_sender.Lts as lts
-use Rattle.channel.proofs.standing.stands.Reads as stands-reads
+use Rattle.channel_stands.proofs.stands.Reads as stands-reads
 use Rattle.channel.proofs.step.refused.Reads as refused-reads
 use Rattle.sender.proofs.open_step.Reads as open-step-reads
 
