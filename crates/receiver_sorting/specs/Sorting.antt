@@ -8,8 +8,8 @@ use Rattle.laws.specs.Choice.{if_then_else_}
 use Rattle.ring.specs.Ring.{roundOf}
 use Rattle.channel.specs.declared.record.Limits.{Limits}
 use Rattle.channel.specs.declared.record.Window.{Window}
-use Rattle.receiver_window.specs.declared.sorting.Sort.{Sort}
-use Rattle.receiver_window.specs.declared.sorting.Sort.the-variants.{New, Held, Behind, Other}
+use Rattle.receiver_sorting.specs.declared.sorting.Sort.{Sort}
+use Rattle.receiver_sorting.specs.declared.sorting.Sort.the-variants.{New, Held, Behind, Other}
 
 -- a number less the window start, taken round modulo 256
 abbrev pub distance : ℕ → ℕ → ℕ

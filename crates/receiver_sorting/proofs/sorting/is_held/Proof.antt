@@ -7,12 +7,12 @@ use mathlib.Core.Bool.{not}
 use lib.Dec.{eqb}
 use lib.ListN.{getD}
 use Rattle.ring.proofs.Laws.{round-lt}
-use Rattle.receiver_window.proofs.SortLaws.{held-no-room, held-room}
+use Rattle.receiver_sorting.proofs.SortLaws.{held-no-room, held-room}
 use borrow.Author.Needs.{needs}
-use Rattle.receiver_window.proofs.sorting.is_held.Statement.{statement}
-use Rattle.receiver_window.proofs.sorting.is_held.Tie as tie
-use Rattle.receiver_window.proofs.sorting.is_held.Reads as reads
-use Rattle.receiver_window.proofs.sorting.is_held.Lts as lts
+use Rattle.receiver_sorting.proofs.sorting.is_held.Statement.{statement}
+use Rattle.receiver_sorting.proofs.sorting.is_held.Tie as tie
+use Rattle.receiver_sorting.proofs.sorting.is_held.Reads as reads
+use Rattle.receiver_sorting.proofs.sorting.is_held.Lts as lts
 use Rattle.ring.proofs.round.Reads as round-reads
 
 add-if1 : tie.Need-add-if1

@@ -2,13 +2,13 @@
 -- Assumes nothing.
 use mathlib.Core.Path.{sym, _∙_}
 use native.Mathlib.Omega.{arith}
-use Rattle.receiver_window.proofs.SortLaws.{sort-held, sort-new, sort-behind, sort-other}
+use Rattle.receiver_sorting.proofs.SortLaws.{sort-held, sort-new, sort-behind, sort-other}
 use borrow.Author.Needs.{needs}
-use Rattle.receiver_window.proofs.sorting.sort_at.Statement.{statement}
-use Rattle.receiver_window.proofs.sorting.sort_at.Tie as tie
-use Rattle.receiver_window.proofs.sorting.sort_at.Reads as reads
-use Rattle.receiver_window.proofs.sorting.sort_at.Lts as lts
-use Rattle.receiver_window.proofs.sorting.is_held.Reads as is-held-reads
+use Rattle.receiver_sorting.proofs.sorting.sort_at.Statement.{statement}
+use Rattle.receiver_sorting.proofs.sorting.sort_at.Tie as tie
+use Rattle.receiver_sorting.proofs.sorting.sort_at.Reads as reads
+use Rattle.receiver_sorting.proofs.sorting.sort_at.Lts as lts
+use Rattle.receiver_sorting.proofs.sorting.is_held.Reads as is-held-reads
 
 is-held-requires : tie.Need-is-held-requires
 is-held-requires c κs = search needs

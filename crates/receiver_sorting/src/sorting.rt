@@ -4,7 +4,7 @@ use channel::Window;
 ghost use mathlib.Core.Path.{_≡_};
 ghost use Prim.Native.Nat.{_<_};
 ghost use Rattle.receiver.specs.Asked.{Ringed};
-ghost use Rattle.receiver_window.specs.Sorting.{distance, isHeld, sortAt};
+ghost use Rattle.receiver_sorting.specs.Sorting.{distance, isHeld, sortAt};
 
 pub enum Sort {
     New,

@@ -9,8 +9,8 @@ use lib.Dec.{eqb}
 use lib.ListN.{getD}
 use Rattle.channel.specs.declared.record.Limits.{Limits}
 use Rattle.channel.specs.declared.record.Window.{Window}
-use Rattle.receiver_window.specs.declared.sorting.Sort.the-variants.{New, Held, Behind, Other}
-use Rattle.receiver_window.specs.Sorting.{placeAt, isHeld, sortAt}
+use Rattle.receiver_sorting.specs.declared.sorting.Sort.the-variants.{New, Held, Behind, Other}
+use Rattle.receiver_sorting.specs.Sorting.{placeAt, isHeld, sortAt}
 
 module _ (l : Limits) (w : Window) (marks : List ℕ) (d : ℕ) where
   pub held-no-room : l .slots ≤ w .behind + d → isHeld l w marks d ≡ false
