@@ -1,10 +1,9 @@
-// A channel's record with its nested parts, the settings it is made from, its standing condition, and the answers of its calls
-// (document 01, A channel's record and memory).
+// A channel's record with its nested parts, the settings it is made from, and the answers of its calls (document 01, A channel's record and
+// memory). Its standing condition, a definition here, is tested in `channel_stands`.
 pub mod answer;
 pub mod lone;
 pub mod record;
 pub mod settings;
-pub mod standing;
 pub mod step;
 
 pub use answer::Answer;

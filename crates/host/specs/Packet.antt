@@ -1,11 +1,11 @@
 -- The answers of a packet alone, as C sees them: the number, and the values or zeros.
 use Prim.Native.Nat.{ℕ}
 use Rattle.packet.specs.declared.fields.Fields.{Fields}
-use Rattle.packet.specs.declared.reading.Read.{Read}
-use Rattle.packet.specs.declared.reading.Read.the-variants.{Found, Short, Damaged, Lacking, Strange}
+use Rattle.packet_read.specs.declared.reading.Read.{Read}
+use Rattle.packet_read.specs.declared.reading.Read.the-variants.{Found, Short, Damaged, Lacking, Strange}
 use Rattle.packet.specs.declared.writing.Written.{Written}
 use Rattle.packet.specs.declared.writing.Written.the-variants as written
-use Rattle.packet.specs.Reading.{readNumber}
+use Rattle.packet_read.specs.Reading.{readNumber}
 use Rattle.packet.specs.Writing.{writtenNumber}
 use Rattle.host.specs.declared.Reading.{Reading}
 use Rattle.host.specs.declared.Writing.{Writing}

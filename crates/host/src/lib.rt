@@ -1,11 +1,11 @@
 // The library for C and Rust: each call under the prefix peat_, over numbers, lent slices and #[repr(C)] structs. None has a `requires`.
 use packet::Fields;
-use packet::Read;
 use packet::Written;
+use packet_read::Read;
 ghost use mathlib.Core.Path.{_≡_};
 ghost use lib.ListN.{length};
 ghost use Rattle.crc.specs.Crc.{crcOf};
-ghost use Rattle.packet.specs.Reading.{readOf};
+ghost use Rattle.packet_read.specs.Reading.{readOf};
 ghost use Rattle.packet.specs.Writing.{writtenOf, afterWrite};
 ghost use Rattle.host.specs.Packet.{readingOf, refusal, writingOf};
 
@@ -38,7 +38,7 @@ pub extern "C" fn peat_crc(octets: &[u8]) -> u16
 pub extern "C" fn peat_read_packet(packet: &[u8]) -> Reading
     ensures { λ r. ⌜ r ≡ readingOf (readOf (now (packet .entry))) ⌝ }
 {
-    reading_of(packet::read_packet(packet))
+    reading_of(packet_read::read_packet(packet))
 }
 
 // Writes a packet alone: 0, 3, 4 or 11.

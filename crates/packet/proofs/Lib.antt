@@ -1,4 +1,2 @@
 pub mod Tests
-pub mod ReadLaws
 pub mod WriteLaws
-pub mod RoundTrip

@@ -1,5 +1,3 @@
 pub mod Layout
 pub mod Tests
-pub mod Reading
 pub mod Writing
-pub mod RoundTrip

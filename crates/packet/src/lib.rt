@@ -1,13 +1,9 @@
-// One packet alone: read where it lies, and written into a lent buffer (document 01, The packet).
+// One packet alone: its fields, and how it is written into a lent buffer (document 01, The packet). It is read in `packet_read`.
 // Addresses, protocol ID and channel are plain fields here; whose they are is the node's business.
 pub mod fields;
-pub mod reading;
 pub mod writing;
 
 pub use fields::Fields;
-pub use reading::Read;
-pub use reading::read_number;
-pub use reading::read_packet;
 pub use writing::Written;
 pub use writing::write_packet;
 pub use writing::written_number;

@@ -1,5 +1,6 @@
 // A receive end: Open directives, Control packets, what leaving OPEN keeps, acks and ticks (document 01, Receiving). Each step takes the
-// channel by value and gives it back with an answer. The window is in `receiver_window`, Data and units taken are in `receiver_data`.
+// channel by value and gives it back with an answer. Numbers are sorted in `receiver_sorting`, the start is moved in `receiver_window`, and
+// Data filed and units taken in `receiver_data`.
 pub mod acks;
 pub mod control;
 pub mod leaving;

@@ -14,9 +14,9 @@ use Rattle.channel.specs.declared.step.Stepped.{Stepped}
 use Rattle.channel.specs.declared.answer.Refusal.the-variants as refusal
 use Rattle.channel.specs.Record.{closed, enabled, opened, closing, lateOpen, controlNumber, dataNumber, brokenFlags, noLone, heldIn, withState, withWindow, withTimers}
 use Rattle.channel.specs.Steps.{refusing, doing, repeating, failing, enabledOf}
-use Rattle.receiver_window.specs.declared.sorting.Sort.{Sort}
-use Rattle.receiver_window.specs.declared.sorting.Sort.the-variants.{New, Held, Behind, Other}
-use Rattle.receiver_window.specs.Sorting.{placeAt}
+use Rattle.receiver_sorting.specs.declared.sorting.Sort.{Sort}
+use Rattle.receiver_sorting.specs.declared.sorting.Sort.the-variants.{New, Held, Behind, Other}
+use Rattle.receiver_sorting.specs.Sorting.{placeAt}
 use Rattle.receiver_window.specs.Moving.{movedOf}
 use Rattle.receiver.specs.Receiving.{ackLength, leaving, shutFor, withClosing, openStep, openArrives, closeArrives, controlStep, tickStep}
 use Rattle.receiver_data.specs.Data.{marking, acceptStep, dataBy, awayOf, sortOf, dataStep, memBy, lensBy, dataMem, dataLens}

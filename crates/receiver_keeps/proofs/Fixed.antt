@@ -12,7 +12,7 @@ use Rattle.channel.specs.Record.{receives, withWindow}
 use Rattle.channel.specs.Standing.{Standing}
 use Rattle.channel.specs.Asked.{Asked}
 use Rattle.receiver.specs.Asked.{DataAsked}
-use Rattle.receiver_window.specs.Sorting.{placeAt}
+use Rattle.receiver_sorting.specs.Sorting.{placeAt}
 use Rattle.receiver_window.specs.Moving.{movedOf}
 use Rattle.receiver.specs.Receiving.{leaving, shutFor, openStep, controlStep, tickStep}
 use Rattle.receiver_data.specs.Data.{marking, acceptStep, awayOf, dataStep, dataMem, dataLens}

@@ -27,7 +27,7 @@ use Rattle.channel.specs.Record.{receives, noLone, withState, withWindow, withT
 use Rattle.channel.specs.Standing.{slotFit, Standing, oldestOf}
 use Rattle.channel.proofs.SettingsLaws.{fit-is}
 use Rattle.channel.proofs.MadeLaws.{enabled-stands}
-use Rattle.receiver_window.specs.Sorting.{placeAt}
+use Rattle.receiver_sorting.specs.Sorting.{placeAt}
 use Rattle.receiver_window.specs.Moving.{fitting, wayAfter, passed, movedOf}
 use Rattle.receiver.specs.Receiving.{leaving, shutFor, withClosing, openStep, controlStep, tickStep}
 use Rattle.receiver_data.specs.Data.{marking, acceptStep, awayOf, placeOf, dataStep, dataMem, dataLens}

@@ -11,7 +11,7 @@ use lib.ListN.{length}
 use Rattle.channel.specs.declared.record.Channel.{Channel}
 use Rattle.channel.specs.declared.step.Stepped.{Stepped}
 use Rattle.channel.specs.Answers.{numberOf}
-use Rattle.receiver_window.specs.Sorting.{placeAt}
+use Rattle.receiver_sorting.specs.Sorting.{placeAt}
 use Rattle.receiver.specs.Receiving.{openStep, closeStep, controlStep}
 use Rattle.receiver_data.specs.Data.{awayOf, dataStep, dataMem, dataLens}
 use Rattle.receiver_data.specs.Taking.{completeIn, sizeAt, takeStep, takeOut}

@@ -9,7 +9,7 @@ use Rattle.slots.specs.Units.{segmentsOf}
 use Rattle.channel.specs.declared.record.Channel.{Channel}
 use Rattle.channel.specs.Answers.{numberOf}
 use Rattle.channel.specs.Record.{receives, opened, noReason, noLone, noTimers, noMarks}
-use Rattle.receiver_window.specs.Sorting.{isHeld, sortAt}
+use Rattle.receiver_sorting.specs.Sorting.{isHeld, sortAt}
 use Rattle.receiver_window.specs.Moving.{movedBy}
 use Rattle.receiver_data.specs.Data.{acceptStep, dataStep}
 

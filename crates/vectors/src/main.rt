@@ -1,11 +1,9 @@
 // Runs what document 01 gives as numbers to check of the check sum and the packet, and shows one packet written and read.
-mod alone;
-mod exchange;
 mod numbers;
 mod show;
 
 use packet::Fields;
-use packet::Read;
+use packet_read::Read;
 use show::say;
 use show::say_number;
 use show::say_octet;
@@ -16,12 +14,6 @@ fn main() {
     packet_controls();
     one_packet();
     numbers::say_numbers();
-    say(b"\n000, Appendix B, no error:\n");
-    exchange::exchange(0, 0);
-    say(b"000, Appendix B, a Data packet is lost:\n");
-    exchange::exchange(2, 0);
-    say(b"000, Appendix B, an Ack is lost:\n");
-    exchange::exchange(0, 2);
 }
 
 fn check_sums() {
@@ -107,8 +99,8 @@ fn call_it_fan_4(out: &mut [u8]) {
 // The first n octets, read.
 fn say_read(octets: &[u8], n: usize) {
     if n <= octets.len() {
-        let found = packet::read_packet(&octets[..n]);
-        say_number(packet::read_number(found) as u64);
+        let found = packet_read::read_packet(&octets[..n]);
+        say_number(packet_read::read_number(found) as u64);
         say_found(found);
     }
 }

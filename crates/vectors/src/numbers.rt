@@ -1,5 +1,4 @@
 // The unstarred numbers of document 01 that the ends give.
-use crate::alone;
 use crate::show::say;
 use crate::show::say_number;
 use channel::Addresses;

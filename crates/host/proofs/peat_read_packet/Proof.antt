@@ -8,7 +8,7 @@ use Rattle.host.proofs.peat_read_packet.Tie as tie
 use Rattle.host.proofs.peat_read_packet.Reads as reads
 use Rattle.host.proofs.peat_read_packet.Lts as lts
 use Rattle.host.proofs.reading_of.Reads as reading-of-reads
-use Rattle.packet.proofs.read_packet.Reads as read-packet-reads
+use Rattle.packet_read.proofs.read_packet.Reads as read-packet-reads
 
 read-packet-requires : tie.Need-read-packet-requires
 read-packet-requires c κs = search needs

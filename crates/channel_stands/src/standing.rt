@@ -1,0 +1,164 @@
+// The standing condition of a record with its lengths (docs/CONDITION.md), tested by every call for every record. It looks at each slot once,
+// and once more at those held.
+use channel::Channel;
+use channel::Limits;
+use channel::Window;
+use channel::record::OPEN;
+use channel::record::SENDS;
+use channel::settings::fits_limits;
+ghost use mathlib.Core.Path.{_≡_};
+ghost use Prim.Native.Nat.{_≤_, _<_};
+ghost use lib.ListN.{length};
+ghost use Rattle.slots.specs.Slots.{slotOf};
+ghost use Rattle.channel.specs.Standing.{named, inRing, inFlight, sided, slotFit, slotsFit, marked, standing};
+ghost use Rattle.channel.specs.Record.{sends};
+ghost use lib.Dec.{eqb};
+
+pub fn stands(c: Channel, lens: &[u16]) -> bool
+    ensures { λ r. ⌜ r ≡ standing c (now (lens .entry)) ⌝ }
+{
+    let limits = c.limits;
+    let window = c.window;
+    let marks = c.marks;
+    if !fits_limits(limits) {
+        return false;
+    }
+    if lens.len() != limits.slots {
+        return false;
+    }
+    if !is_named(c) {
+        return false;
+    }
+    if !is_in_ring(limits, window) {
+        return false;
+    }
+    if !is_in_flight(limits, window) {
+        return false;
+    }
+    if !is_sided(c.addresses.direction, c.state, window) {
+        return false;
+    }
+    if !is_marked(limits.slots, window, marks) {
+        return false;
+    }
+    slots_fit(
+        c.addresses.direction == SENDS,
+        limits.slots,
+        limits.payload,
+        marks,
+        lens,
+    )
+}
+
+// The small numbers have a meaning.
+fn is_named(c: Channel) -> bool
+    ensures { λ r. ⌜ r ≡ named c ⌝ }
+{
+    if 1 < c.addresses.direction {
+        return false;
+    }
+    if 3 < c.state {
+        return false;
+    }
+    if 5 < c.reason {
+        return false;
+    }
+    if 1 < c.kept {
+        return false;
+    }
+    if 1 < c.accepted {
+        return false;
+    }
+    c.control.state <= 3
+}
+
+// What is held is within the slots.
+fn is_in_ring(l: Limits, w: Window) -> bool
+    ensures { λ r. ⌜ r ≡ inRing l w ⌝ }
+{
+    if l.slots <= w.place {
+        return false;
+    }
+    if l.slots < w.behind {
+        return false;
+    }
+    w.ahead <= l.slots - w.behind
+}
+
+// What was handed out is within what is ahead and the window, and what is on the way within what is behind and the unit.
+fn is_in_flight(l: Limits, w: Window) -> bool
+    ensures { λ r. ⌜ r ≡ inFlight l w ⌝ }
+{
+    if w.ahead < w.flight {
+        return false;
+    }
+    if l.window < w.flight {
+        return false;
+    }
+    if w.behind < w.way {
+        return false;
+    }
+    w.way < l.segments
+}
+
+// A receiver has nothing ahead; a sender has nothing on the way, and out of OPEN nothing behind the start or in flight.
+fn is_sided(direction: u8, state: u8, w: Window) -> bool
+    ensures { λ r. ⌜ r ≡ sided direction state w ⌝ }
+{
+    if direction != SENDS {
+        return w.ahead == 0;
+    }
+    if w.way != 0 {
+        return false;
+    }
+    if state == OPEN {
+        return true;
+    }
+    if w.behind != 0 {
+        return false;
+    }
+    w.flight == 0
+}
+
+// Each segment held lies in a slot that is marked.
+fn is_marked(slots: usize, w: Window, marks: [u8; 128]) -> bool
+    requires { ⌜ (w .place < slots) × (w .behind ≤ slots) × (w .ahead ≤ 128) × (slots ≤ 128) ⌝ }
+    ensures { λ r. ⌜ r ≡ marked slots w marks ⌝ }
+{
+    let held = w.behind + w.ahead;
+    ring::run(marks, slots, held, ring::back(slots, w.place, w.behind)) == held
+}
+
+// Each slot that is marked has a length that fits. Marks lie by place, lengths by slot.
+fn slots_fit(sending: bool, slots: usize, most: usize, marks: [u8; 128], lens: &[u16]) -> bool
+    requires { ⌜ (slots ≤ 128) × (slots ≤ length (now lens)) ⌝ }
+    ensures { λ r. ⌜ r ≡ slotsFit slotOf sending most marks (now (lens .entry)) slots 0 ⌝ }
+{
+    let mut i: usize = 0;
+    while i < slots {
+        let slot = slots::slot_of(i);
+        if !slot_fits(sending, most, marks[i], lens[slot] as usize) {
+            return false;
+        }
+        i += 1;
+    }
+    true
+}
+
+fn slot_fits(sending: bool, most: usize, mark: u8, len: usize) -> bool
+    ensures { λ r. ⌜ r ≡ slotFit sending most mark len ⌝ }
+{
+    if mark == 0 {
+        return true;
+    }
+    if 4 < mark {
+        return false;
+    }
+    if sending {
+        if 3 <= mark {
+            return len <= most;
+        }
+        return len == most;
+    }
+    len <= most
+}
