@@ -1,6 +1,9 @@
 -- The plain types of the crate's calls, as the walks take them.
-use mathlib.Core.Path.{refl}
+use mathlib.Core.Path.{refl, ap}
+use mathlib.Core.List.{List, [], _∷_}
 use mir.Syntax.{w32, w64}
+use mir.Val.{Val, vstruct, ofList}
+use denote.Array.{arrayVal}
 use denote.Struct.Laws as LL
 use Rattle.channel.proofs.record.Channel as C
 use Rattle.channel.proofs.record.Channel.Laws as C′
@@ -19,9 +22,12 @@ use Rattle.walked.proofs.Ticked as T
 use Rattle.walked.proofs.Ticked.Laws as T′
 use Rattle.walked.proofs.Verdict as V′
 use Rattle.walked.proofs.Verdict.Laws as V″
+use Rattle.walked.proofs.Kept as P
+use Rattle.walked.proofs.Kept.Laws as P′
 use Rattle.walks.proofs.Tab.{struct-elem, enum-elem}
 use Rattle.walks.proofs.Plain.{Kind, Has, uint, truth}
 use Rattle.walks.proofs.Served.{Served, Tested}
+use Rattle.walks.proofs.Held.{Held, vals-through, lies-through}
 
 abbrev pub channel : Kind
 channel = record { row = C.the-row; ty = C′.mir; elem = struct-elem C.the-type C′.the-laws C′.the-copy C′.the-plain }
@@ -79,3 +85,23 @@ refusal = record { index = 1; part = λ s. s .answer; symbol = _; types = _; off
 -- the types of a call that is done where a test holds
 abbrev pub tested : Tested
 tested = record { channel = channel; answer = answer; verdict = verdict; holds = holds; refusal = refusal }
+
+abbrev pub kept : Kind
+kept = record { row = P.the-row; ty = P′.mir; elem = struct-elem P.the-type P′.the-laws P′.the-copy P′.the-plain }
+
+-- the types of a call on two channels that are held by value
+abbrev pub held : Held
+held = record {
+  channel = channel;
+  answer = answer;
+  count = 2;
+  kept = kept;
+  said = λ r. r .answer;
+  table = λ r. r .table;
+  holding = λ a ys. record { answer = a; table = ys };
+  holds = λ Q a ys h. h;
+  val-is = λ a ys. ap (λ (us : List Val). vstruct (ofList (answer .elem .val a ∷ arrayVal us ∷ []))) (vals-through C.the-type C′.the-laws ys);
+  owes = λ a ys ia iys. LL.owes P.the-type P′.the-laws (record { answer = a; table = ys }) (ia, (lies-through C.the-type C′.the-laws 2 ys iys, tt));
+  fits = tt;
+  small = tt;
+}

@@ -3,11 +3,11 @@ use mathlib.Core.Path.{_≡_}
 use mathlib.Core.Bool.{Bool, false}
 use mathlib.Core.List.{List, map}
 use lib.Dec.{eqb}
-use Prim.Native.Nat.{ℕ, _<_}
+use Prim.Native.Nat.{ℕ, zero, suc, _+_, _<_}
 use lib.ListN.{length, replicate}
 use Rattle.walks.specs.Fold.{foldFrom}
 use Rattle.walks.specs.Sweep.{sweepT, sweepA}
-use Rattle.walks.specs.Serving.{Roles, Worked, Called, Changed, works, changes, serving, ordering, doneBy}
+use Rattle.walks.specs.Serving.{Roles, Worked, Called, Changed, works, leaves, changes, serving, ordering, doneBy}
 use Rattle.channel.specs.declared.record.Channel.{Channel}
 use Rattle.channel.specs.declared.record.Settings.{Settings}
 use Rattle.channel.specs.declared.answer.Answer.{Answer}
@@ -127,3 +127,18 @@ settingsEnd n = A.Done 0 0
 
 abbrev pub configured : List Channel → List ℕ → List ℕ → List Settings → Changed Answer Channel
 configured ys m l xs = under (settled (seen xs l (started 0)) (length ys) (length xs) (length m) (length l)) ys (changes (settingsEnd (length xs)) (map madeOf xs))
+
+-- ---- the table held by value: in turn i it is served at i, then ticked
+abbrev pub tickedAfter : Called Answer Channel → Called Answer Channel
+tickedAfter w = leaves (ticking (w .table) (w .mem) (w .lens) .answer) (ticking (w .table) (w .mem) (w .lens) .table) (w .mem) (w .lens) (w .out)
+
+abbrev pub turned : ℕ → List ℕ → Called Answer Channel → Called Answer Channel
+turned i x w = tickedAfter (served (w .table) (w .mem) (w .lens) i x (w .out))
+
+unfoldable pub turnsFrom : ℕ → ℕ → List ℕ → Called Answer Channel → Called Answer Channel
+turnsFrom zero i x w = w
+turnsFrom (suc k) i x w = turnsFrom k (i + 1) x (turned i x w)
+
+-- before the first turn
+abbrev pub untried : Answer
+untried = A.Refused R.Nothing

@@ -14,7 +14,7 @@ ghost use Rattle.walks.specs.Fold.{foldFrom};
 ghost use Rattle.walks.specs.Sweep.{Every};
 ghost use Rattle.walks.specs.Serving.{works, leaves, changes};
 ghost use Rattle.channel.specs.Record.{madeOf};
-ghost use Rattle.walked.specs.Walked.{started, countOne, decided, serveStart, serveWork, serveAsks, served, transferStart, transferWork, transferred, takeStart, takeWork, taken, openStep, opened, ticked, tickAsks, tickT, tickA, blank, judged, tickEnd, ticking, seeOne, settled, settingsEnd, configured};
+ghost use Rattle.walked.specs.Walked.{started, countOne, decided, serveStart, serveWork, serveAsks, served, transferStart, transferWork, transferred, takeStart, takeWork, taken, openStep, opened, ticked, tickAsks, tickT, tickA, blank, judged, tickEnd, ticking, seeOne, settled, settingsEnd, configured, untried, turnsFrom};
 
 pub struct Survey {
     pub want: usize,
@@ -350,5 +350,68 @@ pub fn configure(t: &mut [Channel], mem: &[u8], lens: &[u16], s: &[Settings]) ->
         r
     } else {
         d.answer
+    }
+}
+
+// ---- a table held by value: whoever calls these has no reference to a struct, and is covered
+pub struct Kept {
+    pub answer: Answer,
+    pub table: [Channel; 2],
+}
+
+pub fn serve_in(
+    t: [Channel; 2],
+    mem: &mut [u8],
+    lens: &mut [u16],
+    i: usize,
+    x: &[u8],
+    out: &mut [u8],
+) -> Kept
+    ensures { λ r. ⌜ leaves (r .answer) (r .table) (now (mem .exit)) (now (lens .exit)) (now (out .exit)) ≡ served t (now (mem .entry)) (now (lens .entry)) i (now (x .entry)) (now (out .entry)) ⌝ }
+{
+    let mut u = t;
+    let a = serve(&mut u, mem, lens, i, x, out);
+    Kept {
+        answer: a,
+        table: u,
+    }
+}
+
+pub fn tick_in(t: [Channel; 2], mem: &[u8], lens: &[u16]) -> Kept
+    ensures { λ r. ⌜ changes (r .answer) (r .table) ≡ ticking t (now (mem .entry)) (now (lens .entry)) ⌝ }
+{
+    let mut u = t;
+    let a = tick(&mut u, mem, lens);
+    Kept {
+        answer: a,
+        table: u,
+    }
+}
+
+// Covered: the table goes from call to call by value.
+pub fn serve_in_turn(
+    t: [Channel; 2],
+    mem: &mut [u8],
+    lens: &mut [u16],
+    n: usize,
+    x: &[u8],
+    out: &mut [u8],
+) -> Kept
+    ensures { λ r. ⌜ leaves (r .answer) (r .table) (now (mem .exit)) (now (lens .exit)) (now (out .exit)) ≡ turnsFrom n 0 (now (x .entry)) (leaves untried t (now (mem .entry)) (now (lens .entry)) (now (out .entry))) ⌝ }
+{
+    let mut u = t;
+    let mut a = Answer::Refused(Refusal::Nothing);
+    let mut i: usize = 0;
+    while i < n {
+        let k = serve_in(u, mem, lens, i, x, out);
+        let v = k.table;
+        let l = tick_in(v, mem, lens);
+        u = l.table;
+        a = l.answer;
+        i = i + 1;
+    }
+    Kept {
+        answer: a,
+        table: u,
     }
 }

@@ -16,3 +16,6 @@ pub mod Serving
 pub mod Sweeping
 pub mod Making
 pub mod Testing
+pub mod Held
+pub mod HeldCall
+pub mod HeldSweeping
