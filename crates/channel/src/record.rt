@@ -29,6 +29,9 @@ pub const DATA_NUMBER: u8 = 4;
 
 pub const BROKEN_FLAGS: u8 = 5;
 
+// The protocol ID of SpaceWire-R (000, 4.2.3.3): what a node has unless it is set otherwise.
+pub const PROTOCOL: u8 = 5;
+
 // The node's own settings.
 #[repr(C)]
 pub struct Node {

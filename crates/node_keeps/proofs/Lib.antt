@@ -1,0 +1,11 @@
+pub mod OneOutcome
+pub mod Storing
+pub mod Serving
+pub mod StepsKeep
+pub mod CallsKeep
+pub mod CallsRefuse
+pub mod Parts
+pub mod Alone
+pub mod CallsAlone
+pub mod Marks
+pub mod Settled

@@ -1,0 +1,236 @@
+-- Every step of a channel keeps what the test for 13 asks: the record stands with the lengths left, and nothing that the settings fixed has changed.
+-- Assumes nothing.
+use mathlib.Core.Path.{_≡_, refl, sym, ap, _∙_, subst}
+use mathlib.Core.Bool.{Bool, true, false, _&&_, _||_}
+use mathlib.Core.List.{List}
+use Prim.Native.Nat.{ℕ, _≤_, _<_}
+use native.Mathlib.Omega.{arith}
+use borrow.Author.Tests.{eqb-true, eqb-false, eq-eqb, ne-eqb}
+use lib.Dec.{eqb}
+use lib.ListN.{length, drop, length-take}
+use Rattle.laws.proofs.Choice.{both, chosen, passed-by}
+use Rattle.slots.specs.Slots.{Sized}
+use Rattle.packet.specs.declared.fields.Fields.{Fields}
+use Rattle.packet.specs.Layout.{fieldsAt, lengthAt, payloadAt}
+use Rattle.walks.specs.Serving.{works}
+use Rattle.channel.specs.declared.record.Node.{Node}
+use Rattle.channel.specs.declared.record.Addresses.{Addresses}
+use Rattle.channel.specs.declared.record.Channel.{Channel}
+use Rattle.channel.specs.declared.answer.Refusal.{Refusal}
+use Rattle.channel.specs.declared.answer.Refusal.the-variants as refusal
+use Rattle.channel.specs.declared.step.Stepped.{Stepped}
+use Rattle.channel.specs.Record.{sends, receives}
+use Rattle.channel.specs.Standing.{Standing}
+use Rattle.channel.specs.Steps.{refusing}
+use Rattle.sender.specs.Directives as sender
+use Rattle.sender_units.specs.Reclaiming.{reclaimStep, reclaimOut}
+use Rattle.sender_packets.specs.HandingOut.{handStep, handOut}
+use Rattle.sender_acks.specs.Acks.{controlAckStep, dataAckStep}
+use Rattle.sender_keeps.proofs.Keeps.{named-is}
+use Rattle.sender_keeps.proofs.KeepsDirectives.{open-stands, close-stands, control-ack-stands, tick-stands}
+use Rattle.sender_keeps.proofs.KeepsHandingOut.{hand-stands}
+use Rattle.sender_keeps.proofs.KeepsReclaiming.{reclaim-stands}
+use Rattle.sender_keeps.proofs.KeepsAcks.{data-ack-stands}
+use Rattle.sender_keeps.proofs.KeepsTransfer.{transfer-stands, transfer-sized}
+use Rattle.sender_keeps.proofs.Fixed as sent
+use Rattle.receiver.specs.Receiving as receiver
+use Rattle.receiver_data.specs.Taking.{takeStep, takeOut}
+use Rattle.receiver_keeps.proofs.Keeps as received
+use Rattle.receiver_keeps.proofs.Fixed as fixed
+use Rattle.table.specs.declared.looking.Look.{Look}
+use Rattle.table.specs.declared.looking.Look.the-variants.{Ready}
+use Rattle.table.specs.Looking.{looksFor, same, graded}
+use Rattle.table.specs.Serving.{alone}
+use Rattle.steps.specs.declared.ticking.Ticked.{Ticked}
+use Rattle.steps.specs.Requests.{openedBy, closedBy, transferFor, takeFor, reclaimFor}
+use Rattle.steps.specs.Handing.{nextFor}
+use Rattle.steps.specs.Arriving.{lookOf, unfit, repliedBy, arriveBy, payloadIn, arrivalFor, Framed}
+use Rattle.steps.proofs.RequestLaws.{opened-sends, opened-receives, closed-sends, closed-receives, ready-is, tick-sends, tick-receives}
+use Rattle.steps.proofs.ArriveLaws.{found-packet, framed, data-receives, by-unfit, by-data, by-data-ack, by-control-ack, by-control, fit-payload}
+use Rattle.node.specs.Calls.{tickOf}
+use Rattle.node_keeps.specs.Keeping.{Given, Kept, Keeps}
+
+-- ---- a record sends or receives
+
+not-sends : (a : ℕ) → a ≡ receives → a ≡ sends → ⊥
+not-sends a e e2 = omega (arith, e, e2)
+
+pub by-direction : {P : Type 0} (c : Channel) (lens : List ℕ) → Standing c lens
+    → (c .addresses .direction ≡ sends → P) → (c .addresses .direction ≡ receives → P) → P
+by-direction {P = P} c lens h s r = go (eqb (c .addresses .direction) sends) refl
+  where
+    go : (b : Bool) → eqb (c .addresses .direction) sends ≡ b → P
+    go true e = s (eqb-true (c .addresses .direction) sends e)
+    go false e =
+        let n = eqb-false (c .addresses .direction) sends e in
+        let small = named-is c (h .named) .direction in
+        r (omega (arith, n, small))
+
+-- ---- a step that leaves memory and lengths, and one that writes them
+
+module _ (c : Channel) (mem lens out : List ℕ) (sized : Sized (c .limits .slots) (c .limits .payload) mem lens) where
+  quiet-kept : (s : Stepped) → fixed.SameSettings c (s .channel) → Standing (s .channel) lens → Kept c (works s mem lens out)
+  quiet-kept s f h = record { addresses = f .0; limits = f .1; standing = h; sized = sized }
+
+  refused-kept : (why : Refusal) → Standing c lens → Kept c (works (refusing c why) mem lens out)
+  refused-kept why h = quiet-kept (refusing c why) (refl, refl) h
+
+-- ---- directives
+
+pub open-keeps : (look : Look) (out : List ℕ) → Keeps look (alone openedBy) out
+open-keeps look out at rank c mem lens g =
+    by-direction c lens (g .standing)
+    (λ d.
+    subst (λ (s : Stepped). Kept c (works s mem lens out)) (sym (opened-sends c d))
+    (quiet-kept c mem lens out (g .sized) (sender.openStep c) (sent.open-fixed c) (open-stands c lens (g .standing))))
+    (λ d.
+    subst (λ (s : Stepped). Kept c (works s mem lens out)) (sym (opened-receives c (not-sends (c .addresses .direction) d)))
+    (quiet-kept c mem lens out (g .sized) (receiver.openStep c) (fixed.opening-fixed c) (received.opening-stands c lens (g .standing))))
+
+pub close-keeps : (look : Look) (out : List ℕ) → Keeps look (alone closedBy) out
+close-keeps look out at rank c mem lens g =
+    by-direction c lens (g .standing)
+    (λ d.
+    subst (λ (s : Stepped). Kept c (works s mem lens out)) (sym (closed-sends c d))
+    (quiet-kept c mem lens out (g .sized) (sender.closeStep c) (sent.close-fixed c) (close-stands c lens (g .standing) d)))
+    (λ d.
+    subst (λ (s : Stepped). Kept c (works s mem lens out)) (sym (closed-receives c (not-sends (c .addresses .direction) d)))
+    (refused-kept c mem lens out (g .sized) refusal.State (g .standing)))
+
+-- ---- units
+
+-- the array of marks has a place for each slot
+pub transfer-keeps : (look : Look) (unit out : List ℕ) (at rank : ℕ) (c : Channel) (mem lens : List ℕ) → length (c .marks) ≡ 128
+    → Given look at rank c mem lens → Kept c (transferFor unit c rank mem lens out)
+unfolding transferFor
+transfer-keeps look unit out at rank c mem lens wide g =
+    by-direction c lens (g .standing)
+    (λ d.
+    subst (Kept c) (sym (chosen (eqb (c .addresses .direction) sends) _ _ (eq-eqb (c .addresses .direction) sends d)))
+    (record {
+      addresses = sent.transfer-fixed c unit .0;
+      limits = sent.transfer-fixed c unit .1;
+      standing = transfer-stands c unit lens wide (g .standing) d;
+      sized = transfer-sized c unit mem lens (g .standing) (g .sized);
+    }))
+    (λ d.
+    subst (Kept c) (sym (passed-by (eqb (c .addresses .direction) sends) _ _ (ne-eqb (c .addresses .direction) sends (not-sends (c .addresses .direction) d))))
+    (refused-kept c mem lens out (g .sized) refusal.State (g .standing)))
+
+pub take-keeps : (look : Look) (out : List ℕ) → Keeps look takeFor out
+unfolding takeFor
+take-keeps look out at rank c mem lens g =
+    by-direction c lens (g .standing)
+    (λ d.
+    subst (Kept c) (sym (passed-by (eqb (c .addresses .direction) receives) _ _ (ne-eqb (c .addresses .direction) receives (λ e. not-sends (c .addresses .direction) e d))))
+    (refused-kept c mem lens out (g .sized) refusal.State (g .standing)))
+    (λ d.
+    subst (Kept c) (sym (chosen (eqb (c .addresses .direction) receives) _ _ (eq-eqb (c .addresses .direction) receives d)))
+    (quiet-kept c mem lens (takeOut c lens mem out) (g .sized) (takeStep c lens (length out)) (fixed.take-fixed c lens (length out)) (received.take-stands c lens d (g .standing) (length out))))
+
+pub reclaim-keeps : (look : Look) (out : List ℕ) → Keeps look reclaimFor out
+unfolding reclaimFor
+reclaim-keeps look out at rank c mem lens g =
+    by-direction c lens (g .standing)
+    (λ d.
+    subst (Kept c) (sym (chosen (eqb (c .addresses .direction) sends) _ _ (eq-eqb (c .addresses .direction) sends d)))
+    (quiet-kept c mem lens (reclaimOut c lens mem out) (g .sized) (reclaimStep c lens (length out)) (sent.reclaim-fixed c lens (length out)) (reclaim-stands c lens (length out) (g .standing) d)))
+    (λ d.
+    subst (Kept c) (sym (passed-by (eqb (c .addresses .direction) sends) _ _ (ne-eqb (c .addresses .direction) sends (not-sends (c .addresses .direction) d))))
+    (refused-kept c mem lens out (g .sized) refusal.State (g .standing)))
+
+-- ---- the next packet
+
+pub next-keeps : (node : Node) (out : List ℕ) → Keeps Ready (nextFor node) out
+unfolding nextFor
+next-keeps node out at rank c mem lens g =
+    let r = ready-is c rank (g .suits) (g .found) in
+    quiet-kept c mem lens (handOut node c lens mem rank out) (g .sized) (handStep c lens rank (length out)) (sent.hand-fixed c lens rank (length out))
+    (hand-stands c lens rank (length out) (g .standing) (r .0) (r .1))
+
+-- ---- an arrival
+
+-- Data and Control look for a receiver, Acks for a sender
+same-direction : (a : Addresses) (f : Fields) → same a f ≡ true → a .direction ≡ looksFor (f .kind)
+unfolding same
+same-direction a f e =
+    eqb-true (a .direction) (looksFor (f .kind)) (both (eqb (a .channel) (f .channel) && eqb (a .remote) (f .source)) (eqb (a .direction) (looksFor (f .kind))) e .1)
+
+ack-sends : (a : Addresses) (f : Fields) → same a f ≡ true → (eqb (f .kind) 1 || eqb (f .kind) 7) ≡ true → a .direction ≡ sends
+ack-sends a f e k = same-direction a f e ∙ chosen (eqb (f .kind) 1 || eqb (f .kind) 7) sends receives k
+
+other-receives : (a : Addresses) (f : Fields) → same a f ≡ true → (eqb (f .kind) 1 || eqb (f .kind) 7) ≡ false → a .direction ≡ receives
+other-receives a f e k = same-direction a f e ∙ passed-by (eqb (f .kind) 1 || eqb (f .kind) 7) sends receives k
+
+-- the payload of Data that is fit has at most P octets
+payload-short : (c : Channel) (s : List ℕ) → unfit c (fieldsAt s) (lengthAt s) ≡ false → fieldsAt s .kind ≡ 0 → length (payloadIn s) ≤ c .limits .payload
+payload-short c s fit k =
+    omega (arith, fit-payload c (fieldsAt s) (lengthAt s) fit k, length-take (lengthAt s) (drop (payloadAt (fieldsAt s)) s))
+
+pub arrival-keeps : (node : Node) (packet out : List ℕ) → Keeps (lookOf node packet (length out)) (arrivalFor node packet) out
+unfolding arrivalFor
+arrival-keeps node packet out at rank c mem lens g = by-fit (unfit c f x) refl
+  where
+    f : Fields
+    f = fieldsAt packet
+
+    x : ℕ
+    x = lengthAt packet
+
+    p : List ℕ
+    p = payloadIn packet
+
+    suits : graded (lookOf node packet (length out)) at c < 3
+    suits = subst (λ (k : ℕ). k < 3) (g .suits) (g .found)
+
+    told : Framed c f x packet out
+    told = framed node packet out at c (lookOf node packet (length out)) f x refl suits (found-packet node packet (length out) at c suits .3)
+
+    n : ℕ
+    n = f .number
+
+    Wanted : Type 0
+    Wanted = Kept c (arriveBy node f x p c rank mem lens out)
+
+    by-kind : unfit c f x ≡ false → (a : Bool) → eqb (f .kind) 0 ≡ a → (b : Bool) → eqb (f .kind) 1 ≡ b → (d : Bool) → eqb (f .kind) 7 ≡ d → Wanted
+    by-kind fit true k b k1 d k7 =
+        let kind = eqb-true (f .kind) 0 k in
+        let dir = data-receives (c .addresses) f (told .ours) kind in
+        let short = payload-short c packet fit kind in
+        subst (Kept c) (sym (by-data node f x p c rank mem lens out fit kind))
+        (record {
+          addresses = fixed.data-fixed c n (f .flags) .0;
+          limits = fixed.data-fixed c n (f .flags) .1;
+          standing = received.data-stands c lens dir (g .standing) n p mem short (f .flags) (told .flags);
+          sized = received.data-sized c lens dir (g .standing) n p mem short (g .sized);
+        })
+    by-kind fit false k true k1 d k7 =
+        let dir = ack-sends (c .addresses) f (told .ours) (ap (λ (y : Bool). y || eqb (f .kind) 7) k1) in
+        subst (Kept c) (sym (by-data-ack node f x p c rank mem lens out fit (eqb-false (f .kind) 0 k) (eqb-true (f .kind) 1 k1)))
+        (quiet-kept c mem lens out (g .sized) (dataAckStep c n) (sent.data-ack-fixed c n) (data-ack-stands c lens n (g .standing) dir))
+    by-kind fit false k false k1 true k7 =
+        let dir = ack-sends (c .addresses) f (told .ours) (ap (λ (y : Bool). y || eqb (f .kind) 7) k1 ∙ k7) in
+        subst (Kept c) (sym (by-control-ack node f x p c rank mem lens out fit (eqb-false (f .kind) 0 k) (eqb-false (f .kind) 1 k1) (eqb-true (f .kind) 7 k7)))
+        (quiet-kept c mem lens out (g .sized) (controlAckStep c n) (sent.control-ack-fixed c n) (control-ack-stands c lens n (g .standing) dir))
+    by-kind fit false k false k1 false k7 =
+        let dir = other-receives (c .addresses) f (told .ours) (ap (λ (y : Bool). y || eqb (f .kind) 7) k1 ∙ k7) in
+        let opens = eqb (f .kind) 2 in
+        subst (Kept c) (sym (by-control node f x p c rank mem lens out fit (eqb-false (f .kind) 0 k) (eqb-false (f .kind) 1 k1) (eqb-false (f .kind) 7 k7)))
+        (quiet-kept c mem lens (repliedBy (receiver.controlStep c opens n .answer) node (c .addresses) false n out) (g .sized) (receiver.controlStep c opens n) (fixed.control-fixed c opens n) (received.control-stands c lens dir (g .standing) opens n))
+
+    by-fit : (b : Bool) → unfit c f x ≡ b → Wanted
+    by-fit true e =
+        subst (Kept c) (sym (by-unfit node f x p c rank mem lens out e)) (refused-kept c mem lens out (g .sized) refusal.Strange (g .standing))
+    by-fit false e = by-kind e (eqb (f .kind) 0) refl (eqb (f .kind) 1) refl (eqb (f .kind) 7) refl
+
+-- ---- a tick of one channel
+
+pub tick-keeps : (c : Channel) (lens : List ℕ) → Standing c lens → fixed.SameSettings c (tickOf c) × Standing (tickOf c) lens
+tick-keeps c lens h =
+    by-direction c lens h
+    (λ d.
+    let e = ap (λ (x : Ticked). x .channel) (tick-sends c false d) in
+    subst (λ (k : Channel). fixed.SameSettings c k × Standing k lens) (sym e) (sent.tick-fixed c, tick-stands c lens h d))
+    (λ d.
+    let e = ap (λ (x : Ticked). x .channel) (tick-receives c false (not-sends (c .addresses .direction) d)) in
+    subst (λ (k : Channel). fixed.SameSettings c k × Standing k lens) (sym e) (fixed.tick-fixed c, received.tick-stands c lens d h))

@@ -1,0 +1,36 @@
+-- Settings for a whole table (document 01, A channel's record and memory): 'Settings come for a whole table at once: that call reads no old
+-- record, makes every channel CLOSED and empty, and alone may drop held units'. All others are refused with 13, and nothing changes.
+use Prim.Native.Nat.{ℕ}
+use mathlib.Core.Bool.{Bool, _&&_}
+use mathlib.Core.List.{List, map}
+use lib.Dec.{eqb}
+use lib.ListN.{length}
+use Rattle.laws.specs.Choice.{if_then_else_}
+use Rattle.walks.specs.Serving.{Changed, changes}
+use Rattle.channel.specs.declared.record.Settings.{Settings}
+use Rattle.channel.specs.declared.record.Channel.{Channel}
+use Rattle.channel.specs.declared.answer.Answer.{Answer}
+use Rattle.channel.specs.declared.answer.Answer.the-variants.{Done, Refused}
+use Rattle.channel.specs.declared.answer.Refusal.the-variants as refusal
+use Rattle.channel.specs.Record.{madeOf}
+use Rattle.channel.specs.Tables.{fitTable}
+use Rattle.table.specs.Lent.{slotsOf, octetsOf}
+
+-- the records that settings make, each CLOSED and empty
+abbrev pub madeTable : List Settings → List Channel
+madeTable s = map madeOf s
+
+-- 1 to 16 settings, each fit, and no two that clash; as many as there are records; and a length for each of their slots, and lent memory of
+-- exactly their size
+unfoldable pub settled : List Channel → List ℕ → List ℕ → List Settings → Bool
+settled t mem lens s =
+    fitTable s
+    && eqb (length t) (length s)
+    && eqb (length lens) (slotsOf (madeTable s))
+    && eqb (length mem) (octetsOf (madeTable s))
+
+-- of the old table only the number of its records counts
+unfoldable pub configured : List Channel → List ℕ → List ℕ → List Settings → Changed Answer Channel
+configured t mem lens s =
+    if settled t mem lens s then changes (Done 0 0) (madeTable s)
+    else changes (Refused refusal.Settings) t

@@ -1,0 +1,3 @@
+pub mod Parts
+pub mod RequestLaws
+pub mod ArriveLaws

@@ -1,0 +1,4 @@
+pub mod Requests
+pub mod Handing
+pub mod Ticking
+pub mod Arriving

@@ -1,0 +1,4 @@
+pub mod OneLaws
+pub mod Spots
+pub mod SurveyLaws
+pub mod ServeLaws

@@ -1,0 +1,337 @@
+-- The survey and what is decided of it amount to `serveOne`, for any step; and the record that is served has what its step asks.
+-- Assumes nothing.
+use mathlib.Core.Path.{_≡_, refl, sym, ap, ap₂, _∙_, subst}
+use mathlib.Core.Bool.{Bool, true, false, not, _&&_, true≢false, false≢true}
+use mathlib.Core.List.{List, [], _∷_}
+use Prim.Native.Nat.{ℕ, _+_, _*_, _≤_, _<_}
+use native.Mathlib.Nat.{zero-add, lt-irrefl}
+use native.Mathlib.Omega.{arith}
+use borrow.Author.Tests.{ltb-true, ltb-false, lt-ltb, le-ltb, le-leb, leb-true, eqb-true, eq-eqb}
+use lib.Dec.{ltb, leb, eqb}
+use lib.ListN.{length, getD, set, take, drop, length-take, length-drop}
+use lib.Seq.{length-take-le}
+use Rattle.laws.specs.Choice.{if_then_else_}
+use Rattle.laws.proofs.Choice.{both, chosen, passed-by}
+use Rattle.slots.specs.Slots.{Sized, laid}
+use Rattle.walks.specs.Serving.{Worked, Called, works, leaves, servedBy, orderedBy}
+use Rattle.channel.specs.declared.record.Channel.{Channel}
+use Rattle.channel.specs.declared.answer.Answer.{Answer}
+use Rattle.channel.specs.declared.answer.Answer.the-variants.{Refused}
+use Rattle.channel.specs.declared.answer.Refusal.{Refusal}
+use Rattle.channel.specs.declared.answer.Refusal.the-variants as refusal
+use Rattle.channel.specs.declared.step.Stepped.{Stepped}
+use Rattle.channel.specs.Standing.{standing}
+use Rattle.channel.specs.Tables.{mostRecords}
+use Rattle.channel.proofs.SettingsLaws.{fit-is}
+use Rattle.channel.proofs.StandingLaws.{stands-is}
+use Rattle.table.specs.declared.looking.Look.{Look}
+use Rattle.table.specs.declared.surveying.Survey.{Survey}
+use Rattle.table.specs.declared.surveying.Spot.{Spot}
+use Rattle.table.specs.declared.deciding.Decision.{Decision}
+use Rattle.table.specs.Looking.{graded, missing, Chosen, chosenFrom, isFound, chosen as choice}
+use Rattle.table.specs.Lent.{areaOf, partOf, slotsOf, octetsOf, slotAt, octetAt, eachStands, lawful}
+use Rattle.table.specs.Serving.{blank, recordAt, ownMem, ownLens, Step, stored, serveOne, tableOf, alone}
+use Rattle.table.specs.Surveying.{begun, better, surveyOne, surveyed, isSound, decided, refusedBy, servedBy as served, roles, mine, mineLens, wholly, stepping, Served}
+use Rattle.table.proofs.OneLaws.{decided-bad, decided-found, decided-none}
+use Rattle.table.proofs.Spots.{spotFrom, far, spot-rank, chosen-at, Lies, spot-lies, Suits, chosen-suits}
+use Rattle.table.proofs.SurveyLaws.{each-stands, slots-within, octets-within, Going, survey-good, survey-bad, finally}
+
+-- ---- the test for 13
+
+pub record Lawful (t : List Channel) (mem lens : List ℕ) : Type 0 where
+  pub some : 1 ≤ length t
+  pub few : length t ≤ mostRecords
+  pub slots : length lens ≡ slotsOf t
+  pub octets : length mem ≡ octetsOf t
+  pub stand : eachStands t lens ≡ true
+
+pub lawful-is : (t : List Channel) (mem lens : List ℕ) → lawful t mem lens ≡ true → Lawful t mem lens
+unfolding lawful
+lawful-is t mem lens e =
+    let p4 = both _ _ e in
+    let p3 = both _ _ (p4 .0) in
+    let p2 = both _ _ (p3 .0) in
+    let p1 = both _ _ (p2 .0) in
+    record { some = leb-true _ _ (p1 .0); few = leb-true _ _ (p1 .1); slots = eqb-true _ _ (p2 .1); octets = eqb-true _ _ (p3 .1); stand = p4 .1 }
+
+pub is-lawful : (t : List Channel) (mem lens : List ℕ) → Lawful t mem lens → lawful t mem lens ≡ true
+unfolding lawful
+is-lawful t mem lens h =
+    simp (le-leb 1 (length t) (h .some), le-leb (length t) 16 (h .few), eq-eqb (length lens) (slotsOf t) (h .slots), eq-eqb (length mem) (octetsOf t) (h .octets), h .stand)
+
+starts : (look : Look) → Going (begun look) 0
+starts look = record { sound = refl; few = omega arith; slots = omega arith; octets = omega arith; rank = omega arith }
+
+-- a survey that is sound has seen every record stand
+module _ (look : Look) (t : List Channel) (lens : List ℕ) where
+  pub seen-good : length t ≤ 16 → eachStands t lens ≡ true → surveyed t lens (begun look) ≡ finally (begun look) 0 t
+  seen-good few e = survey-good lens 0 (begun look) t (starts look) (omega (arith, few)) e
+
+  pub seen-sound : surveyed t lens (begun look) .sound ≡ true → (length t ≤ 16) × (eachStands t lens ≡ true)
+  seen-sound s = go (leb (length t) 16) refl (eachStands t lens) refl
+    where
+      no-good : ((0 + length t ≤ 16) → eachStands t lens ≡ true → ⊥) → (length t ≤ 16) × (eachStands t lens ≡ true)
+      no-good f = absurd (false≢true (sym (survey-bad lens 0 (begun look) t (starts look) f) ∙ s))
+
+      go : (a : Bool) → leb (length t) 16 ≡ a → (b : Bool) → eachStands t lens ≡ b → (length t ≤ 16) × (eachStands t lens ≡ true)
+      go true p true q = (leb-true (length t) 16 p, q)
+      go true p false q = no-good (λ k e. true≢false (sym e ∙ q))
+      go false p b q = no-good (λ k e. true≢false (sym (le-leb (length t) 16 (omega (arith, k))) ∙ p))
+
+  -- the survey is sound exactly if the table passes the test for 13
+  pub sound-lawful : (mem : List ℕ) → isSound (surveyed t lens (begun look)) (length t) (length mem) (length lens) ≡ lawful t mem lens
+  unfolding isSound
+  sound-lawful mem = go (isSound v (length t) (length mem) (length lens)) refl (lawful t mem lens) refl
+    where
+      v : Survey
+      v = surveyed t lens (begun look)
+
+      from-law : Lawful t mem lens → isSound v (length t) (length mem) (length lens) ≡ true
+      from-law h =
+          let e = seen-good (h .few) (h .stand) in
+          simp (e, le-leb 1 (length t) (h .some), eq-eqb (0 + slotsOf t) (length lens) (zero-add (slotsOf t) ∙ sym (h .slots)), eq-eqb (0 + octetsOf t) (length mem) (zero-add (octetsOf t) ∙ sym (h .octets)))
+
+      from-sound : isSound v (length t) (length mem) (length lens) ≡ true → Lawful t mem lens
+      from-sound s =
+          let p3 = both _ _ s in
+          let p2 = both _ _ (p3 .0) in
+          let p1 = both _ _ (p2 .0) in
+          let q = seen-sound (p1 .1) in
+          let e = seen-good (q .0) (q .1) in
+          record {
+            some = leb-true _ _ (p1 .0);
+            few = q .0;
+            slots = sym (eqb-true _ _ (p2 .1)) ∙ ap (λ (w : Survey). w .slots) e ∙ zero-add (slotsOf t);
+            octets = sym (eqb-true _ _ (p3 .1)) ∙ ap (λ (w : Survey). w .octets) e ∙ zero-add (octetsOf t);
+            stand = q .1;
+          }
+
+      go : (a : Bool) → isSound v (length t) (length mem) (length lens) ≡ a → (b : Bool) → lawful t mem lens ≡ b
+          → isSound v (length t) (length mem) (length lens) ≡ lawful t mem lens
+      go true p true q = p ∙ sym q
+      go false p false q = p ∙ sym q
+      go true p false q = absurd (true≢false (sym (is-lawful t mem lens (from-sound p)) ∙ q))
+      go false p true q = absurd (true≢false (sym (from-law (lawful-is t mem lens q)) ∙ p))
+
+-- no rank is over 3
+pub capped : (look : Look) (j : ℕ) (t : List Channel) → 3 ≤ chosenFrom look j t .rank → 3 ≡ chosenFrom look j t .rank
+unfolding chosenFrom
+capped look j [] h = refl
+capped look j (c ∷ t) h = go (leb (graded look j c) (chosenFrom look (j + 1) t .rank)) refl (capped look (j + 1) t) h
+  where
+    go : (b : Bool) → leb (graded look j c) (chosenFrom look (j + 1) t .rank) ≡ b
+        → (3 ≤ chosenFrom look (j + 1) t .rank → 3 ≡ chosenFrom look (j + 1) t .rank)
+        → 3 ≤ chosenFrom look j (c ∷ t) .rank → 3 ≡ chosenFrom look j (c ∷ t) .rank
+    go true e next =
+        let l = leb-true (graded look j c) (chosenFrom look (j + 1) t .rank) e in
+        simp (e) (λ k. let q = next (omega (arith, k, l)) in omega (arith, k, l, q))
+    go false e next = simp (e) next
+
+-- ---- a table that passes it: what is found, and what the step asks
+
+module _ (look : Look) (t : List Channel) (mem lens : List ℕ) (h : Lawful t mem lens) where
+  -- the survey
+  abbrev pub whole : Survey
+  whole = surveyed t lens (begun look)
+
+  abbrev pub spot : Spot
+  spot = spotFrom look 0 0 0 t
+
+  -- the best of all is the best from the first on, or none is
+  pub whole-rank : whole .spot .rank ≡ choice look t .rank
+  whole-rank = ap (λ (w : Survey). w .spot .rank) (seen-good look t lens (h .few) (h .stand)) ∙ go (ltb (spot .rank) 3) refl
+    where
+      top : spot .rank ≡ choice look t .rank
+      top = spot-rank look 0 0 0 t
+
+      go : (b : Bool) → ltb (spot .rank) 3 ≡ b → better (begun look .spot) spot .rank ≡ choice look t .rank
+      go true e = simp (e) top
+      go false e = simp (e) (capped look 0 t (omega (arith, ltb-false (spot .rank) 3 e, top)))
+
+  pub found-spot : choice look t .rank < 3 → whole .spot ≡ spot
+  found-spot f =
+      ap (λ (w : Survey). w .spot) (seen-good look t lens (h .few) (h .stand))
+      ∙ chosen (ltb (spot .rank) 3) spot (begun look .spot) (lt-ltb (spot .rank) 3 (omega (arith, f, spot-rank look 0 0 0 t)))
+
+  pub found-at : choice look t .rank < 3 → whole .spot .at ≡ choice look t .at
+  found-at f = ap (λ (x : Spot). x .at) (found-spot f) ∙ spot-lies look 0 0 0 t .at ∙ sym (chosen-at look 0 t)
+
+  at-far : choice look t .at ≡ far look 0 t
+  at-far = chosen-at look 0 t ∙ zero-add (far look 0 t)
+
+  pub found-slot : choice look t .rank < 3 → whole .spot .slot ≡ slotAt t (choice look t .at)
+  found-slot f =
+      ap (λ (x : Spot). x .slot) (found-spot f) ∙ spot-lies look 0 0 0 t .slot ∙ zero-add (slotsOf (take (far look 0 t) t))
+      ∙ ap (λ (k : ℕ). slotsOf (take k t)) (sym at-far)
+
+  pub found-octet : choice look t .rank < 3 → whole .spot .octet ≡ octetAt t (choice look t .at)
+  found-octet f =
+      ap (λ (x : Spot). x .octet) (found-spot f) ∙ spot-lies look 0 0 0 t .octet ∙ zero-add (octetsOf (take (far look 0 t) t))
+      ∙ ap (λ (k : ℕ). octetsOf (take k t)) (sym at-far)
+
+  pub found-below : choice look t .rank < 3 → choice look t .at < length t
+  found-below f = rw at-far (chosen-suits look 0 t f .0)
+
+  pub found-suits : choice look t .rank < 3 → choice look t .rank ≡ graded look (choice look t .at) (recordAt t (choice look t .at))
+  found-suits f =
+      chosen-suits look 0 t f .1
+      ∙ ap₂ (λ (i k : ℕ). graded look i (getD t k blank)) (sym (chosen-at look 0 t)) (sym at-far)
+
+  -- ---- the two cases of a table that passes the test
+
+  abbrev pub decision : Decision
+  decision = decided whole (length t) (length mem) (length lens)
+
+  sound : isSound whole (length t) (length mem) (length lens) ≡ true
+  sound = sound-lawful look t lens mem ∙ is-lawful t mem lens h
+
+  look-kept : whole .look ≡ look
+  look-kept = ap (λ (w : Survey). w .look) (seen-good look t lens (h .few) (h .stand))
+
+  pub is-served : choice look t .rank < 3 → decision ≡ served whole
+  is-served f = decided-found whole (length t) (length mem) (length lens) sound (rw whole-rank f)
+
+  pub is-missing : 3 ≤ choice look t .rank → decision ≡ refusedBy whole (length t) (missing look)
+  is-missing f =
+      decided-none whole (length t) (length mem) (length lens) sound (rw whole-rank f)
+      ∙ ap (λ (l : Look). refusedBy whole (length t) (missing l)) look-kept
+
+  -- the record that is served has what its step asks
+  pub serves : choice look t .rank < 3 → Served (recordAt t (choice look t .at)) (served whole) mem lens
+  serves f =
+      let at = choice look t .at in
+      let c = recordAt t at in
+      let below = found-below f in
+      let st = each-stands t lens (h .stand) at below in
+      let slot = found-slot f in
+      let octet = found-octet f in
+      let lens-is : partOf (slotAt t at) (c .limits .slots) lens ≡ mineLens c (served whole) lens = ap (λ (k : ℕ). partOf k (c .limits .slots) lens) (sym slot) in
+      let stand = stands-is c (mineLens c (served whole) lens) (ap (λ (l : List ℕ). standing c l) (sym lens-is) ∙ st) in
+      let fit = fit-is (c .limits) (stand .fit) in
+      let in-lens : whole .spot .slot + c .limits .slots ≤ length lens = omega (arith, slot, slots-within t at below, h .slots) in
+      let in-mem : whole .spot .octet + areaOf (c .limits) ≤ length mem = omega (arith, octet, octets-within t at below, h .octets) in
+      record {
+        standing = stand;
+        sized =
+            record {
+              few = fit .most;
+              short = fit .payload;
+              each = stand .count;
+              exact = length-take-le (areaOf (c .limits)) (drop (whole .spot .octet) mem) (omega (arith, length-drop (whole .spot .octet) mem, in-mem));
+            };
+        slots = in-lens;
+        octets = in-mem;
+        suits = whole-rank ∙ found-suits f ∙ ap₂ (λ (l : Look) (i : ℕ). graded l i c) (sym look-kept) (sym (found-at f));
+        found = rw whole-rank f;
+      }
+
+  -- the step's outcome, stored at an index, over the parts that begin at a slot and at an octet
+  abbrev laidAt : Step → List ℕ → ℕ → ℕ → ℕ → ℕ → Called Answer Channel
+  laidAt step out at slot octet rank =
+      let w = step (recordAt t at) rank (partOf octet (areaOf (recordAt t at .limits)) mem) (partOf slot (recordAt t at .limits .slots) lens) out in
+      leaves (w .made .answer) (set t at (w .made .channel)) (laid mem octet (w .mem)) (laid lens slot (w .lens)) (w .out)
+
+  pub in-place : (step : Step) (out : List ℕ) → choice look t .rank < 3
+      → servedBy roles (ltb (whole .spot .at) (length t)) (served whole) t mem lens out (stepping step (recordAt t (whole .spot .at)) (served whole) mem lens out)
+      ≡ stored t mem lens (choice look t .at)
+      (step (recordAt t (choice look t .at)) (choice look t .rank) (ownMem t (choice look t .at) mem) (ownLens t (choice look t .at) lens) out)
+  unfolding servedBy stored
+  in-place step out f =
+      let at = found-at f in
+      let x = choice look t .at in
+      ap (λ (b : Bool). servedBy roles b (served whole) t mem lens out (stepping step (recordAt t (whole .spot .at)) (served whole) mem lens out))
+      (lt-ltb (whole .spot .at) (length t) (rw at (found-below f)))
+      ∙ ap (λ (i : ℕ). laidAt step out i (whole .spot .slot) (whole .spot .octet) (whole .spot .rank)) at
+      ∙ ap (λ (i : ℕ). laidAt step out x i (whole .spot .octet) (whole .spot .rank)) (found-slot f)
+      ∙ ap (λ (i : ℕ). laidAt step out x (slotAt t x) i (whole .spot .rank)) (found-octet f)
+      ∙ ap (λ (i : ℕ). laidAt step out x (slotAt t x) (octetAt t x) i) whole-rank
+
+-- what was looked for is told with the decision
+decided-look : (v : Survey) (n m l : ℕ) → decided v n m l .look ≡ v .look
+unfolding decided
+decided-look v n m l = go (isSound v n m l) refl (ltb (v .spot .rank) 3) refl
+  where
+    go : (a : Bool) → isSound v n m l ≡ a → (b : Bool) → ltb (v .spot .rank) 3 ≡ b → decided v n m l .look ≡ v .look
+    go false p b q = simp (p)
+    go true p true q = simp (p, q)
+    go true p false q = simp (p, q)
+
+-- ---- any table
+
+module _ (look : Look) (t : List Channel) (mem lens : List ℕ) where
+  abbrev pub decisionOf : Decision
+  decisionOf = decided (surveyed t lens (begun look)) (length t) (length mem) (length lens)
+
+  is-unlawful : lawful t mem lens ≡ false → decisionOf ≡ refusedBy (surveyed t lens (begun look)) (length t) refusal.Settings
+  is-unlawful e = decided-bad (surveyed t lens (begun look)) (length t) (length mem) (length lens) (sound-lawful look t lens mem ∙ e)
+
+  -- where the decision is an index of the table, the step may be called
+  pub may-serve : decisionOf .at < length t → Served (recordAt t (decisionOf .at)) decisionOf mem lens
+  may-serve l = go (lawful t mem lens) refl (ltb (choice look t .rank) 3) refl
+    where
+      not-n : (v : Survey) (why : Refusal) → decisionOf ≡ refusedBy v (length t) why → Served (recordAt t (decisionOf .at)) decisionOf mem lens
+      not-n v why e = absurd (lt-irrefl (length t) (subst (λ (d : Decision). d .at < length t) e l))
+
+      go : (a : Bool) → lawful t mem lens ≡ a → (b : Bool) → ltb (choice look t .rank) 3 ≡ b → Served (recordAt t (decisionOf .at)) decisionOf mem lens
+      go false p b q = not-n (surveyed t lens (begun look)) refusal.Settings (is-unlawful p)
+      go true p false q =
+          not-n (surveyed t lens (begun look)) (missing look) (is-missing look t mem lens (lawful-is t mem lens p) (ltb-false (choice look t .rank) 3 q))
+      go true p true q =
+          let h = lawful-is t mem lens p in
+          let f = ltb-true (choice look t .rank) 3 q in
+          let e = is-served look t mem lens h f in
+          subst (λ (d : Decision). Served (recordAt t (d .at)) d mem lens) (sym e)
+          (subst (λ (i : ℕ). Served (recordAt t i) (served (surveyed t lens (begun look))) mem lens) (sym (found-at look t mem lens h f)) (serves look t mem lens h f))
+
+  pub look-stays : decisionOf .at < length t → decisionOf .look ≡ look
+  look-stays l = go (lawful t mem lens) refl
+    where
+      go : (a : Bool) → lawful t mem lens ≡ a → decisionOf .look ≡ look
+      go true p = let h = lawful-is t mem lens p in decided-look (surveyed t lens (begun look)) (length t) (length mem) (length lens) ∙ ap (λ (w : Survey). w .look) (seen-good look t lens (h .few) (h .stand))
+      go false p = absurd (lt-irrefl (length t) (subst (λ (d : Decision). d .at < length t) (is-unlawful p) l))
+
+  -- the call is what `serveOne` says
+  pub agreed : (step : Step) (out : List ℕ)
+      → servedBy roles (ltb (decisionOf .at) (length t)) decisionOf t mem lens out (stepping step (recordAt t (decisionOf .at)) decisionOf mem lens out)
+      ≡ serveOne look step t mem lens out
+  unfolding servedBy serveOne stored
+  agreed step out = go (lawful t mem lens) refl (ltb (choice look t .rank) 3) refl
+    where
+      -- the call, by what is decided
+      by : Decision → Called Answer Channel
+      by d = servedBy roles (ltb (d .at) (length t)) d t mem lens out (stepping step (recordAt t (d .at)) d mem lens out)
+
+      refused : (v : Survey) (why : Refusal) → decisionOf ≡ refusedBy v (length t) why → by decisionOf ≡ leaves (Refused why) t mem lens out
+      refused v why e =
+          ap by e
+          ∙ ap (λ (b : Bool). servedBy roles b (refusedBy v (length t) why) t mem lens out (stepping step (recordAt t (length t)) (refusedBy v (length t) why) mem lens out))
+          (le-ltb (length t) (length t) (omega arith))
+
+      go : (a : Bool) → lawful t mem lens ≡ a → (b : Bool) → ltb (choice look t .rank) 3 ≡ b → by decisionOf ≡ serveOne look step t mem lens out
+      go false p b q = refused (surveyed t lens (begun look)) refusal.Settings (is-unlawful p) ∙ simp (p)
+      go true p false q =
+          refused (surveyed t lens (begun look)) (missing look) (is-missing look t mem lens (lawful-is t mem lens p) (ltb-false (choice look t .rank) 3 q))
+          ∙ simp (p, q)
+      go true p true q =
+          let h = lawful-is t mem lens p in
+          let f = ltb-true (choice look t .rank) 3 q in
+          ap by (is-served look t mem lens h f)
+          ∙ in-place look t mem lens h step out f
+          ∙ simp (p, q)
+
+  -- the same of a step by value
+  pub agreed-order : (step : Channel → Stepped)
+      → orderedBy roles (ltb (decisionOf .at) (length t)) decisionOf t (step (recordAt t (decisionOf .at))) ≡ tableOf (serveOne look (alone step) t mem lens [])
+  unfolding orderedBy servedBy
+  agreed-order step = go (ltb (decisionOf .at) (length t)) refl
+    where
+      w : Worked Stepped
+      w = stepping (alone step) (recordAt t (decisionOf .at)) decisionOf mem lens []
+
+      same : (b : Bool) → orderedBy roles b decisionOf t (step (recordAt t (decisionOf .at))) ≡ tableOf (servedBy roles b decisionOf t mem lens [] w)
+      same true = refl
+      same false = refl
+
+      go : (b : Bool) → ltb (decisionOf .at) (length t) ≡ b
+          → orderedBy roles (ltb (decisionOf .at) (length t)) decisionOf t (step (recordAt t (decisionOf .at))) ≡ tableOf (serveOne look (alone step) t mem lens [])
+      go b e = same (ltb (decisionOf .at) (length t)) ∙ ap tableOf (agreed (alone step) [])

@@ -1,0 +1,4 @@
+pub mod Looking
+pub mod Lent
+pub mod Serving
+pub mod Surveying

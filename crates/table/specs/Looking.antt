@@ -1,0 +1,67 @@
+-- Which record of the table a call is for (document 01, Answer numbers: 'Data and Control look for a receiving record, Acks for a sending
+-- one; none found is 14'; Sending: 'among channels of equal rank the lowest index').
+use Prim.Native.Nat.{ℕ, _+_}
+use mathlib.Core.Bool.{Bool, _&&_, _||_}
+use mathlib.Core.List.{List, [], _∷_}
+use lib.Dec.{leb, ltb, eqb}
+use Rattle.laws.specs.Choice.{if_then_else_}
+use Rattle.packet.specs.declared.fields.Fields.{Fields}
+use Rattle.channel.specs.declared.record.Addresses.{Addresses}
+use Rattle.channel.specs.declared.record.Channel.{Channel}
+use Rattle.channel.specs.declared.answer.Refusal.{Refusal}
+use Rattle.channel.specs.declared.answer.Refusal.the-variants as refusal
+use Rattle.channel.specs.Record.{sends, receives}
+use Rattle.sender_packets.specs.HandingOut.{rankOf}
+use Rattle.table.specs.declared.looking.Look.{Look}
+use Rattle.table.specs.declared.looking.Look.the-variants.{Index, Packet, Ready, Nobody}
+
+-- the direction of the record that a packet of a type looks for
+abbrev pub looksFor : ℕ → ℕ
+looksFor kind = if eqb kind 1 || eqb kind 7 then sends else receives
+
+-- a packet is for the channel with these addresses
+unfoldable pub same : Addresses → Fields → Bool
+same a f = eqb (a .channel) (f .channel) && eqb (a .remote) (f .source) && eqb (a .direction) (looksFor (f .kind))
+
+-- ---- how well a record suits: 0 best, 3 not at all
+
+abbrev pub indexed : ℕ → ℕ → ℕ
+indexed i j = if eqb i j then 0 else 3
+
+abbrev pub addressed : Fields → Addresses → ℕ
+addressed f a = if same a f then 0 else 3
+
+-- Control before resent Data before new Data; a receiver hands out nothing
+abbrev pub readied : Channel → ℕ
+readied c = if eqb (c .addresses .direction) sends then rankOf c else 3
+
+-- the record at index j
+abbrev pub graded : Look → ℕ → Channel → ℕ
+graded (Index i) j c = indexed i j
+graded (Packet f x) j c = addressed f (c .addresses)
+graded Ready j c = readied c
+graded (Nobody why) j c = 3
+
+-- the index of the record that suits best, the lowest among equals, and how well it does
+pub record Chosen : Type 0 where
+  pub at : ℕ
+  pub rank : ℕ
+
+unfoldable pub chosenFrom : Look → ℕ → List Channel → Chosen
+chosenFrom look j [] = record { at = j; rank = 3 }
+chosenFrom look j (c ∷ t) =
+    if leb (graded look j c) (chosenFrom look (j + 1) t .rank) then record { at = j; rank = graded look j c }
+    else chosenFrom look (j + 1) t
+
+abbrev pub chosen : Look → List Channel → Chosen
+chosen look t = chosenFrom look 0 t
+
+abbrev pub isFound : Chosen → Bool
+isFound x = ltb (x .rank) 3
+
+-- the refusal where none suits: 14, for the next packet 12
+abbrev pub missing : Look → Refusal
+missing (Index i) = refusal.NoChannel
+missing (Packet f x) = refusal.NoChannel
+missing Ready = refusal.Nothing
+missing (Nobody why) = why

@@ -1,0 +1,65 @@
+-- A call that serves one channel: the test for 13, then the record that it is for (14, 12), then that channel's own step on its record, its
+-- octets and its lengths; all else stays as it was (document 01, Answer numbers: 'reads and changes its own channel alone').
+use Prim.Native.Nat.{ℕ}
+use mathlib.Core.Bool.{Bool, not}
+use mathlib.Core.List.{List}
+use lib.ListN.{getD, set}
+use Rattle.laws.specs.Choice.{if_then_else_}
+use Rattle.slots.specs.Slots.{laid}
+use Rattle.walks.specs.Serving.{Worked, Called, Changed, works, leaves, changes}
+use Rattle.channel.specs.declared.record.Settings.{Settings}
+use Rattle.channel.specs.declared.record.Channel.{Channel}
+use Rattle.channel.specs.declared.answer.Answer.{Answer}
+use Rattle.channel.specs.declared.answer.Answer.the-variants.{Refused}
+use Rattle.channel.specs.declared.answer.Refusal.the-variants as refusal
+use Rattle.channel.specs.declared.step.Stepped.{Stepped}
+use Rattle.channel.specs.Record.{madeOf}
+use Rattle.table.specs.declared.looking.Look.{Look}
+use Rattle.table.specs.Looking.{chosen, isFound, missing}
+use Rattle.table.specs.Lent.{areaOf, partOf, slotAt, octetAt, lawful}
+
+-- any settings, and a channel made of them: what `getD` gives past the end of a table, where nothing looks
+pub unset : Settings
+unset =
+    record {
+      addresses = record { channel = 0; remote = 0; direction = 0 };
+      limits = record { window = 0; slots = 0; payload = 0; segments = 0; timeout = 0; closing = 0; retries = 0 };
+    }
+
+pub blank : Channel
+blank = madeOf unset
+
+-- the record at an index
+abbrev pub recordAt : List Channel → ℕ → Channel
+recordAt t i = getD t i blank
+
+-- a channel's own octets and lengths
+abbrev pub ownMem : List Channel → ℕ → List ℕ → List ℕ
+ownMem t i mem = partOf (octetAt t i) (areaOf (recordAt t i .limits)) mem
+
+abbrev pub ownLens : List Channel → ℕ → List ℕ → List ℕ
+ownLens t i lens = partOf (slotAt t i) (recordAt t i .limits .slots) lens
+
+-- a step of one channel: of its record, the rank of the packet that is ready, its octets, its lengths and the lent buffer
+abbrev pub Step : Type 0
+Step = Channel → ℕ → List ℕ → List ℕ → List ℕ → Worked Stepped
+
+-- the table, the memory and the lengths once the channel at an index has been stepped
+unfoldable pub stored : List Channel → List ℕ → List ℕ → ℕ → Worked Stepped → Called Answer Channel
+stored t mem lens i w =
+    leaves (w .made .answer) (set t i (w .made .channel)) (laid mem (octetAt t i) (w .mem)) (laid lens (slotAt t i) (w .lens)) (w .out)
+
+unfoldable pub serveOne : Look → Step → List Channel → List ℕ → List ℕ → List ℕ → Called Answer Channel
+serveOne look step t mem lens out =
+    if not (lawful t mem lens) then leaves (Refused refusal.Settings) t mem lens out
+    else if not (isFound (chosen look t)) then leaves (Refused (missing look)) t mem lens out
+    else stored t mem lens (chosen look t .at)
+    (step (recordAt t (chosen look t .at)) (chosen look t .rank) (ownMem t (chosen look t .at) mem) (ownLens t (chosen look t .at) lens) out)
+
+-- of a call that is lent nothing that it could change but the table
+abbrev pub tableOf : Called Answer Channel → Changed Answer Channel
+tableOf x = changes (x .answer) (x .table)
+
+-- a step that changes the record alone
+abbrev pub alone : (Channel → Stepped) → Step
+alone step c rank mem lens out = works (step c) mem lens out

@@ -1,0 +1,108 @@
+-- How the survey of a table goes, record by record. What it amounts to is `serveOne` (Serving.antt): a reader need not look here.
+use mathlib.Core.Path.{_≡_}
+use Prim.Native.Nat.{ℕ, _+_, _≤_, _<_}
+use mathlib.Core.Bool.{Bool, true, false, not, _&&_}
+use mathlib.Core.List.{List}
+use lib.Dec.{ltb, leb, eqb}
+use lib.ListN.{length, take, drop}
+use Rattle.laws.specs.Choice.{if_then_else_}
+use Rattle.slots.specs.Slots.{Sized, laid}
+use Rattle.walks.specs.Fold.{foldFrom}
+use Rattle.walks.specs.Serving.{Roles, Worked, works}
+use Rattle.channel.specs.declared.record.Channel.{Channel}
+use Rattle.channel.specs.declared.answer.Answer.{Answer}
+use Rattle.channel.specs.declared.answer.Answer.the-variants.{Refused}
+use Rattle.channel.specs.declared.answer.Refusal.{Refusal}
+use Rattle.channel.specs.declared.answer.Refusal.the-variants as refusal
+use Rattle.channel.specs.declared.step.Stepped.{Stepped}
+use Rattle.channel.specs.Standing.{standing, Standing}
+use Rattle.table.specs.declared.looking.Look.{Look}
+use Rattle.table.specs.declared.surveying.Spot.{Spot}
+use Rattle.table.specs.declared.surveying.Survey.{Survey}
+use Rattle.table.specs.declared.deciding.Decision.{Decision}
+use Rattle.table.specs.declared.deciding.Verdict.{Verdict}
+use Rattle.table.specs.Looking.{graded, missing}
+use Rattle.table.specs.Lent.{areaOf, partOf}
+use Rattle.table.specs.Serving.{Step, blank}
+
+-- ---- record by record
+
+abbrev pub begun : Look → Survey
+begun look = record { look = look; sound = true; slots = 0; octets = 0; spot = record { at = 0; slot = 0; octet = 0; rank = 3 } }
+
+abbrev pub unsound : Survey → Survey
+unsound v = record { look = v .look; sound = false; slots = v .slots; octets = v .octets; spot = v .spot }
+
+abbrev pub better : Spot → Spot → Spot
+better old new = if ltb (new .rank) (old .rank) then new else old
+
+abbrev pub spotHere : Survey → Channel → ℕ → Spot
+spotHere v c j = record { at = j; slot = v .slots; octet = v .octets; rank = graded (v .look) j c }
+
+abbrev pub noted : Survey → Channel → ℕ → Survey
+noted v c j =
+    record {
+      look = v .look;
+      sound = true;
+      slots = v .slots + c .limits .slots;
+      octets = v .octets + areaOf (c .limits);
+      spot = better (v .spot) (spotHere v c j);
+    }
+
+unfoldable pub surveyOne : Survey → Channel → List ℕ → ℕ → Survey
+surveyOne v c lens j =
+    if not (v .sound) then v
+    else if leb 16 j then unsound v
+    else if ltb 4096 (v .slots) then unsound v
+    else if ltb 2097152 (v .octets) then unsound v
+    else if not (standing c (partOf (v .slots) (c .limits .slots) lens)) then unsound v
+    else noted v c j
+
+abbrev pub surveyed : List Channel → List ℕ → Survey → Survey
+surveyed t lens v = foldFrom surveyOne lens 0 v t
+
+-- ---- what it decides, of a table of n records with m octets and l lengths
+
+unfoldable pub isSound : Survey → ℕ → ℕ → ℕ → Bool
+isSound v n m l = leb 1 n && v .sound && eqb (v .slots) l && eqb (v .octets) m
+
+abbrev pub refusedBy : Survey → ℕ → Refusal → Decision
+refusedBy v n why = record { at = n; answer = Refused why; look = v .look; spot = v .spot }
+
+abbrev pub servedBy : Survey → Decision
+servedBy v = record { at = v .spot .at; answer = Refused refusal.NoChannel; look = v .look; spot = v .spot }
+
+unfoldable pub decided : Survey → ℕ → ℕ → ℕ → Decision
+decided v n m l =
+    if not (isSound v n m l) then refusedBy v n refusal.Settings
+    else if ltb (v .spot .rank) 3 then servedBy v
+    else refusedBy v n (missing (v .look))
+
+abbrev pub judged : Survey → ℕ → ℕ → ℕ → Verdict
+judged v n m l = record { ok = isSound v n m l; answer = Refused refusal.Settings }
+
+abbrev pub roles : Roles Channel Answer Stepped Decision
+roles = record { at = λ d. d .at; unserved = λ d. d .answer; stored = λ s. s .channel; said = λ s. s .answer; blank = blank }
+
+-- ---- the step of the channel that is served, over the whole of the lent slices
+
+abbrev pub mine : Channel → Decision → List ℕ → List ℕ
+mine c d mem = partOf (d .spot .octet) (areaOf (c .limits)) mem
+
+abbrev pub mineLens : Channel → Decision → List ℕ → List ℕ
+mineLens c d lens = partOf (d .spot .slot) (c .limits .slots) lens
+
+abbrev pub wholly : Decision → List ℕ → List ℕ → Worked Stepped → Worked Stepped
+wholly d mem lens w = works (w .made) (laid mem (d .spot .octet) (w .mem)) (laid lens (d .spot .slot) (w .lens)) (w .out)
+
+abbrev pub stepping : Step → Channel → Decision → List ℕ → List ℕ → List ℕ → Worked Stepped
+stepping step c d mem lens out = wholly d mem lens (step c (d .spot .rank) (mine c d mem) (mineLens c d lens) out)
+
+-- what such a step asks of its caller: the record stands with its own lengths, its parts lie within what is lent, and it suits
+pub record Served (c : Channel) (d : Decision) (mem lens : List ℕ) : Type 0 where
+  pub standing : Standing c (mineLens c d lens)
+  pub sized : Sized (c .limits .slots) (c .limits .payload) (mine c d mem) (mineLens c d lens)
+  pub slots : d .spot .slot + c .limits .slots ≤ length lens
+  pub octets : d .spot .octet + areaOf (c .limits) ≤ length mem
+  pub suits : d .spot .rank ≡ graded (d .look) (d .spot .at) c
+  pub found : d .spot .rank < 3

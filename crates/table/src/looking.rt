@@ -1,0 +1,104 @@
+// Which record of the table a call is for: the one with an index, the one that a packet is for, or the one whose packet goes next.
+use channel::Addresses;
+use channel::Channel;
+use channel::Refusal;
+use channel::record::RECEIVES;
+use channel::record::SENDS;
+use packet::Fields;
+use packet::fields::CONTROL_ACK;
+use packet::fields::DATA_ACK;
+use sender_packets::rank_of;
+ghost use mathlib.Core.Path.{_≡_};
+ghost use Rattle.channel.specs.Asked.{Ringed};
+ghost use Rattle.table.specs.Looking.{looksFor, same, indexed, addressed, readied, graded, missing};
+
+pub enum Look {
+    // A request names its channel.
+    Index(usize),
+    // A packet that was read, with its payload's length.
+    Packet { fields: Fields, length: usize },
+    // The packet that goes next.
+    Ready,
+    // The call is refused whatever the table holds.
+    Nobody(Refusal),
+}
+
+// The grade of a record that does not suit.
+pub const UNFIT: usize = 3;
+
+// Acks look for a record that sends, Data and Control for one that receives.
+fn looks_for(kind: u8) -> u8
+    ensures { λ r. ⌜ r ≡ looksFor kind ⌝ }
+{
+    if kind == DATA_ACK {
+        return SENDS;
+    }
+    if kind == CONTROL_ACK {
+        return SENDS;
+    }
+    RECEIVES
+}
+
+// The packet is for the channel with these addresses.
+pub fn is_same(a: Addresses, f: Fields) -> bool
+    ensures { λ r. ⌜ r ≡ same a f ⌝ }
+{
+    if a.channel != f.channel {
+        return false;
+    }
+    if a.remote != f.source {
+        return false;
+    }
+    a.direction == looks_for(f.kind)
+}
+
+fn grade_index(i: usize, j: usize) -> usize
+    ensures { λ r. ⌜ r ≡ indexed i j ⌝ }
+{
+    if i == j { 0 } else { UNFIT }
+}
+
+fn grade_packet(f: Fields, a: Addresses) -> usize
+    ensures { λ r. ⌜ r ≡ addressed f a ⌝ }
+{
+    if is_same(a, f) { 0 } else { UNFIT }
+}
+
+// Only a sender hands out packets.
+fn grade_ready(c: Channel) -> usize
+    requires { ⌜ Ringed (c .limits) (c .window) ⌝ }
+    ensures { λ r. ⌜ r ≡ readied c ⌝ }
+{
+    if c.addresses.direction != SENDS {
+        return UNFIT;
+    }
+    rank_of(c)
+}
+
+// How well the record at index j suits: 0 best, UNFIT not at all.
+pub fn grade(look: Look, j: usize, c: Channel) -> usize
+    requires { ⌜ Ringed (c .limits) (c .window) ⌝ }
+    ensures { λ r. ⌜ r ≡ graded look j c ⌝ }
+{
+    match look {
+        Look::Index(i) => grade_index(i, j),
+        Look::Packet { fields, length: _ } => grade_packet(fields, c.addresses),
+        Look::Ready => grade_ready(c),
+        Look::Nobody(_) => UNFIT,
+    }
+}
+
+// The refusal where no record suits.
+pub fn refusal(look: Look) -> Refusal
+    ensures { λ r. ⌜ r ≡ missing look ⌝ }
+{
+    match look {
+        Look::Index(_) => Refusal::NoChannel,
+        Look::Packet {
+            fields: _,
+            length: _,
+        } => Refusal::NoChannel,
+        Look::Ready => Refusal::Nothing,
+        Look::Nobody(why) => why,
+    }
+}
