@@ -1,0 +1,37 @@
+// One record of a trace.
+use crate::held::Kept;
+use crate::held::perform_in;
+use crate::held::tick_in;
+use crate::performing::Request;
+use crate::performing::TICK;
+use channel::Channel;
+use channel::Node;
+ghost use mathlib.Core.Path.{_≡_};
+ghost use Prim.Native.Nat.{_+_, _*_};
+ghost use Rattle.walks.specs.Serving.{leaves};
+ghost use Rattle.engine.specs.Records.{replayed};
+
+// By its kind and its body, with a lent buffer for what the call writes.
+pub fn step(
+    t: [Channel; 2],
+    mem: &mut [u8],
+    lens: &mut [u16],
+    node: Node,
+    kind: u16,
+    body: &[u8],
+    out: &mut [u8],
+) -> Kept
+    ensures { λ r. ⌜ leaves (r .answer) (r .table) (now (mem .exit)) (now (lens .exit)) (now (out .exit)) ≡ replayed t (now (mem .entry)) (now (lens .entry)) node kind (now (body .entry)) (now (out .entry)) ⌝ }
+{
+    if kind == TICK {
+        return tick_in(t, mem, lens);
+    }
+    perform_in(t, mem, lens, Request { kind, node }, body, out)
+}
+
+// A number of two octets, the least significant first, as the records have them.
+pub fn little(low: u8, high: u8) -> u16
+    ensures { λ r. ⌜ r ≡ high * 256 + low ⌝ }
+{
+    (high as u16) * 256 + (low as u16)
+}
