@@ -24,8 +24,8 @@ use Rattle.table.specs.Serving.{Step, alone}
 use Rattle.table.specs.Surveying.{stepping}
 use Rattle.steps.specs.Requests.{openedBy, closedBy, transferFor, takeFor, reclaimFor}
 use Rattle.steps.specs.Handing.{nextFor}
-use Rattle.steps.specs.Arriving.{lookOf, arrivalFor}
-use Rattle.steps.proofs.Parts.{quiet}
+use Rattle.steps_arriving.specs.Arriving.{lookOf, arrivalFor}
+use Rattle.table.proofs.Parts.{quiet}
 use Rattle.engine.specs.declared.performing.Request.{Request}
 use Rattle.engine.specs.Performing.{indexIn, lookIn, unitStart, requestFor, performFor, performed}
 use Rattle.engine.specs.Records.{replayed}

@@ -15,7 +15,7 @@ use Rattle.table.specs.declared.looking.Look.the-variants.{Index, Ready, Nobody
 use Rattle.table.specs.Serving.{Step, serveOne, alone}
 use Rattle.steps.specs.Requests.{openedBy, closedBy, transferFor, takeFor, reclaimFor}
 use Rattle.steps.specs.Handing.{nextFor}
-use Rattle.steps.specs.Arriving.{lookOf, arrivalFor}
+use Rattle.steps_arriving.specs.Arriving.{lookOf, arrivalFor}
 use Rattle.engine.specs.declared.performing.Request.{Request}
 
 -- ---- which channel a record is for

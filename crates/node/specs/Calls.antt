@@ -20,7 +20,7 @@ use Rattle.table.specs.Serving.{serveOne, tableOf, alone}
 use Rattle.steps.specs.Requests.{openedBy, closedBy, transferFor, takeFor, reclaimFor}
 use Rattle.steps.specs.Handing.{nextFor}
 use Rattle.steps.specs.Ticking.{tickedBy}
-use Rattle.steps.specs.Arriving.{lookOf, arrivalFor}
+use Rattle.steps_arriving.specs.Arriving.{lookOf, arrivalFor}
 
 -- ---- requests, by the index of their channel
 

@@ -3,15 +3,15 @@ use crate::surveying::survey;
 use channel::Answer;
 use channel::Channel;
 use channel::Node;
-use steps::arriving::arrive_step;
-use steps::arriving::look_of;
+use steps_arriving::arriving::arrive_step;
+use steps_arriving::arriving::look_of;
 use table::Survey;
 use table::deciding::decide;
 use table::surveying::begin;
 ghost use mathlib.Core.Path.{_≡_};
 ghost use Rattle.walks.specs.Serving.{leaves};
 ghost use Rattle.table.specs.Surveying.{begun};
-ghost use Rattle.steps.specs.Arriving.{lookOf};
+ghost use Rattle.steps_arriving.specs.Arriving.{lookOf};
 ghost use Rattle.node.specs.Calls.{arrived};
 
 // The packet is read before the table is surveyed; what that says counts after the test for 13.

@@ -32,8 +32,8 @@ use Rattle.table.specs.Lent.{areaOf, slotAt, octetAt, lawful}
 use Rattle.table.specs.Serving.{recordAt, Step, alone, stored, serveOne, tableOf}
 use Rattle.steps.specs.Requests.{openedBy, closedBy, transferFor, takeFor, reclaimFor}
 use Rattle.steps.specs.Handing.{nextFor}
-use Rattle.steps.specs.Arriving.{isOurs, lookBy, lookOf, arrivalFor}
-use Rattle.steps.proofs.Parts.{laid-own}
+use Rattle.steps_arriving.specs.Arriving.{isOurs, lookBy, lookOf, arrivalFor}
+use Rattle.table.proofs.Parts.{laid-own}
 use Rattle.node.specs.Calls.{opened, closed, transferred, taken, reclaimed, handed, arrived, tickOf, ticked}
 use Rattle.node_keeps.specs.Keeping.{Keeps, staying, OthersStay, SameFor, OwnChannelAlone}
 use Rattle.node_keeps.proofs.Serving.{servedAt, serve-cases}

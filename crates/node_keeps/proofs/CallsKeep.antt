@@ -8,7 +8,7 @@ use Prim.Native.Nat.{ℕ, suc, _+_}
 use native.Mathlib.Omega.{arith}
 use lib.ListN.{length, take, drop}
 use Rattle.laws.proofs.Choice.{chosen}
-use Rattle.steps.proofs.Parts.{laid-own}
+use Rattle.table.proofs.Parts.{laid-own}
 use Rattle.walks.specs.Serving.{Called, Changed, leaves, changes}
 use Rattle.channel.specs.declared.record.Limits.{Limits}
 use Rattle.channel.specs.declared.record.Node.{Node}
@@ -27,7 +27,7 @@ use Rattle.table.proofs.SurveyLaws.{stands-first, stands-both}
 use Rattle.table.proofs.ServeLaws.{lawful-is, is-lawful}
 use Rattle.steps.specs.Requests.{openedBy, closedBy, transferFor, takeFor, reclaimFor}
 use Rattle.steps.specs.Handing.{nextFor}
-use Rattle.steps.specs.Arriving.{lookOf, arrivalFor}
+use Rattle.steps_arriving.specs.Arriving.{lookOf, arrivalFor}
 use Rattle.node.specs.Calls.{opened, closed, transferred, taken, reclaimed, handed, arrived, tickOf, ticked}
 use Rattle.node_keeps.specs.Keeping.{KeepsLawful, KeepsTable, Wide, Keeps}
 use Rattle.node_keeps.proofs.Serving.{servedAt, serve-cases, serve-keeps, serve-lawful, serve-unlawful}

@@ -48,7 +48,7 @@ use Rattle.steps.specs.Requests.{openedBy, closedBy, transferFor, takeFor, recl
 use Rattle.steps.specs.Handing.{nextFor}
 use Rattle.steps.specs.declared.ticking.Ticked.{Ticked as OneTick}
 use Rattle.steps.specs.Ticking.{tickedBy}
-use Rattle.steps.specs.Arriving.{lookOf, payloadIn, arrivalFor}
+use Rattle.steps_arriving.specs.Arriving.{lookOf, payloadIn, arrivalFor}
 use Rattle.node.specs.Calls.{opened, closed, transferred, taken, reclaimed, handed, arrived, tickOf, anyInactive, tickAnswer, ticked}
 use Rattle.node_keeps.specs.Keeping.{Wide}
 use Rattle.node_keeps.proofs.Serving.{servedAt, worked, serve-cases}

@@ -31,7 +31,7 @@ use Rattle.table.proofs.SurveyLaws.{stands-first}
 use Rattle.table.proofs.ServeLaws.{lawful-is}
 use Rattle.steps.specs.Requests.{openedBy, closedBy, transferFor, takeFor, reclaimFor}
 use Rattle.steps.specs.Handing.{nextFor}
-use Rattle.steps.specs.Arriving.{lookOf, arrivalFor}
+use Rattle.steps_arriving.specs.Arriving.{lookOf, arrivalFor}
 use Rattle.node.specs.Calls.{opened, closed, transferred, taken, reclaimed, handed, arrived, tickOf, ticked}
 use Rattle.node_keeps.specs.Keeping.{Given, Keeps, SettingsStay}
 use Rattle.node_keeps.proofs.Serving.{servedAt, worked, serve-cases}

@@ -44,9 +44,9 @@ use Rattle.table.specs.Serving.{alone}
 use Rattle.steps.specs.declared.ticking.Ticked.{Ticked}
 use Rattle.steps.specs.Requests.{openedBy, closedBy, transferFor, takeFor, reclaimFor}
 use Rattle.steps.specs.Handing.{nextFor}
-use Rattle.steps.specs.Arriving.{lookOf, unfit, repliedBy, arriveBy, payloadIn, arrivalFor, Framed}
+use Rattle.steps_arriving.specs.Arriving.{lookOf, unfit, repliedBy, arriveBy, payloadIn, arrivalFor, Framed}
 use Rattle.steps.proofs.RequestLaws.{opened-sends, opened-receives, closed-sends, closed-receives, ready-is, tick-sends, tick-receives}
-use Rattle.steps.proofs.ArriveLaws.{found-packet, framed, data-receives, by-unfit, by-data, by-data-ack, by-control-ack, by-control, fit-payload}
+use Rattle.steps_arriving.proofs.ArriveLaws.{found-packet, framed, data-receives, by-unfit, by-data, by-data-ack, by-control-ack, by-control, fit-payload}
 use Rattle.node.specs.Calls.{tickOf}
 use Rattle.node_keeps.specs.Keeping.{Given, Kept, Keeps}
 

@@ -34,7 +34,7 @@ use Rattle.table.specs.Surveying.{mine, mineLens, stepping, Served}
 use Rattle.steps.specs.Requests.{openedBy, closedBy, transferFor, takeFor, reclaimFor}
 use Rattle.steps.specs.Handing.{nextFor}
 use Rattle.steps.specs.Ticking.{tickedBy}
-use Rattle.steps.proofs.Parts.{own-mem, own-lens, quiet, filed}
+use Rattle.table.proofs.Parts.{own-mem, own-lens, quiet, filed}
 
 -- ---- directives
 

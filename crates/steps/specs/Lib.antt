@@ -1,4 +1,3 @@
 pub mod Requests
 pub mod Handing
 pub mod Ticking
-pub mod Arriving

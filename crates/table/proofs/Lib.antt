@@ -2,3 +2,4 @@ pub mod OneLaws
 pub mod Spots
 pub mod SurveyLaws
 pub mod ServeLaws
+pub mod Parts

@@ -8,7 +8,7 @@ use Rattle.engine.proofs.performing.look_in.Tie as tie
 use Rattle.engine.proofs.performing.look_in.Reads as reads
 use Rattle.engine.proofs.performing.look_in.Lts as lts
 use Rattle.engine.proofs.performing.index_in.Reads as index-in-reads
-use Rattle.steps.proofs.arriving.look_of.Reads as look-of-reads
+use Rattle.steps_arriving.proofs.arriving.look_of.Reads as look-of-reads
 
 look-of-requires : tie.Need-look-of-requires
 look-of-requires c κs = search needs

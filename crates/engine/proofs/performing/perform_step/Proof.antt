@@ -3,7 +3,7 @@
 use mathlib.Core.Path.{_≡_, refl, sym, ap, ap₂, _∙_}
 use lib.ListN.{length}
 use Rattle.steps.specs.Handing.{nextFor}
-use Rattle.steps.specs.Arriving.{arrivalFor}
+use Rattle.steps_arriving.specs.Arriving.{arrivalFor}
 use Rattle.engine.specs.Performing.{requestFor, performFor}
 use Rattle.engine.proofs.PerformLaws.{looks-arrival, looks-next, performs-arrival, performs-next, performs-request, likewise}
 use borrow.Author.Needs.{needs}
@@ -12,7 +12,7 @@ use Rattle.engine.proofs.performing.perform_step.Tie as tie
 use Rattle.engine.proofs.performing.perform_step.Reads as reads
 use Rattle.engine.proofs.performing.perform_step.Lts as lts
 use Rattle.engine.proofs.performing.request_step.Reads as request-step-reads
-use Rattle.steps.proofs.arriving.arrive_step.Reads as arrive-step-reads
+use Rattle.steps_arriving.proofs.arriving.arrive_step.Reads as arrive-step-reads
 use Rattle.steps.proofs.handing.next_step.Reads as next-step-reads
 
 arrive-step-requires : tie.Need-arrive-step-requires

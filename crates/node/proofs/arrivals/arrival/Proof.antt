@@ -7,7 +7,7 @@ use Rattle.walks.proofs.Call.{call-meets}
 use Rattle.walks.proofs.Serving.{calling}
 use Rattle.table.specs.Surveying.{begun, surveyed, decided, stepping, Served}
 use Rattle.table.proofs.ServeLaws.{may-serve, look-stays, agreed}
-use Rattle.steps.specs.Arriving.{lookOf, arrivalFor}
+use Rattle.steps_arriving.specs.Arriving.{lookOf, arrivalFor}
 use Rattle.node.specs.Calls.{arrived as wanted}
 use Rattle.node.proofs.Types.{served, carried, own}
 use Rattle.node.proofs.arrivals.arrival_begin as arrival-begin
@@ -19,9 +19,9 @@ use Rattle.node.proofs.surveying.survey.Met as survey-thm
 use Rattle.table.proofs.deciding.decide as decide
 use Rattle.table.proofs.deciding.decide.Symbol as decide-def
 use Rattle.table.proofs.deciding.decide.Met as decide-thm
-use Rattle.steps.proofs.arriving.arrive_step as arrive-step
-use Rattle.steps.proofs.arriving.arrive_step.Symbol as arrive-step-def
-use Rattle.steps.proofs.arriving.arrive_step.Met as arrive-step-thm
+use Rattle.steps_arriving.proofs.arriving.arrive_step as arrive-step
+use Rattle.steps_arriving.proofs.arriving.arrive_step.Symbol as arrive-step-def
+use Rattle.steps_arriving.proofs.arriving.arrive_step.Met as arrive-step-thm
 use Rattle.node.proofs.arrivals.arrival.Key.{name as #node·arrivals·arrival}
 use Rattle.node.proofs.arrivals.arrival as this
 use Rattle.node.proofs.arrivals.arrival.Statement as stated
@@ -38,4 +38,4 @@ arrival-spec 𝓤 H 𝓜 𝓖 𝓡 =
     (cited 𝓤 H (tripleOf 𝓤 H (𝓖 .A) arrival-begin.signature (arrival-begin.spec 𝓤 H (𝓖 .A) (𝓜 .mem) (𝓡 .run))) 𝓜 𝓡 code.env arrival-begin-def.name arrival-begin-def.routine code.calls-node·arrivals·arrival-begin (arrival-begin-thm.met 𝓤 H 𝓜 𝓖 𝓡))
     (cited 𝓤 H (tripleOf 𝓤 H (𝓖 .A) survey.signature (survey.spec 𝓤 H (𝓖 .A) (𝓜 .mem) (𝓡 .run))) 𝓜 𝓡 code.env survey-def.name survey-def.routine code.calls-node·surveying·survey (survey-thm.met 𝓤 H 𝓜 𝓖 𝓡))
     (cited 𝓤 H (tripleOf 𝓤 H (𝓖 .A) decide.signature (decide.spec 𝓤 H (𝓖 .A) (𝓜 .mem) (𝓡 .run))) 𝓜 𝓡 code.env decide-def.name decide-def.routine code.calls-table·deciding·decide (decide-thm.met 𝓤 H 𝓜 𝓖 𝓡))
-    (cited 𝓤 H (tripleOf 𝓤 H (𝓖 .A) arrive-step.signature (arrive-step.spec 𝓤 H (𝓖 .A) (𝓜 .mem) (𝓡 .run))) 𝓜 𝓡 code.env arrive-step-def.name arrive-step-def.routine code.calls-steps·arriving·arrive-step (arrive-step-thm.met 𝓤 H 𝓜 𝓖 𝓡)))
+    (cited 𝓤 H (tripleOf 𝓤 H (𝓖 .A) arrive-step.signature (arrive-step.spec 𝓤 H (𝓖 .A) (𝓜 .mem) (𝓡 .run))) 𝓜 𝓡 code.env arrive-step-def.name arrive-step-def.routine code.calls-steps-arriving·arriving·arrive-step (arrive-step-thm.met 𝓤 H 𝓜 𝓖 𝓡)))

@@ -7,7 +7,7 @@ use Rattle.walks.specs.Serving.{works}
 use mathlib.Core.List.{[]}
 use Rattle.channel.specs.declared.step.Stepped.{Stepped}
 use Rattle.channel.proofs.SettingsLaws.{fit-is}
-use Rattle.steps.proofs.Parts.{own-asked}
+use Rattle.table.proofs.Parts.{own-asked}
 use Rattle.steps.proofs.RequestLaws.{ready-is, next-hands}
 use Rattle.table.specs.declared.looking.Look.{Look}
 use Rattle.table.specs.Looking.{graded}

@@ -1,0 +1,19 @@
+-- `steps_arriving::arriving::is_ours` meets its contract: each test settles a clause.
+-- Assumes nothing.
+use Rattle.steps_arriving.specs.Arriving.{isOurs}
+use Rattle.laws.proofs.Settle.{settle}
+use Rattle.steps_arriving.proofs.arriving.is_ours.Statement.{statement}
+use Rattle.steps_arriving.proofs.arriving.is_ours.Tie as tie
+use Rattle.steps_arriving.proofs.arriving.is_ours.Reads as reads
+use Rattle.steps_arriving.proofs.arriving.is_ours.Lts as lts
+
+returns : tie.Need-returns
+unfolding isOurs
+returns c = search settle
+
+returns-2 : tie.Need-returns-2
+unfolding isOurs
+returns-2 c = search settle
+
+pub is-ours-spec : {M : Type 1} → statement M
+is-ours-spec = tie.close (tie.spec returns returns-2)
