@@ -19,3 +19,9 @@ pub mod Testing
 pub mod Held
 pub mod HeldCall
 pub mod HeldSweeping
+pub mod LentCall
+pub mod LentOrder
+pub mod LentReading
+pub mod LentFiling
+pub mod LentSweeping
+pub mod LentMaking

@@ -7,6 +7,8 @@
 --     serving      the record at the decided index is stepped by F, and stored; where the decision is no index of the table, it has the answer
 --                  and nothing changes
 --     ordering     the same of a step by value, which has no slice
+--     saying       what a call leaves, with its answer turned into another value
+--     telling      the same of a call that changes the table alone
 use mathlib.Core.Bool.{Bool, true, false}
 use mathlib.Core.List.{List}
 use Prim.Native.Nat.{ℕ}
@@ -67,3 +69,10 @@ module _ {N C : Type 0} (bad : N) where
   unfoldable pub doneBy : Bool → List C → Changed N C → Changed N C
   doneBy true ys w = w
   doneBy false ys w = record { answer = bad; table = ys }
+
+module _ {N B C : Type 0} (turned : N → B) where
+  abbrev pub saying : Called N C → Called B C
+  saying w = record { answer = turned (w .answer); table = w .table; mem = w .mem; lens = w .lens; out = w .out }
+
+  abbrev pub telling : Changed N C → Changed B C
+  telling w = record { answer = turned (w .answer); table = w .table }
