@@ -1,4 +1,6 @@
 // The library for C and Rust: each call under the prefix peat_, over numbers, lent slices and #[repr(C)] structs. None has a `requires`.
+pub mod calls;
+
 use packet::Fields;
 use packet::Written;
 use packet_read::Read;
