@@ -5,7 +5,7 @@ ghost use mathlib.Core.Path.{_≡_};
 ghost use Rattle.channel.specs.Asked.{Ringed};
 ghost use Rattle.steps.specs.Ticking.{tickedBy};
 
-// The channel after the tick, and how many channels went inactive so far, this one too if it did.
+// The channel after the tick, and whether some channel went inactive so far, this one or one before it.
 pub struct Ticked {
     pub channel: Channel,
     pub inactive: bool,
