@@ -1,1 +1,4 @@
+pub mod Eight
 pub mod Over
+pub mod Words
+pub mod Xor

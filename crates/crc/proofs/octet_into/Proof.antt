@@ -1,58 +1,40 @@
--- `crc::octet_into` meets its contract. The invariant: the bits that are left, shifted on from c, give the register that all eight give.
+-- `crc::octet_into` meets its contract: eight bits shifted are the lower octet moved up, and the upper one folded.
 -- Assumes nothing.
-use Prim.Native.Nat.{_≤_, _-_}
-use mathlib.Core.Path.{_≡_, refl, sym, _∙_}
+use Prim.Native.Nat.{ℕ, _<_, _*_, _%_, _^_}
+use mathlib.Core.Path.{sym, ap, _∙_}
 use native.Mathlib.Omega.{arith}
-use Rattle.crc.specs.Crc.{shifts, octetInto}
-use Rattle.crc.proofs.Over.{shifts-more, shifts-none}
+use lib.Bits.{bitXor, xor-lt}
+use borrow.Author.Needs.{needs}
+use Rattle.crc.specs.Crc.{octetInto}
+use Rattle.crc.proofs.Words.{shifts-octet}
 use Rattle.crc.proofs.octet_into.Statement.{statement}
 use Rattle.crc.proofs.octet_into.Tie as tie
 use Rattle.crc.proofs.octet_into.Reads as reads
 use Rattle.crc.proofs.octet_into.Lts as lts
-use Rattle.crc.proofs.shift_one.Reads as shift-one-reads
+use Rattle.crc.proofs.fold.Reads as fold-reads
 
-abbrev Inv-loop : tie.InvT-loop
-Inv-loop register octet c₀ i₀ c i = (i ≤ 8) × (shifts (8 - i) c ≡ shifts 8 c₀)
+mul-c : tie.Need-mul-c
+mul-c c = search needs
 
-abbrev μ-loop : tie.MeasureT-loop
-μ-loop register octet c₀ i₀ c i = 8 - i
+-- the register with the octet at its top
+added : (r b : ℕ) → r < 2 ^ 16 → b < 2 ^ 8 → bitXor r (b * 2 ^ 8) < 2 ^ 16
+added r b hr hb = xor-lt 16 r (b * 2 ^ 8) hr (omega arith)
 
-mul-c : tie.Need-mul-c Inv-loop μ-loop
-mul-c c = omega arith
+cast-fold : tie.Need-cast-fold
+cast-fold c =
+    let l = added (c .args .register) (c .args .octet) (c .fits .register .fits) (c .fits .octet .fits) in
+    record { fits = omega (arith, l) }
 
-loop-holds : tie.Need-loop-holds Inv-loop μ-loop
-loop-holds c = (omega arith, refl)
+fold-requires : tie.Need-fold-requires
+fold-requires c κs = tt
 
-shift-one-requires : tie.Need-shift-one-requires Inv-loop μ-loop
-shift-one-requires c κs = tt
-
-add-i : tie.Need-add-i Inv-loop μ-loop
-add-i c = omega arith
-
-loop-less : tie.Need-loop-less Inv-loop μ-loop
-loop-less c = omega arith
-
-loop-again : tie.Need-loop-again Inv-loop μ-loop
-loop-again c =
-    let at = c .before .before .loop in
-    (omega arith, cc (shifts-more 8 (at .i) (at .c) (c .before .loop-test .taken)))
-
-returns : tie.Need-returns Inv-loop μ-loop
+returns : tie.Need-returns
 unfolding octetInto
 returns c =
-    let at = c .before .loop in
-    sym (shifts-none 8 (at .i) (at .c) (c .loop-test .left)) ∙ at .inv .1
+    let r = c .before .args .register in
+    let b = c .before .args .octet in
+    let y = bitXor r (b * 2 ^ 8) in
+    ap (bitXor (y * 2 ^ 8 % 2 ^ 16)) (c .fold .ensures) ∙ sym (shifts-octet y (added r b (c .before .fits .register .fits) (c .before .fits .octet .fits)))
 
 pub octet-into-spec : {M : Type 1} → statement M
-octet-into-spec =
-    tie.close
-    (tie.spec
-    Inv-loop
-    μ-loop
-    mul-c
-    loop-holds
-    shift-one-requires
-    add-i
-    loop-less
-    loop-again
-    returns)
+octet-into-spec = tie.close (tie.spec mul-c cast-fold fold-requires returns)
