@@ -1,4 +1,5 @@
 // One channel alone, lent its memory as a node lends it: the test for 13 comes before each step.
+use alone_lent::is_lent;
 use channel::Channel;
 use channel::Node;
 use channel::Refusal;
@@ -7,23 +8,8 @@ use channel::record::SENDS;
 use channel::step::refused;
 use channel_stands::stands;
 use packet_read::Read;
-ghost use mathlib.Core.Path.{_≡_};
-ghost use mathlib.Core.Bool.{true};
 ghost use Prim.Native.Nat.{_<_, _+_, _≤_};
 ghost use lib.ListN.{length};
-ghost use Rattle.alone.specs.Lent.{Lent};
-
-// The record stands with its lengths, and the memory has slots x P octets.
-pub fn is_lent(c: Channel, mem: &[u8], lens: &[u16]) -> bool
-    ensures { λ r. ⌜ (r ≡ true → Lent c (now (mem .entry)) (now (lens .entry))) ⌝ }
-{
-    if !stands(c, lens) {
-        return false;
-    }
-    let slots = c.limits.slots;
-    let most = c.limits.payload;
-    mem.len() == slots * most
-}
 
 // What a transfer of n octets to a sender would be answered.
 pub fn ask(c: Channel, n: usize, lens: &[u16]) -> Stepped {
@@ -56,7 +42,7 @@ pub fn next(node: Node, c: Channel, mem: &[u8], lens: &[u16], out: &mut [u8]) ->
     if 3 <= rank {
         return refused(c, Refusal::Nothing);
     }
-    sender_packets::hand_step(node, c, mem, lens, rank, out)
+    sender_handing::hand_step(node, c, mem, lens, rank, out)
 }
 
 // Why a packet that was not read is refused.
@@ -119,7 +105,7 @@ fn control(
     if !stands(c, lens) {
         return refused(c, Refusal::Settings);
     }
-    let stepped = receiver::control_step(c, opens, number);
+    let stepped = receiver_control::control_step(c, opens, number);
     reply_to(node, stepped, false, number, reply);
     stepped
 }
@@ -154,7 +140,7 @@ fn reply_to(node: Node, s: Stepped, of_data: bool, number: u8, reply: &mut [u8])
     if channel::answer::length(answer) != 12 {
         return;
     }
-    receiver::acknowledge(node, a, of_data, number, reply);
+    receiver_acks::acknowledge(node, a, of_data, number, reply);
 }
 
 // An ack arrives at a sender.
@@ -178,7 +164,7 @@ fn ack(c: Channel, of_control: bool, number: u8, lens: &[u16]) -> Stepped {
     if of_control {
         return sender_acks::control_ack_step(c, number);
     }
-    sender_acks::data_ack_step(c, number)
+    sender_data_acks::data_ack_step(c, number)
 }
 
 // The oldest complete unit is taken.
@@ -209,6 +195,6 @@ pub fn tick_sender(c: Channel, lens: &[u16]) -> Channel {
     if !stands(c, lens) {
         return c;
     }
-    let ticked = sender::tick_step(c);
+    let ticked = sender_ticking::tick_step(c);
     ticked.channel
 }

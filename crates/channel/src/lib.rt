@@ -1,9 +1,9 @@
 // A channel's record with its nested parts, the settings it is made from, and the answers of its calls (document 01, A channel's record and
-// memory). Its standing condition, a definition here, is tested in `channel_stands`.
+// memory). Settings and the standing condition are definitions here; they are tested in `channel_settings` and
+// `channel_stands`.
 pub mod answer;
 pub mod lone;
 pub mod record;
-pub mod settings;
 pub mod step;
 
 pub use answer::Answer;

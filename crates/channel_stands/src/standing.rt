@@ -5,7 +5,7 @@ use channel::Limits;
 use channel::Window;
 use channel::record::OPEN;
 use channel::record::SENDS;
-use channel::settings::fits_limits;
+use channel_settings::settings::fits_limits;
 ghost use mathlib.Core.Path.{_≡_};
 ghost use Prim.Native.Nat.{_≤_, _<_};
 ghost use lib.ListN.{length};

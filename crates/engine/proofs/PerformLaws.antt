@@ -3,66 +3,29 @@
 use mathlib.Core.Path.{_≡_, refl, sym, ap, ap₂, _∙_}
 use mathlib.Core.Bool.{Bool, true, false}
 use mathlib.Core.List.{List, []}
-use Prim.Native.Nat.{ℕ, _≤_, _<_}
-use native.Mathlib.Omega.{arith}
-use borrow.Author.Tests.{eq-eqb, ne-eqb, lt-ltb, le-ltb, eqb-false}
-use lib.Dec.{ltb, eqb}
-use lib.ListN.{length, getD, drop}
+use Prim.Native.Nat.{ℕ}
+use borrow.Author.Tests.{eq-eqb, ne-eqb}
+use lib.Dec.{eqb}
+use lib.ListN.{drop}
 use Rattle.laws.proofs.Choice.{chosen, passed-by}
 use Rattle.walks.specs.Serving.{Worked, Changed, works, leaves, changes}
 use Rattle.channel.specs.declared.record.Node.{Node}
 use Rattle.channel.specs.declared.answer.Answer.{Answer}
-use Rattle.node.specs.Calls.{ticked}
+use Rattle.node_ticks.specs.Ticks.{ticked}
 use Rattle.channel.specs.declared.record.Channel.{Channel}
-use Rattle.channel.specs.declared.answer.Refusal.the-variants as refusal
 use Rattle.channel.specs.declared.step.Stepped.{Stepped}
 use Rattle.channel.specs.Record.{sends}
-use Rattle.table.specs.declared.looking.Look.{Look}
-use Rattle.table.specs.declared.looking.Look.the-variants.{Index, Ready, Nobody}
 use Rattle.table.specs.declared.deciding.Decision.{Decision}
 use Rattle.table.specs.Serving.{Step, alone}
 use Rattle.table.specs.Surveying.{stepping}
 use Rattle.steps.specs.Requests.{openedBy, closedBy, transferFor, takeFor, reclaimFor}
-use Rattle.steps.specs.Handing.{nextFor}
-use Rattle.steps_arriving.specs.Arriving.{lookOf, arrivalFor}
+use Rattle.steps_handing.specs.Handing.{nextFor}
+use Rattle.steps_arriving.specs.Arriving.{arrivalFor}
 use Rattle.table.proofs.Parts.{quiet}
-use Rattle.engine.specs.declared.performing.Request.{Request}
-use Rattle.engine.specs.Performing.{indexIn, lookIn, unitStart, requestFor, performFor, performed}
+use Rattle.engine_look.specs.declared.looking.Request.{Request}
+use Rattle.engine_look.specs.Looking.{unitStart}
+use Rattle.engine.specs.Performing.{requestFor, performFor, performed}
 use Rattle.engine.specs.Records.{replayed}
-
--- ---- which channel
-
-module _ (n : Request) (body : List ℕ) (room : ℕ) where
-  pub looks-arrival : n .kind ≡ 1 → lookIn n body room ≡ lookOf (n .node) body room
-  unfolding lookIn
-  looks-arrival e = simp (eq-eqb (n .kind) 1 e)
-
-  module _ (n1 : n .kind ≡ 1 → ⊥) where
-    pub looks-next : n .kind ≡ 7 → lookIn n body room ≡ Ready
-    unfolding lookIn
-    looks-next e = simp (ne-eqb (n .kind) 1 n1, eq-eqb (n .kind) 7 e)
-
-    module _ (n7 : n .kind ≡ 7 → ⊥) where
-      pub looks-low : n .kind < 3 → lookIn n body room ≡ Nobody refusal.NoChannel
-      unfolding lookIn
-      looks-low h = simp (ne-eqb (n .kind) 1 n1, ne-eqb (n .kind) 7 n7, lt-ltb (n .kind) 3 h)
-
-      module _ (least : 3 ≤ n .kind) where
-        pub looks-high : 8 < n .kind → lookIn n body room ≡ Nobody refusal.NoChannel
-        unfolding lookIn
-        looks-high h = simp (ne-eqb (n .kind) 1 n1, ne-eqb (n .kind) 7 n7, le-ltb (n .kind) 3 least, lt-ltb 8 (n .kind) h)
-
-        pub looks-index : n .kind ≤ 8 → lookIn n body room ≡ indexIn body
-        unfolding lookIn
-        looks-index h = simp (ne-eqb (n .kind) 1 n1, ne-eqb (n .kind) 7 n7, le-ltb (n .kind) 3 least, le-ltb 8 (n .kind) h)
-
-pub no-index : (body : List ℕ) → length body ≡ 0 → Nobody refusal.NoChannel ≡ indexIn body
-unfolding indexIn
-no-index body e = simp (eq-eqb (length body) 0 e)
-
-pub first-octet : (body : List ℕ) (i : ℕ) → (length body ≡ 0 → ⊥) → i ≡ getD body 0 0 → Index i ≡ indexIn body
-unfolding indexIn
-first-octet body i n e = simp (ne-eqb (length body) 0 n) (ap Index e)
 
 -- ---- what it does there
 
@@ -128,14 +91,6 @@ module _ (c : Channel) (d : Decision) (mem lens out : List ℕ) where
       go : (b : Bool) → eqb (c .addresses .direction) sends ≡ b → works (before .made) (before .mem) (before .lens) out ≡ stepping (transferFor unit) c d mem lens out
       go true p = simp (p)
       go false p = simp (p)
-
--- the unit begins within the body
-pub start-in : (body : List ℕ) → unitStart body ≤ length body
-start-in body = go (eqb (length body) 0) refl
-  where
-    go : (b : Bool) → eqb (length body) 0 ≡ b → unitStart body ≤ length body
-    go true e = simp (e) (omega arith)
-    go false e = let n = eqb-false (length body) 0 e in simp (e) (omega (arith, n))
 
 -- ---- a record
 

@@ -8,10 +8,10 @@ use Rattle.channel.proofs.record.Channel as C
 use Rattle.channel.proofs.record.Channel.Laws as C′
 use Rattle.walks.proofs.Tab.{struct-elem}
 use Rattle.walks.proofs.Plain.{Kind}
-use Rattle.walks.proofs.Held.{Held, vals-through, lies-through}
-use Rattle.node.proofs.Types.{channel, answer}
-use Rattle.engine.proofs.performing.Request as Q
-use Rattle.engine.proofs.performing.Request.Laws as Q′
+use Rattle.walks_held.proofs.Held.{Held, vals-through, lies-through}
+use Rattle.node_survey.proofs.Types.{channel, answer}
+use Rattle.engine_look.proofs.looking.Request as Q
+use Rattle.engine_look.proofs.looking.Request.Laws as Q′
 use Rattle.engine.proofs.held.Kept as P
 use Rattle.engine.proofs.held.Kept.Laws as P′
 

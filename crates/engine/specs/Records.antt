@@ -9,8 +9,8 @@ use Rattle.channel.specs.declared.record.Settings.{Settings}
 use Rattle.channel.specs.declared.record.Channel.{Channel}
 use Rattle.channel.specs.declared.answer.Answer.{Answer}
 use Rattle.channel.specs.Record.{sends, receives}
-use Rattle.node.specs.Calls.{ticked}
-use Rattle.engine.specs.declared.performing.Request.{Request}
+use Rattle.node_ticks.specs.Ticks.{ticked}
+use Rattle.engine_look.specs.declared.looking.Request.{Request}
 use Rattle.engine.specs.Performing.{performed}
 
 -- kind 2 is a tick; all others serve one channel

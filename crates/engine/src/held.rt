@@ -1,12 +1,12 @@
 // Two channels held by value, lent to a call and given back.
-use crate::performing::Request;
 use crate::performing::perform;
 use channel::Answer;
 use channel::Channel;
-use node::ticks::tick;
+use engine_look::looking::Request;
+use node_ticks::ticks::tick;
 ghost use mathlib.Core.Path.{_≡_};
 ghost use Rattle.walks.specs.Serving.{leaves, changes};
-ghost use Rattle.node.specs.Calls.{ticked};
+ghost use Rattle.node_ticks.specs.Ticks.{ticked};
 ghost use Rattle.engine.specs.Performing.{performed};
 
 // What a call answered, and the channels after it.

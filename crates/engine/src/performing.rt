@@ -1,91 +1,39 @@
 // Every call that serves one channel, as one call that goes by a number: the kind of a record of a trace.
 use channel::Answer;
 use channel::Channel;
-use channel::Node;
-use channel::Refusal;
 use channel::Stepped;
-use node::surveying::survey;
-use steps::handing::next_step;
+use engine_look::looking::ARRIVAL;
+use engine_look::looking::CLOSE;
+use engine_look::looking::NEXT;
+use engine_look::looking::OPEN;
+use engine_look::looking::RECLAIM;
+use engine_look::looking::Request;
+use engine_look::looking::TAKE;
+use engine_look::looking::look_in;
+use engine_look::looking::unit_start;
+use node_survey::surveying::survey;
 use steps::requests::close_step;
 use steps::requests::open_step;
 use steps::requests::reclaim_step;
 use steps::requests::take_step;
 use steps::requests::transfer_step;
 use steps_arriving::arriving::arrive_step;
-use steps_arriving::arriving::look_of;
+use steps_handing::handing::next_step;
 use table::Decision;
-use table::Look;
 use table::Survey;
-use table::deciding::decide;
-use table::surveying::begin;
+use table_decision::deciding::decide;
+use table_survey::surveying::begin;
 ghost use mathlib.Core.Path.{_≡_};
 ghost use lib.ListN.{length};
 ghost use Rattle.walks.specs.Serving.{works, leaves};
 ghost use Rattle.table.specs.Surveying.{begun, stepping, Served};
-ghost use Rattle.engine.specs.Performing.{indexIn, lookIn, unitStart, requestFor, performFor, performed};
-
-// What a record asks, and of which node.
-pub struct Request {
-    pub kind: u16,
-    pub node: Node,
-}
-
-pub const ARRIVAL: u16 = 1;
-
-pub const TICK: u16 = 2;
-
-pub const OPEN: u16 = 3;
-
-pub const CLOSE: u16 = 4;
-
-pub const TRANSFER: u16 = 5;
-
-pub const TAKE: u16 = 6;
-
-pub const NEXT: u16 = 7;
-
-pub const RECLAIM: u16 = 8;
-
-// A request begins with a channel index octet; a missing one is no channel.
-fn index_in(body: &[u8]) -> Look
-    ensures { λ r. ⌜ r ≡ indexIn (now (body .entry)) ⌝ }
-{
-    if body.len() == 0 {
-        return Look::Nobody(Refusal::NoChannel);
-    }
-    Look::Index(body[0] as usize)
-}
-
-// An unknown kind is no channel's.
-fn look_in(n: Request, body: &[u8], room: usize) -> Look
-    ensures { λ r. ⌜ r ≡ lookIn n (now (body .entry)) room ⌝ }
-{
-    if n.kind == ARRIVAL {
-        return look_of(n.node, body, room);
-    }
-    if n.kind == NEXT {
-        return Look::Ready;
-    }
-    if n.kind < OPEN {
-        return Look::Nobody(Refusal::NoChannel);
-    }
-    if RECLAIM < n.kind {
-        return Look::Nobody(Refusal::NoChannel);
-    }
-    index_in(body)
-}
+ghost use Rattle.engine_look.specs.Looking.{lookIn};
+ghost use Rattle.engine.specs.Performing.{requestFor, performFor, performed};
 
 fn perform_begin(n: Request, body: &[u8], room: usize) -> Survey
     ensures { λ r. ⌜ r ≡ begun (lookIn n (now (body .entry)) room) ⌝ }
 {
     begin(look_in(n, body, room))
-}
-
-// What follows the index octet; the whole of an empty body.
-fn unit_start(body: &[u8]) -> usize
-    ensures { λ r. ⌜ r ≡ unitStart (now (body .entry)) ⌝ }
-{
-    if body.len() == 0 { 0 } else { 1 }
 }
 
 // A request, by its kind.

@@ -2,10 +2,10 @@
 use crate::held::Kept;
 use crate::held::perform_in;
 use crate::held::tick_in;
-use crate::performing::Request;
-use crate::performing::TICK;
 use channel::Channel;
 use channel::Node;
+use engine_look::looking::Request;
+use engine_look::looking::TICK;
 ghost use mathlib.Core.Path.{_≡_};
 ghost use Prim.Native.Nat.{_+_, _*_};
 ghost use Rattle.walks.specs.Serving.{leaves};

@@ -147,7 +147,7 @@ fn given(c: Channel, turn: u8, mem: &mut [u8], lens: &mut [u16]) -> Channel {
 
 fn sub_acts(c: Channel, what: u8, mem: &[u8], lens: &[u16]) -> Channel {
     if what == OPEN {
-        let opened = receiver::open_step(c);
+        let opened = receiver_control::open_step(c);
         return opened.channel;
     }
     if what == TAKE {

@@ -8,8 +8,8 @@ use Rattle.channel.proofs.record.Settings as X
 use Rattle.channel.proofs.record.Settings.Laws as X′
 use Rattle.channel.proofs.answer.Answer as N
 use Rattle.channel.proofs.answer.Answer.Laws as N′
-use Rattle.host.proofs.calls.Said as S
-use Rattle.host.proofs.calls.Said.Laws as S′
+use Rattle.host_answers.proofs.calls.Said as S
+use Rattle.host_answers.proofs.calls.Said.Laws as S′
 use Rattle.walks.proofs.Tab.{struct-elem, enum-elem}
 use Rattle.walks.proofs.Plain.{Kind, uint}
 

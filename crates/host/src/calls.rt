@@ -1,11 +1,9 @@
 // Every call of the node for C: the table, the memory, the lengths and the buffers are lent as they are, and the answer comes as numbers.
-use channel::Answer;
 use channel::Channel;
 use channel::Node;
 use channel::Settings;
-use channel::answer::confirmed;
-use channel::answer::length;
-use channel::answer::number;
+use host_answers::calls::Said;
+use host_answers::calls::said_of;
 use node::arrivals::arrival;
 use node::packets::next_packet;
 use node::requests::close;
@@ -13,49 +11,15 @@ use node::requests::open;
 use node::requests::reclaim;
 use node::requests::take;
 use node::requests::transfer;
-use node::ticks::tick;
 use node_settings::settings;
+use node_ticks::ticks::tick;
 ghost use mathlib.Core.Path.{_≡_};
 ghost use mathlib.Core.List.{[]};
 ghost use Rattle.walks.specs.Serving.{leaves, changes, saying, telling};
-ghost use Rattle.channel.specs.Answers.{reasonOf};
-ghost use Rattle.node.specs.Calls.{opened, closed, transferred, taken, reclaimed, handed, arrived, ticked};
+ghost use Rattle.node_ticks.specs.Ticks.{ticked};
+ghost use Rattle.node.specs.Calls.{opened, closed, transferred, taken, reclaimed, handed, arrived};
 ghost use Rattle.node_settings.specs.Configuring.{configured};
-ghost use Rattle.host.specs.Said.{saidOf};
-
-// What a call answers: document 01's number; with 0 and 15 the octets written, with 0 the units confirmed, with 9 the reason; else zeros.
-#[repr(C)]
-pub struct Said {
-    pub number: u32,
-    pub reason: u32,
-    pub length: usize,
-    pub confirmed: usize,
-}
-
-fn reason(a: Answer) -> u32
-    ensures { λ r. ⌜ r ≡ reasonOf a ⌝ }
-{
-    match a {
-        Answer::Done {
-            length: _,
-            confirmed: _,
-        } => 0,
-        Answer::Repeated { length: _ } => 0,
-        Answer::Inactive(why) => why as u32,
-        Answer::Refused(_) => 0,
-    }
-}
-
-fn said_of(a: Answer) -> Said
-    ensures { λ r. ⌜ r ≡ saidOf a ⌝ }
-{
-    Said {
-        number: number(a),
-        reason: reason(a),
-        length: length(a),
-        confirmed: confirmed(a),
-    }
-}
+ghost use Rattle.host_answers.specs.Said.{saidOf};
 
 // A table made afresh.
 #[no_mangle]

@@ -1,17 +1,17 @@
 // Arrivals: a packet that came from the link, whatever its octets are.
-use crate::surveying::survey;
+use arriving_look::finding::look_of;
 use channel::Answer;
 use channel::Channel;
 use channel::Node;
+use node_survey::surveying::survey;
 use steps_arriving::arriving::arrive_step;
-use steps_arriving::arriving::look_of;
 use table::Survey;
-use table::deciding::decide;
-use table::surveying::begin;
+use table_decision::deciding::decide;
+use table_survey::surveying::begin;
 ghost use mathlib.Core.Path.{_≡_};
 ghost use Rattle.walks.specs.Serving.{leaves};
 ghost use Rattle.table.specs.Surveying.{begun};
-ghost use Rattle.steps_arriving.specs.Arriving.{lookOf};
+ghost use Rattle.arriving_look.specs.Finding.{lookOf};
 ghost use Rattle.node.specs.Calls.{arrived};
 
 // The packet is read before the table is surveyed; what that says counts after the test for 13.

@@ -3,15 +3,13 @@
 pub mod arrivals;
 pub mod packets;
 pub mod requests;
-pub mod surveying;
-pub mod ticks;
 
 pub use arrivals::arrival;
 pub use node_settings::settings;
+pub use node_ticks::ticks::tick;
 pub use packets::next_packet;
 pub use requests::close;
 pub use requests::open;
 pub use requests::reclaim;
 pub use requests::take;
 pub use requests::transfer;
-pub use ticks::tick;

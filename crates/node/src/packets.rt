@@ -1,13 +1,13 @@
 // The next packet of the node: of the best rank that is ready, and of the lowest index among equals.
-use crate::surveying::survey;
 use channel::Answer;
 use channel::Channel;
 use channel::Node;
-use steps::handing::next_step;
+use node_survey::surveying::survey;
+use steps_handing::handing::next_step;
 use table::Look;
 use table::Survey;
-use table::deciding::decide;
-use table::surveying::begin;
+use table_decision::deciding::decide;
+use table_survey::surveying::begin;
 ghost use mathlib.Core.Path.{_≡_};
 ghost use Rattle.walks.specs.Serving.{leaves};
 ghost use Rattle.table.specs.declared.looking.Look.the-variants as look;

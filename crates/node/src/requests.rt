@@ -1,15 +1,15 @@
 // Requests: each names its channel by its index in the table.
-use crate::surveying::request_begin;
-use crate::surveying::survey;
 use channel::Answer;
 use channel::Channel;
+use node_survey::surveying::request_begin;
+use node_survey::surveying::survey;
 use steps::requests::close_step;
 use steps::requests::open_step;
 use steps::requests::reclaim_step;
 use steps::requests::take_step;
 use steps::requests::transfer_step;
 use table::Survey;
-use table::deciding::decide;
+use table_decision::deciding::decide;
 ghost use mathlib.Core.Path.{_≡_};
 ghost use mathlib.Core.List.{[]};
 ghost use Rattle.walks.specs.Serving.{leaves, changes};

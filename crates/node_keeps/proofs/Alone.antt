@@ -57,7 +57,7 @@ module _ (t : List Channel) (mem lens : List ℕ) (h : Lawful t mem lens) (i : �
   in-lens = omega (arith, slots-inside t mem lens h i below, k .sized .each)
 
   -- all else stays
-  stored-others : OthersStay t mem lens i (stored t mem lens i w)
+  pub stored-others : OthersStay t mem lens i (stored t mem lens i w)
   unfolding stored
   stored-others =
       record {
@@ -77,11 +77,11 @@ module _ (t : List Channel) (mem lens : List ℕ) (h : Lawful t mem lens) (i : �
       }
 
   -- and there stands what the step left
-  stored-record : recordAt (stored t mem lens i w .table) i ≡ w .made .channel
+  pub stored-record : recordAt (stored t mem lens i w .table) i ≡ w .made .channel
   unfolding stored
   stored-record = getD-set-same t i (w .made .channel) blank below
 
-  stored-mem : ownMem (stored t mem lens i w .table) i (stored t mem lens i w .mem) ≡ w .mem
+  pub stored-mem : ownMem (stored t mem lens i w .table) i (stored t mem lens i w .mem) ≡ w .mem
   unfolding stored
   stored-mem =
       ap₂ (λ (at : ℕ) (c : Channel). partOf at (areaOf (c .limits)) (laid mem (octetAt t i) (w .mem))) (octets-before (w .made .channel) t i i (k .limits)) stored-record
@@ -89,7 +89,7 @@ module _ (t : List Channel) (mem lens : List ℕ) (h : Lawful t mem lens) (i : �
       ∙ ap (λ (n : ℕ). partOf (octetAt t i) n (laid mem (octetAt t i) (w .mem))) (sym (k .sized .exact))
       ∙ laid-here mem (octetAt t i) (w .mem) in-mem
 
-  stored-lens : ownLens (stored t mem lens i w .table) i (stored t mem lens i w .lens) ≡ w .lens
+  pub stored-lens : ownLens (stored t mem lens i w .table) i (stored t mem lens i w .lens) ≡ w .lens
   unfolding stored
   stored-lens =
       ap₂ (λ (at : ℕ) (c : Channel). partOf at (c .limits .slots) (laid lens (slotAt t i) (w .lens))) (slots-before (w .made .channel) t i i (k .limits)) stored-record

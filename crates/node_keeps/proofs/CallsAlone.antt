@@ -31,10 +31,12 @@ use Rattle.table.specs.Looking.{chosen as choice}
 use Rattle.table.specs.Lent.{areaOf, slotAt, octetAt, lawful}
 use Rattle.table.specs.Serving.{recordAt, Step, alone, stored, serveOne, tableOf}
 use Rattle.steps.specs.Requests.{openedBy, closedBy, transferFor, takeFor, reclaimFor}
-use Rattle.steps.specs.Handing.{nextFor}
-use Rattle.steps_arriving.specs.Arriving.{isOurs, lookBy, lookOf, arrivalFor}
+use Rattle.steps_handing.specs.Handing.{nextFor}
+use Rattle.arriving_look.specs.Finding.{isOurs, lookBy, lookOf}
+use Rattle.steps_arriving.specs.Arriving.{arrivalFor}
 use Rattle.table.proofs.Parts.{laid-own}
-use Rattle.node.specs.Calls.{opened, closed, transferred, taken, reclaimed, handed, arrived, tickOf, ticked}
+use Rattle.node_ticks.specs.Ticks.{tickOf, ticked}
+use Rattle.node.specs.Calls.{opened, closed, transferred, taken, reclaimed, handed, arrived}
 use Rattle.node_keeps.specs.Keeping.{Keeps, staying, OthersStay, SameFor, OwnChannelAlone}
 use Rattle.node_keeps.proofs.Serving.{servedAt, serve-cases}
 use Rattle.node_keeps.proofs.StepsKeep.{open-keeps, close-keeps, take-keeps, reclaim-keeps, next-keeps, arrival-keeps}
@@ -42,10 +44,10 @@ use Rattle.node_keeps.proofs.Alone.{Shaped, kept-shaped, Shapes, index-
 
 -- ---- the steps keep limits and sizes
 
-shapes : (look : Look) (step : Step) (out : List ℕ) → Keeps look step out → Shapes look step out
+pub shapes : (look : Look) (step : Step) (out : List ℕ) → Keeps look step out → Shapes look step out
 shapes look step out keeps at rank c mem lens g = kept-shaped c (step c rank mem lens out) (keeps at rank c mem lens g)
 
-transfer-shapes : (look : Look) (unit out : List ℕ) → Shapes look (transferFor unit) out
+pub transfer-shapes : (look : Look) (unit out : List ℕ) → Shapes look (transferFor unit) out
 unfolding transferFor
 transfer-shapes look unit out at rank c mem lens g = go (eqb (c .addresses .direction) sends)
   where
@@ -58,7 +60,7 @@ transfer-shapes look unit out at rank c mem lens g = go (eqb (c .addresses .dire
 
 -- ---- directives leave memory and lengths
 
-alone-called : (look : Look) (step : Channel → Stepped) (t : List Channel) (mem lens : List ℕ)
+pub alone-called : (look : Look) (step : Channel → Stepped) (t : List Channel) (mem lens : List ℕ)
     → serveOne look (alone step) t mem lens [] ≡ staying (tableOf (serveOne look (alone step) t mem lens [])) mem lens
 unfolding stored
 alone-called look step t mem lens =

@@ -39,10 +39,14 @@ use Rattle.table.specs.Looking.{chosen as choice}
 use Rattle.table.specs.Lent.{areaOf, slotAt, octetAt, lawful}
 use Rattle.table.specs.Serving.{blank, recordAt, ownMem, ownLens, Step, alone, stored, serveOne}
 use Rattle.steps.specs.Requests.{openedBy, closedBy, transferFor, takeFor, reclaimFor}
-use Rattle.steps.specs.Handing.{nextFor}
-use Rattle.steps_arriving.specs.Arriving.{lookOf, unfit, repliedBy, dataFor, arriveBy, payloadIn, arrivalFor}
+use Rattle.steps_handing.specs.Handing.{nextFor}
+use Rattle.arriving_look.specs.Finding.{lookOf}
+use Rattle.arriving_data.specs.Data.{unfit, dataFor}
+use Rattle.arriving_reply.specs.Replying.{repliedBy}
+use Rattle.steps_arriving.specs.Arriving.{arriveBy, payloadIn, arrivalFor}
 use Rattle.table.proofs.Parts.{laid-own}
-use Rattle.node.specs.Calls.{opened, closed, transferred, taken, reclaimed, handed, arrived, tickOf, anyInactive, tickAnswer, ticked}
+use Rattle.node_ticks.specs.Ticks.{tickOf, anyInactive, tickAnswer, ticked}
+use Rattle.node.specs.Calls.{opened, closed, transferred, taken, reclaimed, handed, arrived}
 use Rattle.node_keeps.specs.Keeping.{MayChange, RefusalsChangeNothing, RefusalsChangeNoRecord, NineWritesNothing}
 use Rattle.node_keeps.proofs.Serving.{servedAt, serve-cases}
 

@@ -45,11 +45,13 @@ use Rattle.table.specs.Looking.{chosen as choice}
 use Rattle.table.specs.Lent.{lawful}
 use Rattle.table.specs.Serving.{blank, recordAt, ownMem, ownLens, Step, alone, stored, serveOne}
 use Rattle.steps.specs.Requests.{openedBy, closedBy, transferFor, takeFor, reclaimFor}
-use Rattle.steps.specs.Handing.{nextFor}
-use Rattle.steps.specs.declared.ticking.Ticked.{Ticked as OneTick}
-use Rattle.steps.specs.Ticking.{tickedBy}
-use Rattle.steps_arriving.specs.Arriving.{lookOf, payloadIn, arrivalFor}
-use Rattle.node.specs.Calls.{opened, closed, transferred, taken, reclaimed, handed, arrived, tickOf, anyInactive, tickAnswer, ticked}
+use Rattle.steps_handing.specs.Handing.{nextFor}
+use Rattle.steps_ticking.specs.declared.ticking.Ticked.{Ticked as OneTick}
+use Rattle.steps_ticking.specs.Ticking.{tickedBy}
+use Rattle.arriving_look.specs.Finding.{lookOf}
+use Rattle.steps_arriving.specs.Arriving.{payloadIn, arrivalFor}
+use Rattle.node_ticks.specs.Ticks.{tickOf, anyInactive, tickAnswer, ticked}
+use Rattle.node.specs.Calls.{opened, closed, transferred, taken, reclaimed, handed, arrived}
 use Rattle.node_keeps.specs.Keeping.{Wide}
 use Rattle.node_keeps.proofs.Serving.{servedAt, worked, serve-cases}
 use Rattle.node_keeps.proofs.CallsRefuse.{arrive-cases}

@@ -30,9 +30,11 @@ use Rattle.table.specs.Serving.{blank, recordAt, ownMem, ownLens, Step, alone, 
 use Rattle.table.proofs.SurveyLaws.{stands-first}
 use Rattle.table.proofs.ServeLaws.{lawful-is}
 use Rattle.steps.specs.Requests.{openedBy, closedBy, transferFor, takeFor, reclaimFor}
-use Rattle.steps.specs.Handing.{nextFor}
-use Rattle.steps_arriving.specs.Arriving.{lookOf, arrivalFor}
-use Rattle.node.specs.Calls.{opened, closed, transferred, taken, reclaimed, handed, arrived, tickOf, ticked}
+use Rattle.steps_handing.specs.Handing.{nextFor}
+use Rattle.arriving_look.specs.Finding.{lookOf}
+use Rattle.steps_arriving.specs.Arriving.{arrivalFor}
+use Rattle.node_ticks.specs.Ticks.{tickOf, ticked}
+use Rattle.node.specs.Calls.{opened, closed, transferred, taken, reclaimed, handed, arrived}
 use Rattle.node_keeps.specs.Keeping.{Given, Keeps, SettingsStay}
 use Rattle.node_keeps.proofs.Serving.{servedAt, worked, serve-cases}
 use Rattle.node_keeps.proofs.StepsKeep.{open-keeps, close-keeps, take-keeps, reclaim-keeps, next-keeps, arrival-keeps, tick-keeps}

@@ -41,13 +41,20 @@ use Rattle.table.specs.declared.looking.Look.{Look}
 use Rattle.table.specs.declared.looking.Look.the-variants.{Ready}
 use Rattle.table.specs.Looking.{looksFor, same, graded}
 use Rattle.table.specs.Serving.{alone}
-use Rattle.steps.specs.declared.ticking.Ticked.{Ticked}
+use Rattle.steps_ticking.specs.declared.ticking.Ticked.{Ticked}
 use Rattle.steps.specs.Requests.{openedBy, closedBy, transferFor, takeFor, reclaimFor}
-use Rattle.steps.specs.Handing.{nextFor}
-use Rattle.steps_arriving.specs.Arriving.{lookOf, unfit, repliedBy, arriveBy, payloadIn, arrivalFor, Framed}
-use Rattle.steps.proofs.RequestLaws.{opened-sends, opened-receives, closed-sends, closed-receives, ready-is, tick-sends, tick-receives}
-use Rattle.steps_arriving.proofs.ArriveLaws.{found-packet, framed, data-receives, by-unfit, by-data, by-data-ack, by-control-ack, by-control, fit-payload}
-use Rattle.node.specs.Calls.{tickOf}
+use Rattle.steps_handing.specs.Handing.{nextFor}
+use Rattle.arriving_look.specs.Finding.{lookOf}
+use Rattle.arriving_data.specs.Data.{unfit}
+use Rattle.arriving_reply.specs.Replying.{repliedBy}
+use Rattle.steps_arriving.specs.Arriving.{arriveBy, payloadIn, arrivalFor, Framed}
+use Rattle.steps_handing.proofs.HandLaws.{ready-is}
+use Rattle.steps_ticking.proofs.TickLaws.{tick-sends, tick-receives}
+use Rattle.steps.proofs.RequestLaws.{opened-sends, opened-receives, closed-sends, closed-receives}
+use Rattle.arriving_look.proofs.FindLaws.{found-packet}
+use Rattle.arriving_data.proofs.DataLaws.{fit-payload}
+use Rattle.steps_arriving.proofs.ArriveLaws.{framed, data-receives, by-unfit, by-data, by-data-ack, by-control-ack, by-control}
+use Rattle.node_ticks.specs.Ticks.{tickOf}
 use Rattle.node_keeps.specs.Keeping.{Given, Kept, Keeps}
 
 -- ---- a record sends or receives

@@ -17,9 +17,9 @@ use Rattle.channel.specs.declared.answer.Answer.the-variants.{Done, Refused}
 use Rattle.channel.specs.declared.answer.Refusal.the-variants as refusal
 use Rattle.channel.specs.Tables.{mostRecords, eachFit, fitTable}
 use Rattle.table.specs.Lent.{slotsOf, octetsOf}
-use Rattle.node_settings.specs.declared.seeing.Seen.{Seen}
+use Rattle.settings_seen.specs.declared.seeing.Seen.{Seen}
 use Rattle.node_settings.specs.Configuring.{madeTable, settled, configured}
-use Rattle.node_settings.specs.Seeing.{begun, seen, isSettled}
+use Rattle.settings_seen.specs.Seeing.{begun, seen, isSettled}
 use Rattle.node_settings.proofs.SeenLaws.{Good, Counts, starts, free-begun, sees-good, sees-sound}
 
 -- ---- the test, as facts

@@ -18,10 +18,10 @@ use Rattle.channel.specs.declared.record.Settings.{Settings}
 use Rattle.channel.specs.Settings.{fit, clash}
 use Rattle.channel.specs.Tables.{clashes, eachFit}
 use Rattle.table.specs.Lent.{areaOf, slotsOf, octetsOf}
-use Rattle.node_settings.specs.declared.seeing.Seen.{Seen}
+use Rattle.settings_seen.specs.declared.seeing.Seen.{Seen}
 use Rattle.node_settings.specs.Configuring.{madeTable}
-use Rattle.node_settings.specs.Seeing.{begun, unsound, addressesAt, taken, noted, seeOne}
-use Rattle.node_settings.proofs.OneLaws.{bounded, one-spoilt, one-many, one-unfit, one-taken, one-noted}
+use Rattle.settings_seen.specs.Seeing.{begun, unsound, addressesAt, taken, noted, seeOne}
+use Rattle.settings_seen.proofs.OneLaws.{bounded, one-spoilt, one-many, one-unfit, one-taken, one-noted}
 
 -- ---- two clash in either order
 

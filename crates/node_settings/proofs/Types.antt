@@ -9,8 +9,8 @@ use Rattle.channel.proofs.answer.Answer as N
 use Rattle.channel.proofs.answer.Answer.Laws as N′
 use Rattle.table.proofs.deciding.Verdict as V′
 use Rattle.table.proofs.deciding.Verdict.Laws as V″
-use Rattle.node_settings.proofs.seeing.Seen as Y
-use Rattle.node_settings.proofs.seeing.Seen.Laws as Y′
+use Rattle.settings_seen.proofs.seeing.Seen as Y
+use Rattle.settings_seen.proofs.seeing.Seen.Laws as Y′
 use Rattle.walks.proofs.Tab.{struct-elem, enum-elem}
 use Rattle.walks.proofs.Plain.{Kind, Has, truth}
 use Rattle.walks.proofs.Served.{Tested}

@@ -1,2 +1,1 @@
 pub mod Configuring
-pub mod Seeing

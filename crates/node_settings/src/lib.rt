@@ -1,23 +1,20 @@
 // Settings for a whole table at once (document 01, A channel's record and memory): no old record is read, and every channel is made CLOSED and empty.
-pub mod seeing;
-pub mod settling;
-
 use channel::Answer;
 use channel::Channel;
 use channel::Settings;
 use channel::record::made;
-use seeing::Seen;
-use seeing::see_begin;
-use seeing::see_one;
-use settling::settings_end;
-use settling::settle;
+use settings_seen::seeing::Seen;
+use settings_seen::seeing::see_begin;
+use settings_seen::seeing::see_one;
+use settings_verdict::settling::settings_end;
+use settings_verdict::settling::settle;
 ghost use mathlib.Core.Path.{_≡_};
 ghost use mathlib.Core.List.{map};
 ghost use lib.ListN.{length};
 ghost use Rattle.walks.specs.Fold.{foldFrom};
 ghost use Rattle.walks.specs.Serving.{changes};
 ghost use Rattle.channel.specs.Record.{madeOf};
-ghost use Rattle.node_settings.specs.Seeing.{seeOne};
+ghost use Rattle.settings_seen.specs.Seeing.{seeOne};
 ghost use Rattle.node_settings.specs.Configuring.{configured};
 
 // Every one of the settings is looked at, beside those before it.

@@ -1,11 +1,8 @@
-// Which packet of a channel is next, of what rank, and its hand-out: Control before resent Data before new Data, and within a channel the
-// lowest segment.
+// Which packet of a channel is next, of what rank: Control before resent Data before new Data, and within a channel the lowest segment; and the
+// channel once it is handed out.
 use channel::Channel;
 use channel::Limits;
 use channel::Lone;
-use channel::Node;
-use channel::Refusal;
-use channel::Stepped;
 use channel::Timers;
 use channel::Window;
 use channel::lone::hand_out;
@@ -13,28 +10,15 @@ use channel::lone::is_ready;
 use channel::record::CLOSING;
 use channel::record::ENABLED;
 use channel::record::OPEN;
-use channel::step::done;
-use channel::step::outgoing;
-use channel::step::refused;
-use packet::Fields;
-use packet::fields::CLOSE;
-use packet::fields::DATA;
-use packet::fields::WHOLE;
 use sender::ticking::lower;
 ghost use mathlib.Core.Path.{_≡_};
 ghost use mathlib.Core.Bool.{_&&_, _||_};
 ghost use Prim.Native.Nat.{_+_, _-_, _<_, _≤_};
 ghost use lib.Dec.{eqb};
-ghost use lib.ListN.{length, getD};
 ghost use Rattle.channel.specs.Record.{enabled, closing};
 ghost use Rattle.channel.specs.Lone.{isReady};
-ghost use Rattle.channel.specs.Asked.{Ringed, Asked};
-ghost use Rattle.sender_packets.specs.Asked.{Ready, Plain};
-ghost use Rattle.sender.specs.Directives.{placeAt};
-ghost use Rattle.sender_packets.specs.HandingOut.{againIn, againAt, nextInWindow, rankOf, controlFields, dataFields, sentStep, sentOut, timedAt, controlOut, againOut, newOut, handStep, handOut};
-ghost use mathlib.Core.List.{[]};
-ghost use Rattle.laws.specs.Choice.{if_then_else_};
-ghost use Rattle.slots.specs.Slots.{slotOf, segmentIn};
+ghost use Rattle.channel.specs.Asked.{Ringed};
+ghost use Rattle.sender_packets.specs.HandingOut.{againIn, againAt, nextInWindow, rankOf, timedAt, controlOut, againOut, newOut};
 
 // A segment in flight that is not acknowledged and whose timer has ended waits to be resent.
 fn is_again(acked: u8, left: u16) -> bool
@@ -64,7 +48,7 @@ fn again_in(acked: [u8; 128], left: [u16; 128], slots: usize, n: usize, from: us
 }
 
 // The lowest segment that waits to be resent, counted from the start; as many as are in flight if none does.
-fn again_at(c: Channel) -> usize
+pub fn again_at(c: Channel) -> usize
     requires { ⌜ Ringed (c .limits) (c .window) ⌝ }
     ensures { λ r. ⌜ r ≡ againAt c ⌝ }
 {
@@ -115,19 +99,6 @@ pub fn rank_of(c: Channel) -> usize
     3
 }
 
-// A packet goes out, and the channel is then another; where the buffer is too small, nothing changes.
-fn send(before: Channel, after: Channel, fields: Fields, payload: &[u8], out: &mut [u8]) -> Stepped
-    requires { ⌜ Plain fields (length (now payload)) ⌝ }
-    ensures { λ r. ⌜ (r ≡ sentStep before after (length (now (payload .entry))) (length (now (out .entry)))) × (now (out .exit) ≡ sentOut fields (now (payload .entry)) (now (out .entry))) ⌝ }
-{
-    let n = 12 + payload.len();
-    if out.len() < n {
-        return refused(before, Refusal::Small);
-    }
-    packet::write_packet(fields, payload, out);
-    done(after, n)
-}
-
 // The channel with the timer of the segment at a place started at the timeout, and so many resends left to it.
 fn start_timer(c: Channel, place: usize, tries: u16) -> Channel
     requires { ⌜ place < 128 ⌝ }
@@ -147,7 +118,7 @@ fn start_timer(c: Channel, place: usize, tries: u16) -> Channel
     d
 }
 
-fn control_out(c: Channel) -> Channel
+pub fn control_out(c: Channel) -> Channel
     ensures { λ r. ⌜ r ≡ controlOut c ⌝ }
 {
     let control = hand_out(c.control, c.limits.timeout, c.limits.retries);
@@ -157,7 +128,7 @@ fn control_out(c: Channel) -> Channel
 }
 
 // The i-th segment from the start on is handed out again: one resend less is left to it.
-fn again_out(c: Channel, i: usize) -> Channel
+pub fn again_out(c: Channel, i: usize) -> Channel
     requires { ⌜ (Ringed (c .limits) (c .window)) × (i ≡ againAt c) × (i < c .window .flight) ⌝ }
     ensures { λ r. ⌜ r ≡ againOut c ⌝ }
 {
@@ -168,7 +139,7 @@ fn again_out(c: Channel, i: usize) -> Channel
 }
 
 // The next segment is handed out for the first time: all resends are left to it, and one more is in flight.
-fn new_out(c: Channel) -> Channel
+pub fn new_out(c: Channel) -> Channel
     requires { ⌜ (Ringed (c .limits) (c .window)) × (c .window .flight < c .window .ahead) ⌝ }
     ensures { λ r. ⌜ r ≡ newOut c ⌝ }
 {
@@ -177,70 +148,4 @@ fn new_out(c: Channel) -> Channel
     let mut d = start_timer(c, place, c.limits.retries);
     d.window.flight = flight;
     d
-}
-
-// An Open in ENABLED, a Close in CLOSING, both numbered 0.
-fn control_kind(state: u8) -> u8
-    ensures { λ r. ⌜ r ≡ (if eqb state enabled then 2 else 3) ⌝ }
-{
-    if state == ENABLED {
-        packet::fields::OPEN
-    } else {
-        CLOSE
-    }
-}
-
-fn hand_control(node: Node, c: Channel, out: &mut [u8]) -> Stepped
-    ensures { λ r. ⌜ (r ≡ sentStep c (controlOut c) 0 (length (now (out .entry)))) × (now (out .exit) ≡ sentOut (controlFields node c) [] (now (out .entry))) ⌝ }
-{
-    let kind = control_kind(c.state);
-    let fields = outgoing(node, c.addresses, kind, WHOLE, 0);
-    let nothing: [u8; 0] = [];
-    send(c, control_out(c), fields, &nothing, out)
-}
-
-// The i-th segment from the start on goes out, its payload read where it lies in its slot.
-fn hand_data(
-    node: Node,
-    c: Channel,
-    after: Channel,
-    mem: &[u8],
-    lens: &[u16],
-    i: usize,
-    out: &mut [u8],
-) -> Stepped
-    requires { ⌜ (Asked c (now mem) (now lens)) × (i < c .window .ahead) ⌝ }
-    ensures { λ r. ⌜ (r ≡ sentStep c after (getD (now (lens .entry)) (slotOf (placeAt c i)) 0) (length (now (out .entry)))) × (now (out .exit) ≡ sentOut (dataFields node c i) (segmentIn (c .limits .payload) (now (mem .entry)) (now (lens .entry)) (slotOf (placeAt c i))) (now (out .entry))) ⌝ }
-{
-    let place = ring::round(c.window.place + i, c.limits.slots);
-    let slot = slots::slot_of(place);
-    let marks = c.marks;
-    let number = std::num::wrapping_add_u8(c.window.start, i as u8);
-    let fields = outgoing(node, c.addresses, DATA, marks[place] - 1, number);
-    let from = slot * c.limits.payload;
-    let end = from + lens[slot] as usize;
-    send(c, after, fields, &mem[from..end], out)
-}
-
-// The packet of a rank that is ready is handed out into a lent buffer, or refused whole if it does not fit.
-pub fn hand_step(
-    node: Node,
-    c: Channel,
-    mem: &[u8],
-    lens: &[u16],
-    rank: usize,
-    out: &mut [u8],
-) -> Stepped
-    requires { ⌜ (Asked c (now mem) (now lens)) × (Ready c rank) ⌝ }
-    ensures { λ r. ⌜ (r ≡ handStep c (now (lens .entry)) rank (length (now (out .entry)))) × (now (out .exit) ≡ handOut node c (now (lens .entry)) (now (mem .entry)) rank (now (out .entry))) ⌝ }
-{
-    if rank == 0 {
-        return hand_control(node, c, out);
-    }
-    if rank == 1 {
-        let i = again_at(c);
-        return hand_data(node, c, again_out(c, i), mem, lens, i, out);
-    }
-    let i = c.window.flight;
-    hand_data(node, c, new_out(c), mem, lens, i, out)
 }

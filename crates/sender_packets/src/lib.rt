@@ -1,5 +1,4 @@
-// The packets of a transmit end: which is next, of what rank, and its hand-out (document 01, Sending).
+// The packets of a transmit end: which is next, and of what rank (document 01, Sending). `sender_handing` hands it out.
 pub mod handing;
 
-pub use handing::hand_step;
 pub use handing::rank_of;

@@ -1,17 +1,14 @@
 -- Laws of the requests' steps, one for each case.
 -- Assumes nothing.
-use mathlib.Core.Path.{_≡_, refl, sym, ap, ap₂, _∙_, subst}
+use mathlib.Core.Path.{_≡_, sym, ap, ap₂, _∙_}
 use mathlib.Core.List.{List, []}
-use Prim.Native.Nat.{ℕ, _+_, _-_, _*_, _≤_, _<_}
-use native.Mathlib.Nat.{lt-irrefl}
-use mathlib.Core.Bool.{Bool, true, false, _||_}
-use native.Mathlib.Omega.{arith}
-use borrow.Author.Tests.{eq-eqb, ne-eqb, eqb-true}
+use Prim.Native.Nat.{ℕ}
+use borrow.Author.Tests.{eq-eqb, ne-eqb}
 use borrow.Rule.Slice.PartMut.{putMid}
 use lib.Dec.{eqb}
 use lib.ListN.{length, take, drop}
 use Rattle.laws.proofs.Choice.{chosen, passed-by}
-use Rattle.walks.specs.Serving.{Worked, works}
+use Rattle.walks.specs.Serving.{works}
 use Rattle.channel.specs.declared.record.Channel.{Channel}
 use Rattle.channel.specs.declared.answer.Refusal.the-variants as refusal
 use Rattle.channel.specs.declared.step.Stepped.{Stepped}
@@ -19,21 +16,14 @@ use Rattle.channel.specs.Record.{sends, receives}
 use Rattle.channel.specs.Steps.{refusing}
 use Rattle.sender.specs.Directives as sender
 use Rattle.sender_units.specs.Transfer.{transferStep, transferMem, transferLens}
-use Rattle.sender_packets.specs.Asked.{Ready}
-use Rattle.sender_packets.specs.HandingOut.{rankOf, handStep, handOut}
-use Rattle.sender.specs.Ticking.{tickStep as senderTick}
-use Rattle.table.specs.Looking.{readied}
-use Rattle.channel.specs.declared.record.Node.{Node}
 use Rattle.sender_units.specs.Reclaiming.{reclaimStep, reclaimOut}
 use Rattle.sender_keeps.proofs.KeepsTransfer.{transfer-sized}
 use Rattle.receiver.specs.Receiving as receiver
 use Rattle.receiver_data.specs.Taking.{takeStep, takeOut}
 use Rattle.table.specs.declared.deciding.Decision.{Decision}
-use Rattle.table.specs.Lent.{areaOf, partOf}
+use Rattle.table.specs.Lent.{areaOf}
 use Rattle.table.specs.Surveying.{mine, mineLens, stepping, Served}
 use Rattle.steps.specs.Requests.{openedBy, closedBy, transferFor, takeFor, reclaimFor}
-use Rattle.steps.specs.Handing.{nextFor}
-use Rattle.steps.specs.Ticking.{tickedBy}
 use Rattle.table.proofs.Parts.{own-mem, own-lens, quiet, filed}
 
 -- ---- directives
@@ -126,39 +116,3 @@ module _ (c : Channel) (d : Decision) (mem lens : List ℕ) where
         quiet reclaimFor c d mem lens out r o
         (chosen (eqb (c .addresses .direction) sends) _ _ (eq-eqb (c .addresses .direction) sends e)
         ∙ sym (ap₂ (λ (x : Stepped) (y : List ℕ). works x (mine c d mem) (mineLens c d lens) y) zr zo))
-
-    -- ---- the next packet
-
-    pub next-hands : (node : Node) (r : Stepped) (o : List ℕ) (j k : ℕ)
-        → j ≡ areaOf (c .limits)
-        → k ≡ c .limits .slots
-        → r ≡ handStep c (take k (drop (d .spot .slot) lens)) (d .spot .rank) (length out)
-        → o ≡ handOut node c (take k (drop (d .spot .slot) lens)) (take j (drop (d .spot .octet) mem)) (d .spot .rank) out
-        → works r mem lens o ≡ stepping (nextFor node) c d mem lens out
-    unfolding nextFor
-    next-hands node r o j k ej ek er eo =
-        let rank = d .spot .rank in
-        let zr : r ≡ handStep c (mineLens c d lens) rank (length out) = er ∙ ap (λ (x : List ℕ). handStep c x rank (length out)) (own-lens c d mem lens k ek) in
-        let zo : o ≡ handOut node c (mineLens c d lens) (mine c d mem) rank out =
-        eo ∙ ap₂ (λ (x y : List ℕ). handOut node c x y rank out) (own-lens c d mem lens k ek) (own-mem c d mem lens j ej) in
-        quiet (nextFor node) c d mem lens out r o (sym (ap₂ (λ (x : Stepped) (y : List ℕ). works x (mine c d mem) (mineLens c d lens) y) zr zo))
-
--- a packet of a rank below 3 is ready only in a sender
-pub ready-is : (c : Channel) (rank : ℕ) → rank ≡ readied c → rank < 3 → (c .addresses .direction ≡ sends) × Ready c rank
-ready-is c rank e h = go (eqb (c .addresses .direction) sends) refl
-  where
-    go : (b : Bool) → eqb (c .addresses .direction) sends ≡ b → (c .addresses .direction ≡ sends) × Ready c rank
-    go true p = (eqb-true _ _ p, record { is = e ∙ chosen (eqb (c .addresses .direction) sends) (rankOf c) 3 p; some = h })
-    go false p = absurd (lt-irrefl 3 (subst (λ (k : ℕ). k < 3) (e ∙ passed-by (eqb (c .addresses .direction) sends) (rankOf c) 3 p) h))
-
--- ---- a tick
-
-pub tick-sends : (c : Channel) (before : Bool) → c .addresses .direction ≡ sends
-    → tickedBy c before ≡ record { channel = senderTick c .channel; inactive = senderTick c .inactive || before }
-unfolding tickedBy
-tick-sends c before e = chosen (eqb (c .addresses .direction) sends) _ _ (eq-eqb _ _ e)
-
-pub tick-receives : (c : Channel) (before : Bool) → (c .addresses .direction ≡ sends → ⊥)
-    → tickedBy c before ≡ record { channel = receiver.tickStep c; inactive = before }
-unfolding tickedBy
-tick-receives c before e = passed-by (eqb (c .addresses .direction) sends) _ _ (ne-eqb _ _ e)

@@ -20,7 +20,7 @@ pub fn open_step(c: Channel, d: Decision, index: usize) -> Stepped
     ensures { λ r. ⌜ r ≡ openedBy c ⌝ }
 {
     if c.addresses.direction != SENDS {
-        return receiver::open_step(c);
+        return receiver_control::open_step(c);
     }
     sender::open_step(c)
 }
@@ -31,7 +31,7 @@ pub fn close_step(c: Channel, d: Decision, index: usize) -> Stepped
     ensures { λ r. ⌜ r ≡ closedBy c ⌝ }
 {
     if c.addresses.direction != SENDS {
-        return receiver::close_step(c);
+        return receiver_control::close_step(c);
     }
     sender::close_step(c)
 }
@@ -99,5 +99,5 @@ pub fn reclaim_step(
     let slot = d.spot.slot;
     let octets = octet + area(c.limits);
     let slots = slot + c.limits.slots;
-    sender_units::reclaim_step(c, &mem[octet..octets], &lens[slot..slots], out)
+    sender_reclaiming::reclaim_step(c, &mem[octet..octets], &lens[slot..slots], out)
 }

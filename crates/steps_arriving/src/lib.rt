@@ -1,3 +1,3 @@
-// What an arrival does: the packet read and found to be for this node and one of its channels, and taken by that channel's end on its own part of
-// the lent memory and lengths (document 01, Answer numbers: 'Arrivals test 11, 1, 2, 4, 3, 14, ..').
+// What an arrival does to the channel that it is for, by the packet's type: on that channel's own part of the lent memory and lengths (document
+// 01, Answer numbers: '.. Data payload over P (3), state (5), ..').
 pub mod arriving;

@@ -10,7 +10,7 @@ use packet::fields::DATA_ACK;
 use sender_packets::rank_of;
 ghost use mathlib.Core.Path.{_≡_};
 ghost use Rattle.channel.specs.Asked.{Ringed};
-ghost use Rattle.table.specs.Looking.{looksFor, same, indexed, addressed, readied, graded, missing};
+ghost use Rattle.table.specs.Looking.{looksFor, same, indexed, addressed, readied, graded};
 
 pub enum Look {
     // A request names its channel.
@@ -85,20 +85,5 @@ pub fn grade(look: Look, j: usize, c: Channel) -> usize
         Look::Packet { fields, length: _ } => grade_packet(fields, c.addresses),
         Look::Ready => grade_ready(c),
         Look::Nobody(_) => UNFIT,
-    }
-}
-
-// The refusal where no record suits.
-pub fn refusal(look: Look) -> Refusal
-    ensures { λ r. ⌜ r ≡ missing look ⌝ }
-{
-    match look {
-        Look::Index(_) => Refusal::NoChannel,
-        Look::Packet {
-            fields: _,
-            length: _,
-        } => Refusal::NoChannel,
-        Look::Ready => Refusal::Nothing,
-        Look::Nobody(why) => why,
     }
 }

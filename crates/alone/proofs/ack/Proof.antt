@@ -13,7 +13,7 @@ use Rattle.alone.proofs.ack.Lts as lts
 use Rattle.channel_stands.proofs.stands.Reads as stands-reads
 use Rattle.channel.proofs.step.refused.Reads as refused-reads
 use Rattle.sender_acks.proofs.control_ack_step.Reads as control-ack-step-reads
-use Rattle.sender_acks.proofs.data_ack_step.Reads as data-ack-step-reads
+use Rattle.sender_data_acks.proofs.data_ack_step.Reads as data-ack-step-reads
 
 stands-requires : tie.Need-stands-requires
 stands-requires c κs = search needs

@@ -11,7 +11,7 @@ use Rattle.alone.proofs.control.Reads as reads
 use Rattle.alone.proofs.control.Lts as lts
 use Rattle.channel_stands.proofs.stands.Reads as stands-reads
 use Rattle.channel.proofs.step.refused.Reads as refused-reads
-use Rattle.receiver.proofs.control_step.Reads as control-step-reads
+use Rattle.receiver_control.proofs.control_step.Reads as control-step-reads
 use Rattle.alone.proofs.reply_to.Reads as reply-to-reads
 
 stands-requires : tie.Need-stands-requires

@@ -10,9 +10,9 @@ use Rattle.alone.proofs.next.Tie as tie
 use Rattle.alone.proofs.next.Reads as reads
 use Rattle.alone.proofs.next.Lts as lts
 use Rattle.channel.proofs.step.refused.Reads as refused-reads
-use Rattle.sender_packets.proofs.hand_step.Reads as hand-step-reads
+use Rattle.sender_handing.proofs.hand_step.Reads as hand-step-reads
 use Rattle.sender_packets.proofs.rank_of.Reads as rank-of-reads
-use Rattle.alone.proofs.is_lent.Reads as is-lent-reads
+use Rattle.alone_lent.proofs.is_lent.Reads as is-lent-reads
 
 is-lent-requires : tie.Need-is-lent-requires
 is-lent-requires c κs = search needs

@@ -10,7 +10,7 @@ use Rattle.alone.proofs.tick_sender.Tie as tie
 use Rattle.alone.proofs.tick_sender.Reads as reads
 use Rattle.alone.proofs.tick_sender.Lts as lts
 use Rattle.channel_stands.proofs.stands.Reads as stands-reads
-use Rattle.sender.proofs.tick_step.Reads as tick-step-reads
+use Rattle.sender_ticking.proofs.tick_step.Reads as tick-step-reads
 
 stands-requires : tie.Need-stands-requires
 stands-requires c κs = search needs

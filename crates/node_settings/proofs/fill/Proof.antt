@@ -1,7 +1,7 @@
 -- `node_settings::fill` meets its contract: an instance of the walk of `Afresh.antt`.
 -- Assumes nothing.
 use Rattle.walks.proofs.Walk.{givenOf, tables, tablesOf, tripleOf, entered, cited}
-use Rattle.walks.proofs.Afresh.{fill-meets}
+use Rattle.walks_sweeping.proofs.Afresh.{fill-meets}
 use Rattle.channel.specs.Record.{madeOf}
 use Rattle.table.specs.Serving.{blank, unset}
 use Rattle.node_settings.proofs.Types.{channel, settings}

@@ -1,13 +1,13 @@
 -- `node_settings::see` meets its contract: an instance of the walk of `Fold.antt`.
 -- Assumes nothing.
 use Rattle.walks.proofs.Walk.{givenOf, tables, tablesOf, tripleOf, entered, cited, u16}
-use Rattle.walks.proofs.Fold.{fold-meets}
+use Rattle.walks_sweeping.proofs.Fold.{fold-meets}
 use Rattle.table.specs.Serving.{unset}
-use Rattle.node_settings.specs.Seeing.{seeOne}
+use Rattle.settings_seen.specs.Seeing.{seeOne}
 use Rattle.node_settings.proofs.Types.{settings, carried}
-use Rattle.node_settings.proofs.seeing.see_one as see-one
-use Rattle.node_settings.proofs.seeing.see_one.Symbol as see-one-def
-use Rattle.node_settings.proofs.seeing.see_one.Met as see-one-thm
+use Rattle.settings_seen.proofs.seeing.see_one as see-one
+use Rattle.settings_seen.proofs.seeing.see_one.Symbol as see-one-def
+use Rattle.settings_seen.proofs.seeing.see_one.Met as see-one-thm
 use Rattle.node_settings.proofs.see.Key.{name as #node-settings·see}
 use Rattle.node_settings.proofs.see as this
 use Rattle.node_settings.proofs.see.Statement as stated
@@ -19,4 +19,4 @@ see-spec 𝓤 H 𝓜 𝓖 𝓡 =
     entered 𝓤 H (tripleOf 𝓤 H (𝓖 .A) this.signature (this.spec 𝓤 H (𝓖 .A) (𝓜 .mem) (𝓡 .run)))
     (tables 𝓤 H 𝓜 𝓡 code.env .C) (tables 𝓤 H 𝓜 𝓡 code.env .Λ) #node-settings·see code.function (code.unfolded 𝓤 H 𝓜 𝓡)
     (fold-meets settings unset tt u16 carried seeOne see-one-def.name 𝓤 H (𝓖 .A) (givenOf 𝓤 H 𝓜 𝓖) (tablesOf 𝓤 H 𝓜 (tables 𝓤 H 𝓜 𝓡 code.env))
-    (cited 𝓤 H (tripleOf 𝓤 H (𝓖 .A) see-one.signature (see-one.spec 𝓤 H (𝓖 .A) (𝓜 .mem) (𝓡 .run))) 𝓜 𝓡 code.env see-one-def.name see-one-def.routine code.calls-node-settings·seeing·see-one (see-one-thm.met 𝓤 H 𝓜 𝓖 𝓡)))
+    (cited 𝓤 H (tripleOf 𝓤 H (𝓖 .A) see-one.signature (see-one.spec 𝓤 H (𝓖 .A) (𝓜 .mem) (𝓡 .run))) 𝓜 𝓡 code.env see-one-def.name see-one-def.routine code.calls-settings-seen·seeing·see-one (see-one-thm.met 𝓤 H 𝓜 𝓖 𝓡)))

@@ -2,28 +2,28 @@
 -- Assumes nothing.
 use Rattle.walks.proofs.Walk.{givenOf, tables, tablesOf, tripleOf, entered, cited}
 use Rattle.walks.proofs.Plain.{of}
-use Rattle.walks.proofs.Making.{making-meets}
-use Rattle.walks.proofs.Testing.{making}
+use Rattle.walks_sweeping.proofs.Making.{making-meets}
+use Rattle.walks_sweeping.proofs.Testing.{making}
 use Rattle.channel.specs.Record.{madeOf}
 use Rattle.node_settings.specs.Configuring.{configured}
-use Rattle.node_settings.specs.Seeing.{begun, seen, verdictOf, madeAnswer}
+use Rattle.settings_seen.specs.Seeing.{begun, seen, verdictOf, madeAnswer}
 use Rattle.node_settings.proofs.AgreeLaws.{may-fill, agreed}
 use Rattle.node_settings.proofs.Types.{settings, carried, tested}
-use Rattle.node_settings.proofs.seeing.see_begin as see-begin
-use Rattle.node_settings.proofs.seeing.see_begin.Symbol as see-begin-def
-use Rattle.node_settings.proofs.seeing.see_begin.Met as see-begin-thm
+use Rattle.settings_seen.proofs.seeing.see_begin as see-begin
+use Rattle.settings_seen.proofs.seeing.see_begin.Symbol as see-begin-def
+use Rattle.settings_seen.proofs.seeing.see_begin.Met as see-begin-thm
 use Rattle.node_settings.proofs.see as see
 use Rattle.node_settings.proofs.see.Symbol as see-def
 use Rattle.node_settings.proofs.see.Met as see-thm
-use Rattle.node_settings.proofs.settling.settle as settle
-use Rattle.node_settings.proofs.settling.settle.Symbol as settle-def
-use Rattle.node_settings.proofs.settling.settle.Met as settle-thm
+use Rattle.settings_verdict.proofs.settling.settle as settle
+use Rattle.settings_verdict.proofs.settling.settle.Symbol as settle-def
+use Rattle.settings_verdict.proofs.settling.settle.Met as settle-thm
 use Rattle.node_settings.proofs.fill as fill
 use Rattle.node_settings.proofs.fill.Symbol as fill-def
 use Rattle.node_settings.proofs.fill.Met as fill-thm
-use Rattle.node_settings.proofs.settling.settings_end as settings-end
-use Rattle.node_settings.proofs.settling.settings_end.Symbol as settings-end-def
-use Rattle.node_settings.proofs.settling.settings_end.Met as settings-end-thm
+use Rattle.settings_verdict.proofs.settling.settings_end as settings-end
+use Rattle.settings_verdict.proofs.settling.settings_end.Symbol as settings-end-def
+use Rattle.settings_verdict.proofs.settling.settings_end.Met as settings-end-thm
 use Rattle.node_settings.proofs.settings.Key.{name as #node-settings·settings}
 use Rattle.node_settings.proofs.settings as this
 use Rattle.node_settings.proofs.settings.Statement as stated
@@ -37,8 +37,8 @@ settings-spec 𝓤 H 𝓜 𝓖 𝓡 =
     (making-meets tested settings carried
     (making tested (of settings) (of carried) begun seen verdictOf madeOf madeAnswer configured may-fill agreed)
     see-begin-def.name see-def.name settle-def.name fill-def.name settings-end-def.name 𝓤 H (𝓖 .A) (givenOf 𝓤 H 𝓜 𝓖) (tablesOf 𝓤 H 𝓜 (tables 𝓤 H 𝓜 𝓡 code.env))
-    (cited 𝓤 H (tripleOf 𝓤 H (𝓖 .A) see-begin.signature (see-begin.spec 𝓤 H (𝓖 .A) (𝓜 .mem) (𝓡 .run))) 𝓜 𝓡 code.env see-begin-def.name see-begin-def.routine code.calls-node-settings·seeing·see-begin (see-begin-thm.met 𝓤 H 𝓜 𝓖 𝓡))
+    (cited 𝓤 H (tripleOf 𝓤 H (𝓖 .A) see-begin.signature (see-begin.spec 𝓤 H (𝓖 .A) (𝓜 .mem) (𝓡 .run))) 𝓜 𝓡 code.env see-begin-def.name see-begin-def.routine code.calls-settings-seen·seeing·see-begin (see-begin-thm.met 𝓤 H 𝓜 𝓖 𝓡))
     (cited 𝓤 H (tripleOf 𝓤 H (𝓖 .A) see.signature (see.spec 𝓤 H (𝓖 .A) (𝓜 .mem) (𝓡 .run))) 𝓜 𝓡 code.env see-def.name see-def.routine code.calls-node-settings·see (see-thm.met 𝓤 H 𝓜 𝓖 𝓡))
-    (cited 𝓤 H (tripleOf 𝓤 H (𝓖 .A) settle.signature (settle.spec 𝓤 H (𝓖 .A) (𝓜 .mem) (𝓡 .run))) 𝓜 𝓡 code.env settle-def.name settle-def.routine code.calls-node-settings·settling·settle (settle-thm.met 𝓤 H 𝓜 𝓖 𝓡))
+    (cited 𝓤 H (tripleOf 𝓤 H (𝓖 .A) settle.signature (settle.spec 𝓤 H (𝓖 .A) (𝓜 .mem) (𝓡 .run))) 𝓜 𝓡 code.env settle-def.name settle-def.routine code.calls-settings-verdict·settling·settle (settle-thm.met 𝓤 H 𝓜 𝓖 𝓡))
     (cited 𝓤 H (tripleOf 𝓤 H (𝓖 .A) fill.signature (fill.spec 𝓤 H (𝓖 .A) (𝓜 .mem) (𝓡 .run))) 𝓜 𝓡 code.env fill-def.name fill-def.routine code.calls-node-settings·fill (fill-thm.met 𝓤 H 𝓜 𝓖 𝓡))
-    (cited 𝓤 H (tripleOf 𝓤 H (𝓖 .A) settings-end.signature (settings-end.spec 𝓤 H (𝓖 .A) (𝓜 .mem) (𝓡 .run))) 𝓜 𝓡 code.env settings-end-def.name settings-end-def.routine code.calls-node-settings·settling·settings-end (settings-end-thm.met 𝓤 H 𝓜 𝓖 𝓡)))
+    (cited 𝓤 H (tripleOf 𝓤 H (𝓖 .A) settings-end.signature (settings-end.spec 𝓤 H (𝓖 .A) (𝓜 .mem) (𝓡 .run))) 𝓜 𝓡 code.env settings-end-def.name settings-end-def.routine code.calls-settings-verdict·settling·settings-end (settings-end-thm.met 𝓤 H 𝓜 𝓖 𝓡)))

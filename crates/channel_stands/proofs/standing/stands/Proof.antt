@@ -14,7 +14,7 @@ use Rattle.channel_stands.proofs.standing.stands.Statement.{statement}
 use Rattle.channel_stands.proofs.standing.stands.Tie as tie
 use Rattle.channel_stands.proofs.standing.stands.Reads as reads
 use Rattle.channel_stands.proofs.standing.stands.Lts as lts
-use Rattle.channel.proofs.settings.fits_limits.Reads as fits-limits-reads
+use Rattle.channel_settings.proofs.settings.fits_limits.Reads as fits-limits-reads
 use Rattle.channel_stands.proofs.standing.is_in_flight.Reads as is-in-flight-reads
 use Rattle.channel_stands.proofs.standing.is_in_ring.Reads as is-in-ring-reads
 use Rattle.channel_stands.proofs.standing.is_marked.Reads as is-marked-reads

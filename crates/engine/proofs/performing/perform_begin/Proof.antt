@@ -8,8 +8,8 @@ use Rattle.engine.proofs.performing.perform_begin.Statement.{statement}
 use Rattle.engine.proofs.performing.perform_begin.Tie as tie
 use Rattle.engine.proofs.performing.perform_begin.Reads as reads
 use Rattle.engine.proofs.performing.perform_begin.Lts as lts
-use Rattle.engine.proofs.performing.look_in.Reads as look-in-reads
-use Rattle.table.proofs.surveying.begin.Reads as begin-reads
+use Rattle.engine_look.proofs.looking.look_in.Reads as look-in-reads
+use Rattle.table_survey.proofs.surveying.begin.Reads as begin-reads
 
 look-in-requires : tie.Need-look-in-requires
 look-in-requires c κs = search needs

@@ -2,10 +2,11 @@
 -- Assumes nothing.
 use mathlib.Core.Path.{_≡_, refl, sym, ap, ap₂, _∙_}
 use lib.ListN.{length}
-use Rattle.steps.specs.Handing.{nextFor}
+use Rattle.steps_handing.specs.Handing.{nextFor}
 use Rattle.steps_arriving.specs.Arriving.{arrivalFor}
 use Rattle.engine.specs.Performing.{requestFor, performFor}
-use Rattle.engine.proofs.PerformLaws.{looks-arrival, looks-next, performs-arrival, performs-next, performs-request, likewise}
+use Rattle.engine_look.proofs.LookLaws.{looks-arrival, looks-next}
+use Rattle.engine.proofs.PerformLaws.{performs-arrival, performs-next, performs-request, likewise}
 use borrow.Author.Needs.{needs}
 use Rattle.engine.proofs.performing.perform_step.Statement.{statement}
 use Rattle.engine.proofs.performing.perform_step.Tie as tie
@@ -13,7 +14,7 @@ use Rattle.engine.proofs.performing.perform_step.Reads as reads
 use Rattle.engine.proofs.performing.perform_step.Lts as lts
 use Rattle.engine.proofs.performing.request_step.Reads as request-step-reads
 use Rattle.steps_arriving.proofs.arriving.arrive_step.Reads as arrive-step-reads
-use Rattle.steps.proofs.handing.next_step.Reads as next-step-reads
+use Rattle.steps_handing.proofs.handing.next_step.Reads as next-step-reads
 
 arrive-step-requires : tie.Need-arrive-step-requires
 arrive-step-requires c κs = let a = c .before .before .before .before .before .before .before .before .before .args in (c .before .before .before .before .before .before .before .before .before .pre .0, c .before .before .before .before .before .before .before .before .before .pre .1 ∙ looks-arrival (a .n) (a .body .now) (length (a .out .now)) (c .before .before .before .if1 .taken))

@@ -11,14 +11,16 @@ use Rattle.channel.proofs.StandingLaws.{ringed}
 use Rattle.table.specs.Serving.{alone}
 use Rattle.table.specs.Surveying.{stepping}
 use Rattle.steps.specs.Requests.{openedBy, closedBy, transferFor, takeFor, reclaimFor}
-use Rattle.engine.specs.Performing.{unitStart, requestFor}
-use Rattle.engine.proofs.PerformLaws.{does-open, does-close, does-take, does-reclaim, does-transfer, likewise, by-value, with-buffer, start-in}
+use Rattle.engine_look.specs.Looking.{unitStart}
+use Rattle.engine.specs.Performing.{requestFor}
+use Rattle.engine.proofs.PerformLaws.{does-open, does-close, does-take, does-reclaim, does-transfer, likewise, by-value, with-buffer}
+use Rattle.engine_look.proofs.LookLaws.{start-in}
 use borrow.Author.Needs.{needs}
 use Rattle.engine.proofs.performing.request_step.Statement.{statement}
 use Rattle.engine.proofs.performing.request_step.Tie as tie
 use Rattle.engine.proofs.performing.request_step.Reads as reads
 use Rattle.engine.proofs.performing.request_step.Lts as lts
-use Rattle.engine.proofs.performing.unit_start.Reads as unit-start-reads
+use Rattle.engine_look.proofs.looking.unit_start.Reads as unit-start-reads
 use Rattle.steps.proofs.requests.close_step.Reads as close-step-reads
 use Rattle.steps.proofs.requests.open_step.Reads as open-step-reads
 use Rattle.steps.proofs.requests.reclaim_step.Reads as reclaim-step-reads

@@ -8,8 +8,8 @@ use Rattle.node.proofs.arrivals.arrival_begin.Statement.{statement}
 use Rattle.node.proofs.arrivals.arrival_begin.Tie as tie
 use Rattle.node.proofs.arrivals.arrival_begin.Reads as reads
 use Rattle.node.proofs.arrivals.arrival_begin.Lts as lts
-use Rattle.steps_arriving.proofs.arriving.look_of.Reads as look-of-reads
-use Rattle.table.proofs.surveying.begin.Reads as begin-reads
+use Rattle.arriving_look.proofs.finding.look_of.Reads as look-of-reads
+use Rattle.table_survey.proofs.surveying.begin.Reads as begin-reads
 
 look-of-requires : tie.Need-look-of-requires
 look-of-requires c κs = search needs

@@ -2,8 +2,8 @@
 -- Assumes nothing.
 use Rattle.walks.proofs.Walk.{refl, true, false, _≡_, givenOf, tables, tablesOf, tripleOf, entered, cited, w64}
 use Rattle.walks.proofs.Plain.{of, uint}
-use Rattle.walks.proofs.Order.{order-meets}
-use Rattle.walks.proofs.Serving.{ordering-by}
+use Rattle.walks_reading.proofs.Order.{order-meets}
+use Rattle.walks_serving.proofs.Serving.{ordering-by}
 use Rattle.channel.specs.Asked.{Ringed}
 use Rattle.channel.proofs.StandingLaws.{ringed}
 use Rattle.table.specs.declared.looking.Look.the-variants.{Index}
@@ -11,16 +11,16 @@ use Rattle.table.specs.Surveying.{begun, surveyed, decided}
 use Rattle.table.proofs.ServeLaws.{may-serve, agreed-order}
 use Rattle.steps.specs.Requests.{closedBy}
 use Rattle.node.specs.Calls.{closed as wanted}
-use Rattle.node.proofs.Types.{served, carried}
-use Rattle.node.proofs.surveying.request_begin as request-begin
-use Rattle.node.proofs.surveying.request_begin.Symbol as request-begin-def
-use Rattle.node.proofs.surveying.request_begin.Met as request-begin-thm
-use Rattle.node.proofs.surveying.survey as survey
-use Rattle.node.proofs.surveying.survey.Symbol as survey-def
-use Rattle.node.proofs.surveying.survey.Met as survey-thm
-use Rattle.table.proofs.deciding.decide as decide
-use Rattle.table.proofs.deciding.decide.Symbol as decide-def
-use Rattle.table.proofs.deciding.decide.Met as decide-thm
+use Rattle.node_survey.proofs.Types.{served, carried}
+use Rattle.node_survey.proofs.surveying.request_begin as request-begin
+use Rattle.node_survey.proofs.surveying.request_begin.Symbol as request-begin-def
+use Rattle.node_survey.proofs.surveying.request_begin.Met as request-begin-thm
+use Rattle.node_survey.proofs.surveying.survey as survey
+use Rattle.node_survey.proofs.surveying.survey.Symbol as survey-def
+use Rattle.node_survey.proofs.surveying.survey.Met as survey-thm
+use Rattle.table_decision.proofs.deciding.decide as decide
+use Rattle.table_decision.proofs.deciding.decide.Symbol as decide-def
+use Rattle.table_decision.proofs.deciding.decide.Met as decide-thm
 use Rattle.steps.proofs.requests.close_step as close-step
 use Rattle.steps.proofs.requests.close_step.Symbol as close-step-def
 use Rattle.steps.proofs.requests.close_step.Met as close-step-thm
@@ -37,7 +37,7 @@ close-spec 𝓤 H 𝓜 𝓖 𝓡 =
     (order-meets served (uint w64) carried
     (ordering-by served (of (uint w64)) (of carried) surveyed decided (λ i. begun (Index i)) true (λ c d i. Ringed (c .limits) (c .window)) (λ ys m l i h. ringed _ _ (may-serve (Index i) ys m l h .standing)) (λ c d i. closedBy c) wanted (λ ys m l i. agreed-order (Index i) ys m l closedBy))
     request-begin-def.name survey-def.name decide-def.name close-step-def.name 𝓤 H (𝓖 .A) (givenOf 𝓤 H 𝓜 𝓖) (tablesOf 𝓤 H 𝓜 (tables 𝓤 H 𝓜 𝓡 code.env))
-    (cited 𝓤 H (tripleOf 𝓤 H (𝓖 .A) request-begin.signature (request-begin.spec 𝓤 H (𝓖 .A) (𝓜 .mem) (𝓡 .run))) 𝓜 𝓡 code.env request-begin-def.name request-begin-def.routine code.calls-node·surveying·request-begin (request-begin-thm.met 𝓤 H 𝓜 𝓖 𝓡))
-    (cited 𝓤 H (tripleOf 𝓤 H (𝓖 .A) survey.signature (survey.spec 𝓤 H (𝓖 .A) (𝓜 .mem) (𝓡 .run))) 𝓜 𝓡 code.env survey-def.name survey-def.routine code.calls-node·surveying·survey (survey-thm.met 𝓤 H 𝓜 𝓖 𝓡))
-    (cited 𝓤 H (tripleOf 𝓤 H (𝓖 .A) decide.signature (decide.spec 𝓤 H (𝓖 .A) (𝓜 .mem) (𝓡 .run))) 𝓜 𝓡 code.env decide-def.name decide-def.routine code.calls-table·deciding·decide (decide-thm.met 𝓤 H 𝓜 𝓖 𝓡))
+    (cited 𝓤 H (tripleOf 𝓤 H (𝓖 .A) request-begin.signature (request-begin.spec 𝓤 H (𝓖 .A) (𝓜 .mem) (𝓡 .run))) 𝓜 𝓡 code.env request-begin-def.name request-begin-def.routine code.calls-node-survey·surveying·request-begin (request-begin-thm.met 𝓤 H 𝓜 𝓖 𝓡))
+    (cited 𝓤 H (tripleOf 𝓤 H (𝓖 .A) survey.signature (survey.spec 𝓤 H (𝓖 .A) (𝓜 .mem) (𝓡 .run))) 𝓜 𝓡 code.env survey-def.name survey-def.routine code.calls-node-survey·surveying·survey (survey-thm.met 𝓤 H 𝓜 𝓖 𝓡))
+    (cited 𝓤 H (tripleOf 𝓤 H (𝓖 .A) decide.signature (decide.spec 𝓤 H (𝓖 .A) (𝓜 .mem) (𝓡 .run))) 𝓜 𝓡 code.env decide-def.name decide-def.routine code.calls-table-decision·deciding·decide (decide-thm.met 𝓤 H 𝓜 𝓖 𝓡))
     (cited 𝓤 H (tripleOf 𝓤 H (𝓖 .A) close-step.signature (close-step.spec 𝓤 H (𝓖 .A) (𝓜 .mem) (𝓡 .run))) 𝓜 𝓡 code.env close-step-def.name close-step-def.routine code.calls-steps·requests·close-step (close-step-thm.met 𝓤 H 𝓜 𝓖 𝓡)))

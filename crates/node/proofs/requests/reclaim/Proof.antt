@@ -2,23 +2,23 @@
 -- Assumes nothing.
 use Rattle.walks.proofs.Walk.{refl, true, false, _≡_, givenOf, tables, tablesOf, tripleOf, entered, cited, w64}
 use Rattle.walks.proofs.Plain.{of, uint}
-use Rattle.walks.proofs.Reading.{reading-meets}
-use Rattle.walks.proofs.Serving.{reading}
+use Rattle.walks_reading.proofs.Reading.{reading-meets}
+use Rattle.walks_serving.proofs.Serving.{reading}
 use Rattle.table.specs.declared.looking.Look.the-variants.{Index}
 use Rattle.table.specs.Surveying.{begun, surveyed, decided, stepping, Served}
 use Rattle.table.proofs.ServeLaws.{may-serve, agreed}
 use Rattle.steps.specs.Requests.{reclaimFor}
 use Rattle.table.specs.Serving.{serveOne}
-use Rattle.node.proofs.Types.{served, carried}
+use Rattle.node_survey.proofs.Types.{served, carried}
 use Rattle.node.proofs.requests.unit_begin as unit-begin
 use Rattle.node.proofs.requests.unit_begin.Symbol as unit-begin-def
 use Rattle.node.proofs.requests.unit_begin.Met as unit-begin-thm
-use Rattle.node.proofs.surveying.survey as survey
-use Rattle.node.proofs.surveying.survey.Symbol as survey-def
-use Rattle.node.proofs.surveying.survey.Met as survey-thm
-use Rattle.table.proofs.deciding.decide as decide
-use Rattle.table.proofs.deciding.decide.Symbol as decide-def
-use Rattle.table.proofs.deciding.decide.Met as decide-thm
+use Rattle.node_survey.proofs.surveying.survey as survey
+use Rattle.node_survey.proofs.surveying.survey.Symbol as survey-def
+use Rattle.node_survey.proofs.surveying.survey.Met as survey-thm
+use Rattle.table_decision.proofs.deciding.decide as decide
+use Rattle.table_decision.proofs.deciding.decide.Symbol as decide-def
+use Rattle.table_decision.proofs.deciding.decide.Met as decide-thm
 use Rattle.steps.proofs.requests.reclaim_step as reclaim-step
 use Rattle.steps.proofs.requests.reclaim_step.Symbol as reclaim-step-def
 use Rattle.steps.proofs.requests.reclaim_step.Met as reclaim-step-thm
@@ -36,6 +36,6 @@ reclaim-spec 𝓤 H 𝓜 𝓖 𝓡 =
     (reading served (of (uint w64)) (of carried) surveyed decided (λ i x k. begun (Index i)) true (λ c d i m l x o. Served c d m l) (λ ys m l i x o h. may-serve (Index i) ys m l h) (λ c d i m l x o. stepping reclaimFor c d m l o) (λ ys m l i x o. serveOne (Index i) reclaimFor ys m l o) (λ ys m l i x o. agreed (Index i) ys m l reclaimFor o))
     unit-begin-def.name survey-def.name decide-def.name reclaim-step-def.name 𝓤 H (𝓖 .A) (givenOf 𝓤 H 𝓜 𝓖) (tablesOf 𝓤 H 𝓜 (tables 𝓤 H 𝓜 𝓡 code.env))
     (cited 𝓤 H (tripleOf 𝓤 H (𝓖 .A) unit-begin.signature (unit-begin.spec 𝓤 H (𝓖 .A) (𝓜 .mem) (𝓡 .run))) 𝓜 𝓡 code.env unit-begin-def.name unit-begin-def.routine code.calls-node·requests·unit-begin (unit-begin-thm.met 𝓤 H 𝓜 𝓖 𝓡))
-    (cited 𝓤 H (tripleOf 𝓤 H (𝓖 .A) survey.signature (survey.spec 𝓤 H (𝓖 .A) (𝓜 .mem) (𝓡 .run))) 𝓜 𝓡 code.env survey-def.name survey-def.routine code.calls-node·surveying·survey (survey-thm.met 𝓤 H 𝓜 𝓖 𝓡))
-    (cited 𝓤 H (tripleOf 𝓤 H (𝓖 .A) decide.signature (decide.spec 𝓤 H (𝓖 .A) (𝓜 .mem) (𝓡 .run))) 𝓜 𝓡 code.env decide-def.name decide-def.routine code.calls-table·deciding·decide (decide-thm.met 𝓤 H 𝓜 𝓖 𝓡))
+    (cited 𝓤 H (tripleOf 𝓤 H (𝓖 .A) survey.signature (survey.spec 𝓤 H (𝓖 .A) (𝓜 .mem) (𝓡 .run))) 𝓜 𝓡 code.env survey-def.name survey-def.routine code.calls-node-survey·surveying·survey (survey-thm.met 𝓤 H 𝓜 𝓖 𝓡))
+    (cited 𝓤 H (tripleOf 𝓤 H (𝓖 .A) decide.signature (decide.spec 𝓤 H (𝓖 .A) (𝓜 .mem) (𝓡 .run))) 𝓜 𝓡 code.env decide-def.name decide-def.routine code.calls-table-decision·deciding·decide (decide-thm.met 𝓤 H 𝓜 𝓖 𝓡))
     (cited 𝓤 H (tripleOf 𝓤 H (𝓖 .A) reclaim-step.signature (reclaim-step.spec 𝓤 H (𝓖 .A) (𝓜 .mem) (𝓡 .run))) 𝓜 𝓡 code.env reclaim-step-def.name reclaim-step-def.routine code.calls-steps·requests·reclaim-step (reclaim-step-thm.met 𝓤 H 𝓜 𝓖 𝓡)))

@@ -7,7 +7,7 @@ use Rattle.steps.proofs.requests.close_step.Statement.{statement}
 use Rattle.steps.proofs.requests.close_step.Tie as tie
 use Rattle.steps.proofs.requests.close_step.Reads as reads
 use Rattle.steps.proofs.requests.close_step.Lts as lts
-use Rattle.receiver.proofs.close_step.Reads as control-close-step-reads
+use Rattle.receiver_control.proofs.close_step.Reads as control-close-step-reads
 use Rattle.sender.proofs.close_step.Reads as directives-close-step-reads
 
 close-step-requires : tie.Need-close-step-requires

@@ -7,7 +7,7 @@ use Rattle.steps.proofs.requests.open_step.Statement.{statement}
 use Rattle.steps.proofs.requests.open_step.Tie as tie
 use Rattle.steps.proofs.requests.open_step.Reads as reads
 use Rattle.steps.proofs.requests.open_step.Lts as lts
-use Rattle.receiver.proofs.open_step.Reads as control-open-step-reads
+use Rattle.receiver_control.proofs.open_step.Reads as control-open-step-reads
 use Rattle.sender.proofs.open_step.Reads as directives-open-step-reads
 
 open-step-requires : tie.Need-open-step-requires

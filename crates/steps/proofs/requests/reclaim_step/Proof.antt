@@ -15,7 +15,7 @@ use Rattle.steps.proofs.requests.reclaim_step.Tie as tie
 use Rattle.steps.proofs.requests.reclaim_step.Reads as reads
 use Rattle.steps.proofs.requests.reclaim_step.Lts as lts
 use Rattle.channel.proofs.step.refused.Reads as refused-reads
-use Rattle.sender_units.proofs.reclaim_step.Reads as reclaim-step-reads
+use Rattle.sender_reclaiming.proofs.reclaim_step.Reads as reclaim-step-reads
 use Rattle.table.proofs.surveying.area.Reads as area-reads
 
 refused-requires : tie.Need-refused-requires

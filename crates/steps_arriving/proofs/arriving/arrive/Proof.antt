@@ -17,9 +17,12 @@ use Rattle.packet.specs.Layout.{lengthAt}
 use Rattle.sender_acks.specs.Acks.{dataAckStep, controlAckStep}
 use Rattle.receiver.specs.Receiving.{controlStep}
 use Rattle.table.specs.Surveying.{mine, mineLens, wholly, stepping}
-use Rattle.steps_arriving.specs.Arriving.{unfit, repliedBy, dataFor, arriveBy, payloadIn}
+use Rattle.arriving_reply.specs.Replying.{repliedBy}
+use Rattle.arriving_data.specs.Data.{unfit, dataFor}
+use Rattle.steps_arriving.specs.Arriving.{arriveBy, payloadIn}
 use Rattle.table.proofs.Parts.{quiet}
-use Rattle.steps_arriving.proofs.ArriveLaws.{by-unfit, by-data, by-data-ack, by-control-ack, by-control, fit-payload, data-receives, arrival-by}
+use Rattle.steps_arriving.proofs.ArriveLaws.{by-unfit, by-data, by-data-ack, by-control-ack, by-control, data-receives, arrival-by}
+use Rattle.arriving_data.proofs.DataLaws.{fit-payload}
 use borrow.Author.Needs.{needs}
 use Rattle.steps_arriving.proofs.arriving.arrive.Statement.{statement}
 use Rattle.steps_arriving.proofs.arriving.arrive.Tie as tie
@@ -27,10 +30,10 @@ use Rattle.steps_arriving.proofs.arriving.arrive.Reads as reads
 use Rattle.steps_arriving.proofs.arriving.arrive.Lts as lts
 use Rattle.channel.proofs.step.refused.Reads as refused-reads
 use Rattle.sender_acks.proofs.control_ack_step.Reads as control-ack-step-reads
-use Rattle.sender_acks.proofs.data_ack_step.Reads as data-ack-step-reads
+use Rattle.sender_data_acks.proofs.data_ack_step.Reads as data-ack-step-reads
 use Rattle.steps_arriving.proofs.arriving.arrive_control.Reads as arrive-control-reads
-use Rattle.steps_arriving.proofs.arriving.arrive_data.Reads as arrive-data-reads
-use Rattle.steps_arriving.proofs.arriving.is_unfit.Reads as is-unfit-reads
+use Rattle.arriving_data.proofs.data.arrive_data.Reads as arrive-data-reads
+use Rattle.arriving_data.proofs.data.is_unfit.Reads as is-unfit-reads
 
 is-unfit-requires : tie.Need-is-unfit-requires
 is-unfit-requires c κs = search needs

@@ -3,14 +3,14 @@
 use mathlib.Core.Path.{_≡_, refl, sym, ap, ap₂, _∙_}
 use Rattle.channel.specs.declared.step.Stepped.{Stepped}
 use mathlib.Core.Bool.{false}
-use Rattle.steps_arriving.specs.Arriving.{repliedBy}
+use Rattle.arriving_reply.specs.Replying.{repliedBy}
 use borrow.Author.Needs.{needs}
 use Rattle.steps_arriving.proofs.arriving.arrive_control.Statement.{statement}
 use Rattle.steps_arriving.proofs.arriving.arrive_control.Tie as tie
 use Rattle.steps_arriving.proofs.arriving.arrive_control.Reads as reads
 use Rattle.steps_arriving.proofs.arriving.arrive_control.Lts as lts
-use Rattle.receiver.proofs.control_step.Reads as control-step-reads
-use Rattle.steps_arriving.proofs.arriving.reply.Reads as reply-reads
+use Rattle.receiver_control.proofs.control_step.Reads as control-step-reads
+use Rattle.arriving_reply.proofs.replying.reply.Reads as reply-reads
 
 control-step-requires : tie.Need-control-step-requires
 control-step-requires c κs = c .before .before .pre .0

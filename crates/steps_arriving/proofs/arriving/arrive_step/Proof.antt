@@ -7,7 +7,8 @@ use lib.ListN.{length}
 use Rattle.channel.specs.declared.answer.Refusal.{Refusal}
 use Rattle.table.specs.declared.looking.Look.{Look}
 use Rattle.table.specs.Looking.{graded}
-use Rattle.steps_arriving.proofs.ArriveLaws.{framed, not-index, not-ready, no-one}
+use Rattle.arriving_look.proofs.FindLaws.{no-one}
+use Rattle.steps_arriving.proofs.ArriveLaws.{framed, not-index, not-ready}
 use borrow.Author.Needs.{needs}
 use Rattle.steps_arriving.proofs.arriving.arrive_step.Statement.{statement}
 use Rattle.steps_arriving.proofs.arriving.arrive_step.Tie as tie

@@ -1,0 +1,53 @@
+-- Laws of an arrival of Data: what a payload within P has shown, and its step over the whole of what is lent.
+-- Assumes nothing.
+use mathlib.Core.Path.{_≡_, sym, ap, ap₂, _∙_}
+use mathlib.Core.Bool.{Bool, true, false, _&&_}
+use mathlib.Core.List.{List}
+use Prim.Native.Nat.{ℕ, _≤_}
+use borrow.Author.Tests.{eq-eqb, ltb-false}
+use borrow.Rule.Slice.PartMut.{putMid}
+use lib.Dec.{ltb}
+use lib.ListN.{length, take, drop}
+use Rattle.packet.specs.declared.fields.Fields.{Fields}
+use Rattle.walks.specs.Serving.{works}
+use Rattle.channel.specs.declared.record.Node.{Node}
+use Rattle.channel.specs.declared.record.Channel.{Channel}
+use Rattle.channel.specs.declared.step.Stepped.{Stepped}
+use Rattle.channel.specs.Record.{receives}
+use Rattle.receiver_data.specs.Data.{dataStep, dataMem, dataLens}
+use Rattle.receiver_keeps.proofs.Keeps.{data-sized}
+use Rattle.table.specs.declared.deciding.Decision.{Decision}
+use Rattle.table.specs.Lent.{areaOf}
+use Rattle.table.specs.Surveying.{mine, mineLens, stepping, Served}
+use Rattle.table.proofs.Parts.{own-mem, own-lens, filed}
+use Rattle.arriving_reply.specs.Replying.{repliedBy}
+use Rattle.arriving_data.specs.Data.{unfit, dataFor}
+
+-- Data that is fit has at most P octets
+pub fit-payload : (c : Channel) (f : Fields) (x : ℕ) → unfit c f x ≡ false → f .kind ≡ 0 → x ≤ c .limits .payload
+unfolding unfit
+fit-payload c f x e k =
+    ltb-false (c .limits .payload) x (sym (ap (λ (b : Bool). b && ltb (c .limits .payload) x) (eq-eqb (f .kind) 0 k)) ∙ e)
+
+-- ---- Data, over the whole of what is lent
+
+pub data-files : (node : Node) (f : Fields) (p : List ℕ) (c : Channel) (d : Decision) (mem lens out : List ℕ)
+    → c .addresses .direction ≡ receives
+    → Served c d mem lens
+    → length p ≤ c .limits .payload
+    → (r : Stepped) (m l o : List ℕ) (j k : ℕ)
+    → j ≡ areaOf (c .limits)
+    → k ≡ c .limits .slots
+    → r ≡ dataStep c (f .number) (f .flags)
+    → m ≡ dataMem c (f .number) p (take j (drop (d .spot .octet) mem))
+    → l ≡ dataLens c (f .number) p (take k (drop (d .spot .slot) lens))
+    → o ≡ repliedBy (r .answer) node (c .addresses) true (f .number) out
+    → works r (putMid (d .spot .octet) j mem m) (putMid (d .spot .slot) k lens l) o ≡ stepping (dataFor node f p) c d mem lens out
+data-files node f p c d mem lens out dir s few r m l o j k ej ek er em el eo =
+    let zm : m ≡ dataMem c (f .number) p (mine c d mem) = em ∙ ap (λ (x : List ℕ). dataMem c (f .number) p x) (own-mem c d mem lens j ej) in
+    let zl : l ≡ dataLens c (f .number) p (mineLens c d lens) = el ∙ ap (λ (x : List ℕ). dataLens c (f .number) p x) (own-lens c d mem lens k ek) in
+    let zo : o ≡ repliedBy (dataStep c (f .number) (f .flags) .answer) node (c .addresses) true (f .number) out =
+    eo ∙ ap (λ (x : Stepped). repliedBy (x .answer) node (c .addresses) true (f .number) out) er in
+    let sized = data-sized c (mineLens c d lens) dir (s .standing) (f .number) p (mine c d mem) few (s .sized) in
+    filed (dataFor node f p) c d mem lens out r m l o j k ej ek (ap length zm ∙ sized .exact) (ap length zl ∙ sized .each)
+    (sym (ap₂ (λ (x : Stepped) (y : List ℕ). works x m l y) er zo ∙ ap₂ (λ (x y : List ℕ). works (dataStep c (f .number) (f .flags)) x y (repliedBy (dataStep c (f .number) (f .flags) .answer) node (c .addresses) true (f .number) out)) zm zl))

@@ -1,0 +1,40 @@
+-- `host_answers::calls::said_of` meets its contract: each number is what its function promises.
+-- Assumes nothing.
+use mathlib.Core.Path.{_≡_, ap₂, _∙_}
+use Prim.Native.Nat.{ℕ}
+use borrow.Author.Needs.{needs}
+use Rattle.host_answers.specs.declared.calls.Said.{Said}
+use Rattle.host_answers.proofs.calls.said_of.Statement.{statement}
+use Rattle.host_answers.proofs.calls.said_of.Tie as tie
+use Rattle.host_answers.proofs.calls.said_of.Reads as reads
+use Rattle.host_answers.proofs.calls.said_of.Lts as lts
+use Rattle.channel.proofs.answer.confirmed.Reads as confirmed-reads
+use Rattle.channel.proofs.answer.length.Reads as length-reads
+use Rattle.channel.proofs.answer.number.Reads as number-reads
+use Rattle.host_answers.proofs.calls.reason.Reads as reason-reads
+
+-- of its four numbers
+abbrev said : ℕ → ℕ → ℕ → ℕ → Said
+said n y l u = record { number = n; reason = y; length = l; confirmed = u }
+
+alike : {n n′ y y′ l l′ u u′ : ℕ} → n ≡ n′ → y ≡ y′ → l ≡ l′ → u ≡ u′ → said n y l u ≡ said n′ y′ l′ u′
+alike {n} {n′} {y} {y′} {l} {l′} {u} {u′} en ey el eu = ap₂ (λ (a b : ℕ). said a b l u) en ey ∙ ap₂ (λ (a b : ℕ). said n′ y′ a b) el eu
+
+number-requires : tie.Need-number-requires
+number-requires c κs = search needs
+
+reason-requires : tie.Need-reason-requires
+reason-requires c κs = search needs
+
+length-requires : tie.Need-length-requires
+length-requires c κs = search needs
+
+confirmed-requires : tie.Need-confirmed-requires
+confirmed-requires c κs = search needs
+
+returns : tie.Need-returns
+returns c = alike (c .before .before .before .number .ensures) (c .before .before .reason .ensures) (c .before .length .ensures) (c .confirmed .ensures)
+
+pub said-of-spec : {M : Type 1} → statement M
+said-of-spec =
+    tie.close (tie.spec number-requires reason-requires length-requires confirmed-requires returns)

@@ -1,0 +1,24 @@
+-- `node_survey::surveying::survey` meets its contract: an instance of the walk of `Fold.antt`.
+-- Assumes nothing.
+use Rattle.walks.proofs.Walk.{refl, true, false, _≡_, givenOf, tables, tablesOf, tripleOf, entered, cited, w64}
+use Rattle.walks_sweeping.proofs.Fold.{fold-meets}
+use Rattle.walks.proofs.Walk.{u16}
+use Rattle.table.specs.Serving.{blank}
+use Rattle.table.specs.Surveying.{surveyOne}
+use Rattle.node_survey.proofs.Types.{channel, carried}
+use Rattle.table_survey.proofs.surveying.survey_one as survey-one
+use Rattle.table_survey.proofs.surveying.survey_one.Symbol as survey-one-def
+use Rattle.table_survey.proofs.surveying.survey_one.Met as survey-one-thm
+use Rattle.node_survey.proofs.surveying.survey.Key.{name as #node-survey·surveying·survey}
+use Rattle.node_survey.proofs.surveying.survey as this
+use Rattle.node_survey.proofs.surveying.survey.Statement as stated
+use Rattle.node_survey.proofs.surveying.survey.Code as code
+
+pub survey-spec : {M : Type 1} → stated.statement M
+unfolding code.routine tablesOf
+survey-spec 𝓤 H 𝓜 𝓖 𝓡 =
+    entered 𝓤 H (tripleOf 𝓤 H (𝓖 .A) this.signature (this.spec 𝓤 H (𝓖 .A) (𝓜 .mem) (𝓡 .run)))
+    (tables 𝓤 H 𝓜 𝓡 code.env .C) (tables 𝓤 H 𝓜 𝓡 code.env .Λ) #node-survey·surveying·survey code.function (code.unfolded 𝓤 H 𝓜 𝓡)
+    (fold-meets channel blank tt u16 carried surveyOne
+    survey-one-def.name 𝓤 H (𝓖 .A) (givenOf 𝓤 H 𝓜 𝓖) (tablesOf 𝓤 H 𝓜 (tables 𝓤 H 𝓜 𝓡 code.env))
+    (cited 𝓤 H (tripleOf 𝓤 H (𝓖 .A) survey-one.signature (survey-one.spec 𝓤 H (𝓖 .A) (𝓜 .mem) (𝓡 .run))) 𝓜 𝓡 code.env survey-one-def.name survey-one-def.routine code.calls-table-survey·surveying·survey-one (survey-one-thm.met 𝓤 H 𝓜 𝓖 𝓡)))

@@ -1,0 +1,30 @@
+// The survey that every call begins with.
+use channel::Channel;
+use table::Look;
+use table::Survey;
+use table_survey::surveying::begin;
+use table_survey::surveying::survey_one;
+ghost use mathlib.Core.Path.{_≡_};
+ghost use Rattle.table.specs.declared.looking.Look.the-variants as look;
+ghost use Rattle.table.specs.Surveying.{begun, surveyed};
+
+// Every record in turn.
+pub fn survey(t: &[Channel], lens: &[u16], start: Survey) -> Survey
+    ensures { λ r. ⌜ r ≡ surveyed (now (t .entry)) (now (lens .entry)) start ⌝ }
+{
+    let mut a = start;
+    let mut j = 0;
+    while j < t.len() {
+        let b = survey_one(a, t[j], lens, j);
+        a = b;
+        j = j + 1;
+    }
+    a
+}
+
+// A request that names its channel by index.
+pub fn request_begin(index: usize) -> Survey
+    ensures { λ r. ⌜ r ≡ begun (look.Index index) ⌝ }
+{
+    begin(Look::Index(index))
+}

@@ -1,0 +1,92 @@
+// What a survey decides: the record that is served, or the refusal.
+use channel::Answer;
+use channel::Refusal;
+use table::Decision;
+use table::Look;
+use table::Survey;
+use table::Verdict;
+use table::looking::UNFIT;
+ghost use mathlib.Core.Path.{_≡_};
+ghost use Rattle.table.specs.Looking.{missing};
+ghost use Rattle.table.specs.Surveying.{isSound, refusedBy, servedBy, decided, judged};
+
+// The table has 1 record at least, all stand, and the lent lengths and memory are theirs to the last.
+fn is_sound(v: Survey, n: usize, m: usize, l: usize) -> bool
+    ensures { λ r. ⌜ r ≡ isSound v n m l ⌝ }
+{
+    if n < 1 {
+        return false;
+    }
+    if !v.sound {
+        return false;
+    }
+    if v.slots != l {
+        return false;
+    }
+    v.octets == m
+}
+
+// The refusal where no record suits.
+fn refusal(look: Look) -> Refusal
+    ensures { λ r. ⌜ r ≡ missing look ⌝ }
+{
+    match look {
+        Look::Index(_) => Refusal::NoChannel,
+        Look::Packet {
+            fields: _,
+            length: _,
+        } => Refusal::NoChannel,
+        Look::Ready => Refusal::Nothing,
+        Look::Nobody(why) => why,
+    }
+}
+
+fn refuse(v: Survey, n: usize, why: Refusal) -> Decision
+    ensures { λ r. ⌜ r ≡ refusedBy v n why ⌝ }
+{
+    let look = v.look;
+    let spot = v.spot;
+    Decision {
+        at: n,
+        answer: Answer::Refused(why),
+        look,
+        spot,
+    }
+}
+
+fn serve(v: Survey) -> Decision
+    ensures { λ r. ⌜ r ≡ servedBy v ⌝ }
+{
+    let look = v.look;
+    let spot = v.spot;
+    Decision {
+        at: v.spot.at,
+        answer: Answer::Refused(Refusal::NoChannel),
+        look,
+        spot,
+    }
+}
+
+// Of a table of n records with m octets and l lengths: 13 before anything else.
+pub fn decide(v: Survey, n: usize, m: usize, l: usize) -> Decision
+    ensures { λ r. ⌜ r ≡ decided v n m l ⌝ }
+{
+    if !is_sound(v, n, m, l) {
+        return refuse(v, n, Refusal::Settings);
+    }
+    if v.spot.rank < UNFIT {
+        return serve(v);
+    }
+    let look = v.look;
+    let why = refusal(look);
+    refuse(v, n, why)
+}
+
+pub fn judge(v: Survey, n: usize, m: usize, l: usize) -> Verdict
+    ensures { λ r. ⌜ r ≡ judged v n m l ⌝ }
+{
+    Verdict {
+        ok: is_sound(v, n, m, l),
+        answer: Answer::Refused(Refusal::Settings),
+    }
+}

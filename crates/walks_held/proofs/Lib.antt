@@ -1,0 +1,4 @@
+pub mod Local
+pub mod Held
+pub mod HeldCall
+pub mod HeldSweeping
