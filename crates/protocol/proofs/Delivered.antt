@@ -7,16 +7,16 @@ use native.Mathlib.Omega.{arith}
 use lib.Dec.{ltb}
 use lib.ListN.{length, take, drop, take-append-drop}
 use lib.Seq.{take-length}
-use Rattle.protocol.specs.Units.{DataUnit, cuts, units, endings, wholeTo}
+use Rattle.protocol.specs.Units.{DataUnit, Segment, cuts, units, endings, wholeTo}
 use Rattle.protocol.specs.Ends.{Limits, rank, isOpen}
-use Rattle.protocol.specs.Sending.{SenderCall, mayHandOut, held}
-use Rattle.protocol.specs.Receiving.{ReceiverCall, waiting}
-use Rattle.protocol.specs.History.{Call, atSender, atReceiver, accepted, confirmed, reclaimed}
+use Rattle.protocol.specs.Sending.{Sender, SenderCall, mayHandOut, held}
+use Rattle.protocol.specs.Receiving.{Receiver, ReceiverCall, waiting}
+use Rattle.protocol.specs.History.{Call, atSender, atReceiver}
 use Rattle.protocol.specs.Delivery.{Run, begin, step, run, Fair, AllFair, Delivered, Demand3}
 use Rattle.protocol.specs.Windows.{WindowsNear}
 use Rattle.protocol.proofs.Cutting.{units-cuts, length-units, units-take, endings-mono, split-units}
 use Rattle.protocol.proofs.Small.{none-some, yes-no}
-use Rattle.protocol.proofs.Invariant.{Holds}
+use Rattle.protocol.proofs.Invariant.{Inv, Holds}
 use Rattle.protocol.proofs.SenderSteps as S
 use Rattle.protocol.proofs.ReceiverSteps as R
 
@@ -48,14 +48,20 @@ module _ (c : Limits) where
         took = record { upto = omega arith; whole = λ r. refl };
       }
 
-  -- What it says of deliveries.
-  pub says : 1 ≤ c .payload → (w : Run) → Holds c w → Delivered w
-  says some w v =
-      let x = w .sender in
-      let y = w .receiver in
-      let all : units [] (x .line) ≡ accepted (w .past) = ap (units []) (v .book .cut-all) ∙ units-cuts (c .payload) some (accepted (w .past)) in
+  -- What it says of deliveries, over whatever readings it is said.
+  pub record Accounts (acc : List DataUnit) (cnt : ℕ) (back tak wait hold : List DataUnit) : Type 0 where
+    pub through : ℕ
+    pub among : through ≤ length acc
+    pub in-order : tak ++ wait ≡ take through acc
+    pub confirmed-through : cnt ≤ through
+    pub accounted : acc ≡ take cnt acc ++ back ++ hold
+
+  pub told : 1 ≤ c .payload → (acc : List DataUnit) (cnt : ℕ) (back tak : List DataUnit) (O : ℕ → Segment → Type 0) (B : ℕ → Type 0) (x : Sender) (y : Receiver)
+      → Inv c acc cnt back tak O B x y → Accounts acc cnt back tak (waiting y) (held x)
+  told some acc cnt back tak O B x y v =
+      let all : units [] (x .line) ≡ acc = ap (units []) (v .book .cut-all) ∙ units-cuts (c .payload) some acc in
       let n : ℕ = endings (take (length (y .passed)) (x .line)) in
-      let whole : length (accepted (w .past)) ≡ endings (x .line) = ap length (sym all) ∙ length-units [] (x .line) in
+      let whole : length acc ≡ endings (x .line) = ap length (sym all) ∙ length-units [] (x .line) in
       let most : n ≤ endings (take (length (x .line)) (x .line))
       = endings-mono (length (y .passed)) (length (x .line)) (x .line) (omega (arith, v .copy .inside, v .window .filled))
       in
@@ -75,9 +81,20 @@ module _ (c : Limits) where
             sym all
             ∙ split-units (x .start) (x .line)
             ∙ ap (λ (l : List DataUnit). take (endings (take (x .start) (x .line))) l ++ units [] (drop (wholeTo 0 0 (take (x .start) (x .line))) (x .line))) all
-            ∙ ap (λ (m : ℕ). take m (accepted (w .past)) ++ units [] (drop (wholeTo 0 0 (take (x .start) (x .line))) (x .line))) (sym (v .book .counted))
-            ∙ ap (take (confirmed (w .past)) (accepted (w .past)) ++_) (sym (v .book .given))
-            ∙ sym (append-assoc (take (confirmed (w .past)) (accepted (w .past))) (reclaimed (w .past)) (units [] (drop (x .oldest) (x .line))));
+            ∙ ap (λ (m : ℕ). take m acc ++ units [] (drop (wholeTo 0 0 (take (x .start) (x .line))) (x .line))) (sym (v .book .counted))
+            ∙ ap (take cnt acc ++_) (sym (v .book .given))
+            ∙ sym (append-assoc (take cnt acc) back (units [] (drop (x .oldest) (x .line))));
+      }
+
+  pub says : 1 ≤ c .payload → (w : Run) → Holds c w → Delivered w
+  says some w v =
+      let t = told some _ _ _ _ _ _ (w .sender) (w .receiver) v in
+      record {
+        through = t .through;
+        among = t .among;
+        in-order = t .in-order;
+        confirmed-through = t .confirmed-through;
+        accounted = t .accounted;
       }
 
   module _ (small : c .window ≤ 128) where

@@ -1,0 +1,138 @@
+-- The segment at a place: by its mark, and after a segment is filed or others are cleared. Places are counted from the oldest segment held.
+-- Assumes nothing.
+use mathlib.Core.Path.{_≡_, refl, sym, ap, ap₂, _∙_}
+use mathlib.Core.Bool.{Bool, true, false}
+use mathlib.Core.List.{List}
+use mathlib.Core.Option.{Option, none, some}
+use Prim.Native.Nat.{ℕ, _+_, _*_, _≤_, _<_}
+use native.Mathlib.Omega.{arith}
+use borrow.Author.Tests.{eq-eqb, ne-eqb, eqb-true, eqb-false}
+use lib.Dec.{eqb}
+use lib.ListN.{length, getD, set}
+use lib.Seq.{getD-set-same, getD-set-other}
+use Rattle.laws.specs.Choice.{if_then_else_}
+use Rattle.ring.specs.Ring.{roundOf}
+use Rattle.ring.proofs.Laws.{back-lt, back-forth, round-add}
+use Rattle.slots.specs.Marks.{markOf}
+use Rattle.slots.specs.Slots.{slotOf, laid}
+use Rattle.slots.proofs.Laws.{slot-bound, slot-apart, filed-same, filed-other}
+use Rattle.channel.specs.declared.record.Window.{Window}
+use Rattle.channel.specs.declared.record.Channel.{Channel}
+use Rattle.channel.specs.Record.{sends}
+use Rattle.channel.specs.Standing.{oldestOf}
+use Rattle.channel.specs.Asked.{Asked}
+use Rattle.receiver_data.specs.Data.{marking}
+use Rattle.receiver_data.proofs.TakeLaws.{fit-length}
+use Rattle.protocol.specs.Units.{Segment}
+use Rattle.protocol.proofs.Small.{none-some}
+use Rattle.units_held.specs.Held.{octetsAt}
+use Rattle.units_held.specs.Meaning.{segmentBy, carried, lying}
+
+-- ---- by the mark
+
+module _ (c : Channel) (mem lens : List ℕ) (place : ℕ) where
+  abbrev markAt : ℕ
+  markAt = getD (c .marks) place 0
+
+  pub lying-none : getD (c .marks) place 0 ≡ 0 → lying c mem lens place ≡ none
+  unfolding lying
+  lying-none h = ap (λ (b : Bool). if b then none else some (segmentBy markAt (octetsAt c mem lens place))) (eq-eqb _ _ h)
+
+  pub lying-some : (getD (c .marks) place 0 ≡ 0 → ⊥) → lying c mem lens place ≡ some (segmentBy (getD (c .marks) place 0) (octetsAt c mem lens place))
+  unfolding lying
+  lying-some h = ap (λ (b : Bool). if b then none else some (segmentBy markAt (octetsAt c mem lens place))) (ne-eqb _ _ h)
+
+  -- and back
+  pub none-unmarked : lying c mem lens place ≡ none → getD (c .marks) place 0 ≡ 0
+  none-unmarked e = by (eqb markAt 0) refl
+    where
+      by : (b : Bool) → eqb markAt 0 ≡ b → markAt ≡ 0
+      by true z = eqb-true _ _ z
+      by false z = absurd (none-some e (lying-some (eqb-false _ _ z)))
+
+  pub some-marked : (g : Segment) → lying c mem lens place ≡ some g → getD (c .marks) place 0 ≡ 0 → ⊥
+  some-marked g e z = none-some (lying-none z) e
+
+  pub some-is : (g : Segment) → lying c mem lens place ≡ some g → g ≡ segmentBy (getD (c .marks) place 0) (octetsAt c mem lens place)
+  some-is g e = let p = lying-some (some-marked g e) in cc (e, p)
+
+-- the same where the mark is the same, and the octets if there is one
+pub lying-same : (c k : Channel) (mem lens mem₁ lens₁ : List ℕ) (place : ℕ) → getD (k .marks) place 0 ≡ getD (c .marks) place 0
+    → ((getD (c .marks) place 0 ≡ 0 → ⊥) → octetsAt k mem₁ lens₁ place ≡ octetsAt c mem lens place)
+    → lying k mem₁ lens₁ place ≡ lying c mem lens place
+lying-same c k mem lens mem₁ lens₁ place e octets = by (eqb (getD (c .marks) place 0) 0) refl
+  where
+    by : (b : Bool) → eqb (getD (c .marks) place 0) 0 ≡ b → lying k mem₁ lens₁ place ≡ lying c mem lens place
+    by true z =
+        let free : getD (c .marks) place 0 ≡ 0 = eqb-true _ _ z in
+        lying-none k mem₁ lens₁ place (e ∙ free) ∙ sym (lying-none c mem lens place free)
+    by false z =
+        let used : getD (c .marks) place 0 ≡ 0 → ⊥ = eqb-false _ _ z in
+        lying-some k mem₁ lens₁ place (λ y. used (sym e ∙ y))
+        ∙ ap₂ (λ (m : ℕ) (o : List ℕ). some (segmentBy m o)) e (octets used)
+        ∙ sym (lying-some c mem lens place used)
+
+-- ---- a segment filed at a place
+
+module _ (c : Channel) (mem lens : List ℕ) (asked : Asked c mem lens) (place flags : ℕ) (p : List ℕ) (inside : place < c .limits .slots) (short : length p ≤ c .limits .payload) where
+  abbrev after : ℕ → Option Segment
+  after =
+      lying (marking c place flags) (laid mem (slotOf place * c .limits .payload) p) (set lens (slotOf place) (length p))
+
+  -- it lies there
+  pub filed-here : length (c .marks) ≡ 128 → after place ≡ some (carried flags p)
+  filed-here count =
+      let mark : getD (set (c .marks) place (markOf flags)) place 0 ≡ markOf flags = getD-set-same (c .marks) place (markOf flags) 0 (omega (arith, asked .sized .few)) in
+      lying-some
+      (marking c place flags)
+      (laid mem (slotOf place * c .limits .payload) p)
+      (set lens (slotOf place) (length p))
+      place
+      (λ z. omega (arith, mark))
+      ∙ ap₂
+      (λ (m : ℕ) (o : List ℕ). some (segmentBy m o))
+      mark
+      (filed-same (c .limits .slots) (c .limits .payload) mem lens (slotOf place) p (asked .sized) (slot-bound (c .limits .slots) place inside) short)
+
+  -- what lies elsewhere stays
+  pub filed-elsewhere : (q : ℕ) → q < c .limits .slots → (q ≡ place → ⊥) → after q ≡ lying c mem lens q
+  filed-elsewhere q within other =
+      lying-same
+      c
+      (marking c place flags)
+      mem
+      lens
+      (laid mem (slotOf place * c .limits .payload) p)
+      (set lens (slotOf place) (length p))
+      q
+      (getD-set-other (c .marks) place q (markOf flags) 0 other)
+      (λ used.
+      filed-other
+      (c .limits .slots)
+      (c .limits .payload)
+      mem
+      lens
+      (slotOf place)
+      p
+      (asked .sized)
+      (slot-bound (c .limits .slots) place inside)
+      short
+      (slotOf q)
+      (λ e. other (slot-apart q place e))
+      (fit-length
+      (eqb (c .addresses .direction) sends)
+      (c .limits .payload)
+      (getD (c .marks) q 0)
+      (getD lens (slotOf q) 0)
+      (asked .standing .slots q within)
+      used))
+
+-- ---- the place d past the start, counted from the oldest segment held
+
+pub place-past : (slots : ℕ) (w : Window) (d : ℕ) → w .place < slots → w .behind ≤ slots → w .behind + d < slots
+    → roundOf slots (w .place + d) ≡ roundOf slots (oldestOf slots w + (w .behind + d))
+place-past slots w d on few less =
+    let from = oldestOf slots w in
+    let low : from < slots = back-lt slots (w .place) (w .behind) on in
+    ap (λ (k : ℕ). roundOf slots (k + d)) (sym (back-forth slots (w .place) (w .behind) on few))
+    ∙ round-add slots from (w .behind) d (omega arith)

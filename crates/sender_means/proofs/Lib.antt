@@ -1,0 +1,10 @@
+pub mod Sends
+pub mod Controls
+pub mod Placed
+pub mod Handing
+pub mod Cuts
+pub mod Transfers
+pub mod Holding
+pub mod Reclaims
+pub mod Advances
+pub mod Acks
