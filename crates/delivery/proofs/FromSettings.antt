@@ -1,0 +1,84 @@
+-- The premise on a node at the beginning is met by every table that settings made, whatever memory and lengths hold.
+-- Assumes nothing.
+use mathlib.Core.Path.{_≡_, refl, sym, ap, ap₂, _∙_, subst}
+use mathlib.Core.Bool.{Bool, true, false, true≢false, _&&_}
+use mathlib.Core.List.{List, [], _∷_}
+use mathlib.Core.Logic.{⊎-elim}
+use Prim.Native.Nat.{ℕ, zero, suc, _<_}
+use native.Mathlib.Nat.{not-suc-le-zero, le-of-suc-le-suc}
+use lib.ListN.{length, getD}
+use borrow.Author.Tests.{eqb-true}
+use lib.Dec.{eqb}
+use Rattle.laws.proofs.Choice.{both}
+use Rattle.walks.specs.Serving.{Changed}
+use Rattle.channel.specs.declared.answer.Answer.{Answer}
+use Rattle.channel.specs.declared.record.Node.{Node}
+use Rattle.channel.specs.declared.record.Addresses.{Addresses}
+use Rattle.channel.specs.declared.record.Settings.{Settings}
+use Rattle.channel.specs.declared.record.Channel.{Channel}
+use Rattle.channel.specs.Settings.{clash}
+use Rattle.channel.specs.Tables.{fitTable}
+use Rattle.channel.proofs.TableLaws.{table-apart}
+use Rattle.table.specs.Serving.{unset, recordAt}
+use Rattle.node_keeps.specs.Keeping.{Wide}
+use Rattle.node_keeps.proofs.Parts.{either-side}
+use Rattle.node_settings.specs.Configuring.{madeTable, settled, configured}
+use Rattle.node_settings.proofs.Promises.{settings-done, settings-lawful, settings-closed}
+use Rattle.delivery.specs.Delivery.{Fresh}
+use Rattle.delivery.proofs.Packets.{equal-clash}
+
+made-wide : (s : List Settings) → Wide (madeTable s)
+made-wide [] i h = absurd (not-suc-le-zero h)
+made-wide (x ∷ s) zero h = refl
+made-wide (x ∷ s) (suc i) h = made-wide s i (le-of-suc-le-suc h)
+
+clash-is : (a b : Addresses) → clash a b ≡ true → (a .channel ≡ b .channel) × (a .remote ≡ b .remote) × (a .direction ≡ b .direction)
+unfolding clash
+clash-is a b e =
+    let p = both (eqb (a .channel) (b .channel) && eqb (a .remote) (b .remote)) (eqb (a .direction) (b .direction)) e in
+    let q = both (eqb (a .channel) (b .channel)) (eqb (a .remote) (b .remote)) (p .0) in
+    (eqb-true (a .channel) (b .channel) (q .0), eqb-true (a .remote) (b .remote) (q .1), eqb-true (a .direction) (b .direction) (p .1))
+
+-- either way round
+clash-turned : (a b : Addresses) → clash a b ≡ false → clash b a ≡ false
+clash-turned a b e = go (clash b a) refl
+  where
+    go : (t : Bool) → clash b a ≡ t → clash b a ≡ false
+    go false q = q
+    go true q =
+        let p = clash-is b a q in
+        absurd (true≢false (sym (equal-clash a b (sym (p .0)) (sym (p .1)) (sym (p .2))) ∙ e))
+
+-- no two of the settings clash
+apart : (s : List Settings) → fitTable s ≡ true → (j i : ℕ) → j < length s → i < length s → (j ≡ i → ⊥)
+    → clash (getD s j unset .addresses) (getD s i unset .addresses) ≡ false
+apart s e j i a b other =
+    ⊎-elim
+    (λ q. table-apart s unset e j i q b)
+    (λ q. clash-turned (getD s i unset .addresses) (getD s j unset .addresses) (table-apart s unset e i j q a))
+    (either-side j i other)
+
+settled-fits : (t : List Channel) (mem lens : List ℕ) (s : List Settings) → settled t mem lens s ≡ true → fitTable s ≡ true
+unfolding settled
+settled-fits t mem lens s e = both _ _ (both _ _ (both _ _ e .0) .0) .0
+
+pub settings-fresh : (node : Node) (t : List Channel) (mem lens : List ℕ) (s : List Settings) → settled t mem lens s ≡ true
+    → (i : ℕ) → i < length s
+    → Fresh (record { node = node; table = configured t mem lens s .table; mem = mem; lens = lens; index = i; start = 0 })
+settings-fresh node t mem lens s e i h =
+    let c = settings-closed t mem lens s e in
+    let d : configured t mem lens s .table ≡ madeTable s = ap (λ (w : Changed Answer Channel). w .table) (settings-done t mem lens s e) in
+    let own : (j : ℕ) → j < length s → recordAt (configured t mem lens s .table) j .addresses ≡ getD s j unset .addresses
+    = λ j less. c .1 j less .addresses
+    in
+    record {
+      stands = settings-lawful t mem lens s e;
+      wide = subst Wide (sym d) (made-wide s);
+      below = subst (λ (n : ℕ). i < n) (sym (c .0)) h;
+      alone = λ j less other.
+          let there : j < length s = subst (λ (n : ℕ). j < n) (c .0) less in
+          ap₂ clash (own j there) (own i h) ∙ apart s (settled-fits t mem lens s e) j i there h other;
+      state = c .1 i h .state;
+      empty = c .1 i h .held;
+      start = refl;
+    }

@@ -1,0 +1,159 @@
+-- The packet that a record hands out: its fields and its payload, read from the octets written.
+-- Assumes nothing.
+use mathlib.Core.Path.{_≡_, refl, sym, ap, _∙_, subst}
+use mathlib.Core.Bool.{Bool, true, false}
+use mathlib.Core.List.{List, []}
+use Prim.Native.Nat.{ℕ, _+_, _-_, _%_, _≤_, _<_}
+use native.Mathlib.Omega.{arith}
+use borrow.Author.Tests.{eqb-true, eqb-false, eq-eqb, ne-eqb, ltb-false}
+use lib.Dec.{ltb, eqb}
+use lib.ListN.{length, getD, take, drop}
+use Rattle.laws.specs.Choice.{if_then_else_}
+use Rattle.laws.proofs.Choice.{chosen, passed-by}
+use Rattle.slots.specs.Slots.{slotOf, segmentIn}
+use Rattle.packet.specs.declared.fields.Fields.{Fields}
+use Rattle.packet.specs.declared.writing.Written.the-variants as written
+use Rattle.packet.specs.Layout.{fieldsAt}
+use Rattle.packet.specs.Writing.{afterWrite}
+use Rattle.packet.proofs.WriteLaws.{write-done}
+use Rattle.packet_read.proofs.ReadLaws.{accepted}
+use Rattle.packet_read.proofs.RoundTrip.{written-then-read}
+use Rattle.walks.specs.Serving.{Worked, works}
+use Rattle.channel.specs.declared.record.Node.{Node}
+use Rattle.channel.specs.declared.record.Channel.{Channel}
+use Rattle.channel.specs.declared.answer.Refusal.the-variants as refusal
+use Rattle.channel.specs.declared.step.Stepped.{Stepped}
+use Rattle.channel.specs.Record.{enabled}
+use Rattle.channel.specs.Steps.{refusing, doing}
+use Rattle.channel.specs.Asked.{Asked}
+use Rattle.channel.proofs.StandingLaws.{counted-is}
+use Rattle.sender.specs.Directives.{placeAt}
+use Rattle.sender_packets.specs.Asked.{Ready, Plain}
+use Rattle.sender_packets.specs.HandingOut.{againAt, controlFields, dataFields, segmentFor, nextFields, nextPayload, nextOut, nextLength, handStep, handOut}
+use Rattle.sender_packets.proofs.HandLaws.{rank-1-is, rank-2-is, control-plain, data-plain}
+use Rattle.sender_packets.proofs.LyingLaws.{lying, segment-sized}
+use Rattle.steps_handing.specs.Handing.{nextFor}
+use Rattle.steps_arriving.specs.Arriving.{payloadIn}
+
+-- ---- fields
+
+-- wherever it goes, it goes to the channel's other end
+module _ (node : Node) (c : Channel) (rank : ℕ) where
+  pub next-destination : nextFields node c rank .destination ≡ c .addresses .remote
+  unfolding nextFields
+  next-destination = go (eqb rank 0)
+    where
+      go : (b : Bool) → (if b then controlFields node c else dataFields node c (segmentFor c rank)) .destination ≡ c .addresses .remote
+      go true = refl
+      go false = refl
+
+  pub next-channel : nextFields node c rank .channel ≡ c .addresses .channel
+  unfolding nextFields
+  next-channel = go (eqb rank 0)
+    where
+      go : (b : Bool) → (if b then controlFields node c else dataFields node c (segmentFor c rank)) .channel ≡ c .addresses .channel
+      go true = refl
+      go false = refl
+
+  -- rank 0 is Control, and the others are Data
+  pub next-control : rank ≡ 0 → nextFields node c rank ≡ controlFields node c
+  unfolding nextFields
+  next-control e = chosen (eqb rank 0) (controlFields node c) (dataFields node c (segmentFor c rank)) (eq-eqb rank 0 e)
+
+  pub next-data : (rank ≡ 0 → ⊥) → nextFields node c rank ≡ dataFields node c (segmentFor c rank)
+  unfolding nextFields
+  next-data e = passed-by (eqb rank 0) (controlFields node c) (dataFields node c (segmentFor c rank)) (ne-eqb rank 0 e)
+
+-- a Control packet is no Data
+pub control-kind : (node : Node) (c : Channel) → controlFields node c .kind ≡ 0 → ⊥
+control-kind node c = go (eqb (c .state) enabled)
+  where
+    go : (b : Bool) → _≡_ {A = ℕ} (if b then 2 else 3) 0 → ⊥
+    go true e = omega arith
+    go false e = omega arith
+
+module _ (c : Channel) (mem lens : List ℕ) (rank : ℕ) where
+  pub payload-control : rank ≡ 0 → nextPayload c lens mem rank ≡ []
+  unfolding nextPayload
+  payload-control e = chosen (eqb rank 0) [] (segmentIn (c .limits .payload) mem lens (slotOf (placeAt c (segmentFor c rank)))) (eq-eqb rank 0 e)
+
+  pub payload-data : (rank ≡ 0 → ⊥) → nextPayload c lens mem rank ≡ segmentIn (c .limits .payload) mem lens (slotOf (placeAt c (segmentFor c rank)))
+  unfolding nextPayload
+  payload-data e = passed-by (eqb rank 0) [] (segmentIn (c .limits .payload) mem lens (slotOf (placeAt c (segmentFor c rank)))) (ne-eqb rank 0 e)
+
+-- ---- the packet
+
+-- these octets are the packet of the rank
+pub record Carries (node : Node) (c : Channel) (mem lens : List ℕ) (rank : ℕ) (packet : List ℕ) : Type 0 where
+  pub fields : fieldsAt packet ≡ nextFields node c rank
+  pub payload : payloadIn packet ≡ nextPayload c lens mem rank
+
+module _ (node : Node) (c : Channel) (mem lens : List ℕ) (a : Asked c mem lens) (rank : ℕ) (ready : Ready c rank) where
+  -- a segment that is handed out is held
+  pub segment-ahead : (rank ≡ 0 → ⊥) → segmentFor c rank < c .window .ahead
+  segment-ahead some = go (eqb rank 1) refl
+    where
+      go : (b : Bool) → eqb rank 1 ≡ b → (if b then againAt c else c .window .flight) < c .window .ahead
+      go true e =
+          let n = counted-is (c .limits) (c .window) (a .standing .ring) (a .standing .flight) in
+          omega (arith, n .flight, rank-1-is c (sym (ready .is) ∙ eqb-true rank 1 e))
+      go false e =
+          let not-one = eqb-false rank 1 e in
+          let below = ready .some in
+          let two : rank ≡ 2 = omega (arith, some, not-one, below) in
+          rank-2-is c (sym (ready .is) ∙ two) .0
+
+  -- what is written is plain, and of the length that was reckoned
+  pub next-plain : Plain (nextFields node c rank) (length (nextPayload c lens mem rank)) × (nextLength c lens rank ≡ 12 + length (nextPayload c lens mem rank))
+  next-plain = go (eqb rank 0) refl
+    where
+      go : (b : Bool) → eqb rank 0 ≡ b
+          → Plain (nextFields node c rank) (length (nextPayload c lens mem rank))
+          × (12 + (if b then 0 else getD lens (slotOf (placeAt c (segmentFor c rank))) 0) ≡ 12 + length (nextPayload c lens mem rank))
+      go true e =
+          let zero = eqb-true rank 0 e in
+          let p : length (nextPayload c lens mem rank) ≡ 0 = ap length (payload-control c mem lens rank zero) in (
+            subst (λ (f : Fields). Plain f (length (nextPayload c lens mem rank))) (sym (next-control node c rank zero))
+                (subst (λ (n : ℕ). Plain (controlFields node c) n) (sym p) (control-plain node (c .addresses) (c .state))),
+            ap (λ (n : ℕ). 12 + n) (sym p),
+          )
+      go false e =
+          let some = eqb-false rank 0 e in
+          let i = segmentFor c rank in
+          let there = lying c mem lens a i (segment-ahead some) (placeAt c i) (slotOf (placeAt c i)) refl refl in
+          let p : length (nextPayload c lens mem rank) ≡ getD lens (slotOf (placeAt c i)) 0
+          = ap length (payload-data c mem lens rank some) ∙ segment-sized c mem lens a i (segment-ahead some)
+          in (
+            subst (λ (f : Fields). Plain f (length (nextPayload c lens mem rank))) (sym (next-data node c rank some))
+                (data-plain node (c .addresses) (getD (c .marks) (placeAt c i) 0 - 1) ((c .window .start + i) % 256) (length (nextPayload c lens mem rank))
+                (omega (arith, there .mark)) (omega (arith, p, there .short, there .most))),
+            ap (λ (n : ℕ). 12 + n) (sym p),
+          )
+
+  carries : (out : List ℕ) → nextLength c lens rank ≤ length out
+      → Carries node c mem lens rank (take (nextLength c lens rank) (afterWrite (written.Done (nextLength c lens rank)) (nextFields node c rank) (nextPayload c lens mem rank) out))
+  carries out room =
+      let f = nextFields node c rank in
+      let p = nextPayload c lens mem rank in
+      let plain = next-plain in
+      let done = write-done f (length p) (length out) (plain .0 .base) (plain .0 .plain) (omega (arith, room, plain .1)) in
+      let back = written-then-read f p out (12 + length p) done in
+      let packet = take (12 + length p) (afterWrite (written.Done (12 + length p)) f p out) in
+      let got = accepted packet f 10 (length p) (back .answer) in
+      subst (λ (n : ℕ). Carries node c mem lens rank (take n (afterWrite (written.Done n) f p out))) (sym (plain .1))
+      (record { fields = got .fields; payload = ap (λ (n : ℕ). take n (drop 10 packet)) (got .payload) ∙ back .payload })
+
+  -- a buffer that is too small, and one in which the packet is written
+  pub hand-cases : (P : Worked Stepped → Type 0) (out : List ℕ)
+      → P (works (refusing c refusal.Small) mem lens out)
+      → ((n : ℕ) (o : List ℕ) → Carries node c mem lens rank (take n o) → P (works (doing (nextOut c rank) n) mem lens o))
+      → P (nextFor node c rank mem lens out)
+  unfolding nextFor handStep handOut
+  hand-cases P out small done = go (ltb (length out) (nextLength c lens rank)) refl
+    where
+      go : (b : Bool) → ltb (length out) (nextLength c lens rank) ≡ b
+          → P
+          (works (if b then refusing c refusal.Small else doing (nextOut c rank) (nextLength c lens rank)) mem lens
+          (if b then out else afterWrite (written.Done (nextLength c lens rank)) (nextFields node c rank) (nextPayload c lens mem rank) out))
+      go true e = small
+      go false e = done (nextLength c lens rank) _ (carries out (ltb-false (length out) (nextLength c lens rank) e))

@@ -1,0 +1,256 @@
+-- An arrival at the host: a Data Ack for the channel that is watched is the protocol's, a Control Ack moves its phase, and what is for another
+-- channel does not name this one.
+-- Assumes nothing.
+use mathlib.Core.Path.{_≡_, refl, sym, ap, ap₂, _∙_, subst}
+use mathlib.Core.Bool.{Bool, true, false, not, true≢false, _&&_, _||_}
+use mathlib.Core.List.{List}
+use Prim.Native.Nat.{ℕ, _+_, _≤_, _<_}
+use native.Mathlib.Omega.{arith}
+use borrow.Author.Tests.{eqb-true, eqb-false, ne-eqb}
+use lib.Dec.{ltb, eqb}
+use lib.ListN.{length}
+use Rattle.laws.specs.Choice.{if_then_else_}
+use Rattle.laws.proofs.Choice.{chosen, passed-by, both}
+use Rattle.packet.specs.declared.fields.Fields.{Fields}
+use Rattle.packet.specs.Layout.{fieldsAt, lengthAt}
+use Rattle.packet_read.specs.declared.reading.Read.{Read}
+use Rattle.packet_read.proofs.ReadLaws.{read-found}
+use Rattle.channel.specs.declared.record.Addresses.{Addresses}
+use Rattle.channel.specs.declared.record.Channel.{Channel}
+use Rattle.channel.specs.declared.answer.Answer.{Answer}
+use Rattle.channel.specs.declared.answer.Answer.the-variants.{Refused}
+use Rattle.channel.specs.declared.answer.Refusal.the-variants as refusal
+use Rattle.channel.specs.declared.step.Stepped.{Stepped}
+use Rattle.channel.specs.Answers.{numberOf, confirmedOf}
+use Rattle.channel.specs.Record.{sends, receives}
+use Rattle.channel.specs.Record as state
+use Rattle.channel.specs.Lone.{isOut}
+use Rattle.channel.specs.Steps.{refusing, doing}
+use Rattle.sender_acks.specs.Acks.{controlAcked, controlAckStep, dataAckStep}
+use Rattle.table.specs.declared.looking.Look.{Look}
+use Rattle.table.specs.Looking.{looksFor, same, graded, chosen as choice}
+use Rattle.table.specs.Serving.{recordAt}
+use Rattle.steps_arriving.specs.Arriving.{arriveBy, payloadIn, arrivalFor, Framed}
+use Rattle.arriving_look.specs.Finding.{isOurs, lookOf}
+use Rattle.arriving_data.specs.Data.{unfit}
+use Rattle.steps_arriving.proofs.ArriveLaws.{framed, by-data-ack, by-control-ack}
+use Rattle.arriving_look.proofs.FindLaws.{Read-well, found-packet}
+use Rattle.node.specs.Calls.{arrived}
+use Rattle.node_keeps.specs.Keeping.{Given}
+use Rattle.node_keeps.proofs.StepsKeep.{arrival-keeps}
+use Rattle.node_keeps.proofs.CallsAlone.{shapes}
+use Rattle.protocol.specs.Numbers.{numberAt, distance}
+use Rattle.protocol.specs.Ends.{Limits, isOpen}
+use Rattle.protocol.specs.Sending as sending
+use Rattle.protocol.specs.Sending.{Sender, SenderCall, senderStep, acknowledged}
+use Rattle.protocol.specs.Receiving.{Receiver}
+use Rattle.protocol.specs.History as protocol
+use Rattle.sender_means.proofs.Sends.{Sends, open-state, state-opened}
+use Rattle.sender_means.proofs.Controls.{control-ack-sends}
+use Rattle.sender_means.proofs.Acks.{ack-sends, ack-near}
+use Rattle.delivery.specs.Calls.{End, arrives, Request, channelOf}
+use Rattle.delivery.specs.History.{Event, namesBy, names, kindOf, Replied, is, confirmed}
+use Rattle.delivery.specs.Delivery.{NotLate}
+use Rattle.delivery.proofs.Nodes.{endWith}
+use Rattle.delivery.proofs.Known.{limits}
+use Rattle.delivery.proofs.HostFrame.{hostEvent, host-next}
+use Rattle.delivery.proofs.Own.{Seen, Left, own-cases}
+use Rattle.delivery.proofs.Packets.{named-is, same-clash}
+use Rattle.delivery.proofs.HostNow.{HostAt, asking, own, octets, lengths, own-below, own-addresses, own-sends, own-limits, asked, small, alone-here, Next, waits-on, stays-so, counts, was-open, moves-on}
+
+-- ---- what a packet that is found a channel has shown
+
+names-so : (e : End) (packet : List ℕ) → Read-well packet → isOurs (e .node) (fieldsAt packet) ≡ true → same (channelOf e .addresses) (fieldsAt packet) ≡ true
+    → names e packet ≡ true
+names-so e packet w ours is =
+    ap (λ (r : Read). namesBy r (e .node) (channelOf e .addresses)) (read-found packet (w .short) (w .damaged) (w .lacking) (w .strange))
+    ∙ ap₂ (λ (p q : Bool). p && q) ours is
+
+-- a sender is looked for by Acks alone
+same-direction : (a : Addresses) (f : Fields) → same a f ≡ true → a .direction ≡ looksFor (f .kind)
+unfolding same
+same-direction a f e =
+    eqb-true (a .direction) (looksFor (f .kind)) (both (eqb (a .channel) (f .channel) && eqb (a .remote) (f .source)) (eqb (a .direction) (looksFor (f .kind))) e .1)
+
+ack-kinds : (kind : ℕ) → looksFor kind ≡ sends → eqb kind 1 ≡ false → kind ≡ 7
+ack-kinds kind e one = go (eqb kind 7) refl
+  where
+    go : (b : Bool) → eqb kind 7 ≡ b → kind ≡ 7
+    go true q = eqb-true kind 7 q
+    go false q = absurd (omega (arith, sym e ∙ passed-by (eqb kind 1 || eqb kind 7) sends receives (ap₂ (λ (a b : Bool). a || b) one q)))
+
+-- no Ack is Data
+fit-ack : (c : Channel) (f : Fields) (x : ℕ) → (f .kind ≡ 0 → ⊥) → unfit c f x ≡ false
+unfolding unfit
+fit-ack c f x e = ap (λ (b : Bool). b && ltb (c .limits .payload) x) (ne-eqb (f .kind) 0 e)
+
+-- a Control Ack confirms nothing
+control-confirms : (c : Channel) (number : ℕ) → confirmedOf (controlAckStep c number .answer) ≡ 0
+unfolding controlAckStep
+control-confirms c number = go (eqb (c .state) state.enabled || eqb (c .state) state.closing) (eqb number 0) (isOut (c .control))
+  where
+    by : Bool → Bool → Bool → Stepped
+    by p q r =
+        if not p then refusing c refusal.State
+        else if not q then refusing c refusal.Ignored
+        else if not r then refusing c refusal.Ignored
+        else doing (controlAcked c) 0
+
+    go : (p q r : Bool) → confirmedOf (by p q r .answer) ≡ 0
+    go false q r = refl
+    go true false r = refl
+    go true true false = refl
+    go true true true = refl
+
+-- ---- what the protocol's ack leaves
+
+module _ (L : Limits) (x : Sender) where
+  acked-phase : (o w : Bool) (i : ℕ) → acknowledged L o w x i .0 .phase ≡ x .phase
+  acked-phase false w i = refl
+  acked-phase true false i = refl
+  acked-phase true true i = refl
+
+  -- the start moves in OPEN alone
+  acked-still : (o w : Bool) (i : ℕ) → (o ≡ true → ⊥) → x .start ≡ acknowledged L o w x i .0 .start
+  acked-still false w i e = refl
+  acked-still true w i e = absurd (e refl)
+
+  -- a refusal has no count
+  acked-count : (o w : Bool) (i m : ℕ) → (if protocol.done (acknowledged L o w x i .1) then m + acknowledged L o w x i .1 .count else m) ≡ m + acknowledged L o w x i .1 .count
+  acked-count false w i m = omega arith
+  acked-count true false i m = omega arith
+  acked-count true true i m = refl
+
+module _ {h s : End} {past : List Event} {x : Sender} {y : Receiver} {t : List Channel} {mem lens : List ℕ} {n : ℕ}
+    (k : HostAt h s past x y t mem lens n) (copy i : ℕ) (u b : List ℕ) where
+  abbrev request : Request
+  request = asking arrives i u b
+
+  -- what the link must have shown
+  abbrev pub FairReply : Type 0
+  FairReply = names h u ≡ true → Replied past copy u × (kindOf u ≡ 1 → NotLate (endWith h t mem lens n) copy)
+
+  confirms : (m : ℕ) (v : Bool) → (v ≡ true → m ≡ 0) → (if v then confirmed h past + m else confirmed h past) ≡ confirmed h past
+  confirms m true e = omega (arith, e refl)
+  confirms m false e = refl
+
+  arrive-quiet : (a : Answer) (o : List ℕ) → (names h u ≡ true → confirmedOf a ≡ 0) → Next k request copy a o (own k) (octets k) (lengths k)
+  arrive-quiet a o e = stays-so k request copy a o refl (confirms (confirmedOf a) (names h u) e) refl (λ packet q. absurd (true≢false (sym q)))
+
+  -- ---- for another channel
+
+  abbrev looked : Look
+  looked = lookOf (h .node) u (length b)
+
+  told : (j : ℕ) (c : Channel) (r : ℕ) (m l : List ℕ) → Given looked j r c m l → Framed c (fieldsAt u) (lengthAt u) u b
+  told j c r m l g =
+      let suits = subst (λ (z : ℕ). z < 3) (g .suits) (g .found) in
+      framed (h .node) u b j c looked (fieldsAt u) (lengthAt u) refl suits (found-packet (h .node) u (length b) j c suits .3)
+
+  arrive-elsewhere : (j : ℕ) → j < length t → (j ≡ h .index → ⊥) → (r : ℕ) (m l : List ℕ) → Given looked j r (recordAt t j) m l → (a : Answer) (o : List ℕ)
+      → Next k request copy a o (own k) (octets k) (lengths k)
+  arrive-elsewhere j there apart r m l g a o =
+      arrive-quiet a o
+      (λ named.
+      absurd (alone-here k j there apart
+      (same-clash (recordAt t j .addresses) (channelOf h .addresses) (fieldsAt u) (told j (recordAt t j) r m l g .ours) (named-is h u named .same))))
+
+  -- ---- for its own
+
+  abbrev number : ℕ
+  number = fieldsAt u .number
+
+  ack-own : names h u ≡ true → kindOf u ≡ 1 → Replied past copy u → NotLate (endWith h t mem lens n) copy
+      → Next k request copy (dataAckStep (own k) number .answer) b (dataAckStep (own k) number .channel) (octets k) (lengths k)
+  ack-own named kind replied late =
+      let a = dataAckStep (own k) number .answer in
+      let c = dataAckStep (own k) number .channel in
+      let call = SenderCall.ack copy number in
+      let L = limits h s in
+      let w = subst Acked (own-limits k) (
+        ack-sends (own k) (octets k) (lengths k) x (asked k) (own-sends k) (k .now .means) number copy,
+        ack-near (own k) (octets k) (lengths k) x (asked k) (own-sends k) (k .now .means) number copy,
+      )
+      in
+      let z = senderStep L x call .0 in
+      let d = distance number (numberAt (x .start)) in
+      let o = isOpen (x .phase) in
+      let v = sending.isAwaited L x d in
+      let phase = acked-phase L x o v (x .start + d) in
+      let window = ap (λ (l : Limits). l .window) (own-limits k) in
+      host-next h s past y x (k .inv) (k .numbered) (small k) request copy n a b call (
+        record { packet = u; replied = replied; named = named; is-ack = kind },
+        k .numbered .back copy u replied named kind,
+        omega (arith, late, k .now .counted, window),
+      )
+      refl
+      (chosen (names h u) (confirmed h past + confirmedOf a) (confirmed h past) named
+      ∙ ap (λ (m : ℕ). confirmed h past + m) (w .0 .2)
+      ∙ sym (acked-count L x o v (x .start + d) (confirmed h past)))
+      refl
+      (λ j packet q. absurd (true≢false (sym q)))
+      (own k) c (octets k) (lengths k) (w .0 .0)
+      (counts k c (octets k) (lengths k) z (w .0 .0) (w .1 .0) (let e = w .1 .1 in omega (arith, e)) (was-open k phase)
+      (λ q. acked-still L x o v (x .start + d) (λ e. q (phase ∙ state-opened (x .phase) (open-state (x .phase) e)))))
+      (λ q. phase ∙ waits-on k (hostEvent request copy n a b) q)
+    where
+      Acked : Limits → Type 0
+      Acked L =
+          let r = senderStep L x (SenderCall.ack copy number) in
+          (Sends (dataAckStep (own k) number .channel) (octets k) (lengths k) (r .0)
+          × (numberOf (dataAckStep (own k) number .answer) ≡ r .1 .number)
+          × (confirmedOf (dataAckStep (own k) number .answer) ≡ r .1 .count))
+          × ((x .start ≤ r .0 .start) × (r .0 .start ≤ x .start + 128))
+
+  control-ack-own : Next k request copy (controlAckStep (own k) number .answer) b (controlAckStep (own k) number .channel) (octets k) (lengths k)
+  control-ack-own =
+      let a = controlAckStep (own k) number .answer in
+      moves-on k request copy a b refl (confirms (confirmedOf a) (names h u) (λ _. control-confirms (own k) number)) refl refl
+      (controlAckStep (own k) number .channel)
+      (control-ack-sends (own k) (octets k) (lengths k) x (asked k) (own-sends k) (k .now .means) number)
+
+  arrive-own : FairReply → (r : ℕ) → Given looked (h .index) r (own k) (octets k) (lengths k)
+      → Left (Next k request copy) (arrivalFor (h .node) u (own k) r (octets k) (lengths k) b)
+  unfolding arrivalFor
+  arrive-own fair r g = by-kind (eqb (kindOf u) 1) refl
+    where
+      f : Fields
+      f = fieldsAt u
+
+      suits : graded looked (h .index) (own k) < 3
+      suits = subst (λ (z : ℕ). z < 3) (g .suits) (g .found)
+
+      ours : same (own k .addresses) f ≡ true
+      ours = told (h .index) (own k) r (octets k) (lengths k) g .ours
+
+      named : names h u ≡ true
+      named =
+          let q = found-packet (h .node) u (length b) (h .index) (own k) suits in
+          names-so h u (q .1) (q .2) (subst (λ (a : Addresses). same a f ≡ true) (own-addresses k) ours)
+
+      looks : looksFor (kindOf u) ≡ sends
+      looks = sym (same-direction (own k .addresses) f ours) ∙ own-sends k
+
+      by-kind : (q : Bool) → eqb (kindOf u) 1 ≡ q
+          → Left (Next k request copy) (arriveBy (h .node) f (lengthAt u) (payloadIn u) (own k) r (octets k) (lengths k) b)
+      by-kind true q =
+          let kind = eqb-true (kindOf u) 1 q in
+          let not-data : kindOf u ≡ 0 → ⊥ = λ z. omega (arith, z, kind) in
+          let w = fair named in
+          subst (Left (Next k request copy))
+          (sym (by-data-ack (h .node) f (lengthAt u) (payloadIn u) (own k) r (octets k) (lengths k) b (fit-ack (own k) f (lengthAt u) not-data) not-data kind))
+          (ack-own named kind (w .0) (w .1 kind))
+      by-kind false q =
+          let kind = ack-kinds (kindOf u) looks q in
+          let not-data : kindOf u ≡ 0 → ⊥ = λ z. omega (arith, z, kind) in
+          subst (Left (Next k request copy))
+          (sym (by-control-ack (h .node) f (lengthAt u) (payloadIn u) (own k) r (octets k) (lengths k) b (fit-ack (own k) f (lengthAt u) not-data) not-data (eqb-false (kindOf u) 1 q) kind))
+          control-ack-own
+
+  pub host-arrives : FairReply → Seen (Next k request copy) (h .index) (arrived t mem lens (h .node) u b)
+  host-arrives fair =
+      own-cases looked (arrivalFor (h .node) u) t mem lens b (shapes looked (arrivalFor (h .node) u) b (arrival-keeps (h .node) u b)) (h .index) (own-below k)
+      (Next k request copy)
+      (λ why. arrive-quiet (Refused why) b (λ _. refl))
+      (λ j there apart at g. arrive-elsewhere j there apart _ _ _ g _ _)
+      (λ at g. arrive-own fair (choice looked t .rank) g)

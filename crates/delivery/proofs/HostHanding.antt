@@ -1,0 +1,238 @@
+-- The hand-out of a packet at the host: Control is nothing to the data, Data of the channel that is watched carries the segment that the protocol
+-- hands out, and no packet of another channel names the subscriber's.
+-- Assumes nothing.
+use mathlib.Core.Path.{_≡_, refl, sym, ap, ap₂, _∙_, subst}
+use mathlib.Core.Bool.{Bool, true, false, true≢false, _&&_}
+use mathlib.Core.List.{List}
+use mathlib.Core.Logic.{_⊎_, inl, inr}
+use Prim.Native.Nat.{ℕ, _+_, _%_, _<_}
+use native.Mathlib.Omega.{arith}
+use borrow.Author.Tests.{eqb-true, eqb-false}
+use lib.Dec.{eqb}
+use lib.ListN.{length, getD, take}
+use Rattle.laws.proofs.Choice.{both}
+use Rattle.packet.specs.declared.fields.Fields.{Fields}
+use Rattle.packet.specs.Layout.{fieldsAt}
+use Rattle.walks.specs.Serving.{Worked}
+use Rattle.channel.specs.declared.record.Node.{Node}
+use Rattle.channel.specs.declared.record.Addresses.{Addresses}
+use Rattle.channel.specs.declared.record.Channel.{Channel}
+use Rattle.channel.specs.declared.answer.Answer.{Answer}
+use Rattle.channel.specs.declared.answer.Answer.the-variants.{Done, Refused}
+use Rattle.channel.specs.declared.answer.Refusal.{Refusal}
+use Rattle.channel.specs.declared.answer.Refusal.the-variants as refusal
+use Rattle.channel.specs.declared.step.Stepped.{Stepped}
+use Rattle.channel.specs.Answers.{lengthOf}
+use Rattle.channel.specs.Record.{sends}
+use Rattle.sender_packets.specs.Asked.{Ready}
+use Rattle.sender_packets.specs.HandingOut.{segmentFor, nextOut}
+use Rattle.table.specs.declared.looking.Look.the-variants as look
+use Rattle.table.specs.Looking.{looksFor, same, chosen as choice}
+use Rattle.table.specs.Serving.{recordAt, ownMem, ownLens}
+use Rattle.steps_handing.specs.Handing.{nextFor}
+use Rattle.steps_handing.proofs.HandLaws.{ready-is}
+use Rattle.steps_arriving.specs.Arriving.{payloadIn}
+use Rattle.arriving_look.specs.Finding.{isOurs}
+use Rattle.node.specs.Calls.{handed}
+use Rattle.node_keeps.proofs.StepsKeep.{next-keeps}
+use Rattle.node_keeps.proofs.CallsAlone.{shapes}
+use Rattle.protocol.specs.Numbers.{numberAt, distance}
+use Rattle.protocol.specs.Units.{Segment, blank}
+use Rattle.protocol.specs.Ends.{Limits, rank}
+use Rattle.protocol.specs.Sending.{Sender, SenderCall, mayHandOut, handedOut}
+use Rattle.protocol.specs.Receiving.{Receiver}
+use Rattle.protocol.specs.History as protocol
+use Rattle.units_held.specs.Meaning.{carried}
+use Rattle.sender_means.proofs.Sends.{Sends, state-opened}
+use Rattle.sender_means.proofs.Handing.{DataOut, control-out-sends, data-out-sends}
+use Rattle.delivery.specs.Calls.{End, hands, Request, channelOf}
+use Rattle.delivery.specs.History.{Event, names, kindOf, segmentOf}
+use Rattle.delivery.proofs.Nodes.{own-asked}
+use Rattle.delivery.proofs.Known.{Out, limits}
+use Rattle.delivery.proofs.Counting.{distance-on}
+use Rattle.delivery.proofs.HostFrame.{hostEvent, host-next}
+use Rattle.delivery.proofs.Own.{Seen, Left, own-cases}
+use Rattle.delivery.proofs.Packets.{named-is, names-nothing, equal-clash}
+use Rattle.delivery.proofs.Handed.{next-destination, next-channel, next-control, next-data, control-kind, payload-data, Carries, hand-cases}
+use Rattle.delivery.proofs.HostNow.{HostAt, asking, own, octets, lengths, own-below, own-sends, own-limits, asked, small, alone-here, Next, waits-on, stays-so, counts-same, was-open}
+
+-- ---- what an address test has shown
+
+ours-to : (node : Node) (f : Fields) → isOurs node f ≡ true → f .destination ≡ node .address
+unfolding isOurs
+ours-to node f e = eqb-true (f .destination) (node .address) (both (eqb (f .destination) (node .address)) (eqb (f .protocol) (node .protocol)) e .0)
+
+same-channel : (a : Addresses) (f : Fields) → same a f ≡ true → a .channel ≡ f .channel
+unfolding same
+same-channel a f e =
+    let p = both (eqb (a .channel) (f .channel) && eqb (a .remote) (f .source)) (eqb (a .direction) (looksFor (f .kind))) e in
+    eqb-true (a .channel) (f .channel) (both (eqb (a .channel) (f .channel)) (eqb (a .remote) (f .source)) (p .0) .0)
+
+-- the number of a segment, d past the start
+number-on : (start i d : ℕ) → start ≡ numberAt i → (start + d) % 256 ≡ numberAt (i + d)
+unfolding numberAt
+number-on start i d e = omega (arith, e)
+
+module _ {h s : End} {past : List Event} {x : Sender} {y : Receiver} {t : List Channel} {mem lens : List ℕ} {n : ℕ}
+    (k : HostAt h s past x y t mem lens n) (copy i : ℕ) (u b : List ℕ) where
+  abbrev request : Request
+  request = asking hands i u b
+
+  -- ---- nothing goes to the subscriber's channel
+
+  hand-quiet : (a : Answer) (o : List ℕ)
+      → ((packet : List ℕ) → take (lengthOf a) o ≡ packet → names s packet ≡ true → kindOf packet ≡ 0 → ⊥)
+      → Next k request copy a o (own k) (octets k) (lengths k)
+  hand-quiet a o none = stays-so k request copy a o refl refl refl (λ packet _. none packet)
+
+  hand-refused : (why : Refusal) (o : List ℕ) → Next k request copy (Refused why) o (own k) (octets k) (lengths k)
+  hand-refused why o =
+      hand-quiet (Refused why) o (λ packet e named kind. true≢false (sym (subst (λ (p : List ℕ). names s p ≡ true) (sym e) named) ∙ names-nothing s))
+
+  -- the packet of another channel has other addresses
+  not-named : (j : ℕ) → j < length t → (j ≡ h .index → ⊥) → recordAt t j .addresses .direction ≡ sends → (m l : List ℕ) (rank : ℕ) (packet : List ℕ)
+      → Carries (h .node) (recordAt t j) m l rank packet → names s packet ≡ true → ⊥
+  not-named j there apart dir m l rank packet carries named =
+      let c = recordAt t j in
+      let w = named-is s packet named in
+      let to = ap (λ (f : Fields). f .destination) (carries .fields) ∙ next-destination (h .node) c rank in
+      let on = ap (λ (f : Fields). f .channel) (carries .fields) ∙ next-channel (h .node) c rank in
+      alone-here k j there apart
+      (equal-clash (c .addresses) (channelOf h .addresses)
+      (sym on ∙ sym (same-channel (channelOf s .addresses) (fieldsAt packet) (w .same)) ∙ sym (k .alike .number))
+      (sym to ∙ ours-to (s .node) (fieldsAt packet) (w .ours) ∙ sym (k .alike .to-subscriber))
+      (dir ∙ sym (k .alike .sends)))
+
+  hand-elsewhere : (j : ℕ) (there : j < length t) → (j ≡ h .index → ⊥) → (rank : ℕ) → recordAt t j .addresses .direction ≡ sends → Ready (recordAt t j) rank
+      → let w = nextFor (h .node) (recordAt t j) rank (ownMem t j mem) (ownLens t j lens) b in
+      Next k request copy (w .made .answer) (w .out) (own k) (octets k) (lengths k)
+  hand-elsewhere j there apart rank dir ready =
+      let m = ownMem t j mem in
+      let l = ownLens t j lens in
+      hand-cases (h .node) (recordAt t j) m l (own-asked h t mem lens (k .now .kept) j there) rank ready
+      (λ (w : Worked Stepped). Next k request copy (w .made .answer) (w .out) (own k) (octets k) (lengths k)) b
+      (hand-refused refusal.Small b)
+      (λ z o carries.
+      hand-quiet (Done z 0) o
+      (λ packet e named kind. not-named j there apart dir m l rank packet (subst (Carries (h .node) (recordAt t j) m l rank) e carries) named))
+
+  -- ---- Control
+
+  hand-control : (z : ℕ) (o : List ℕ) → Carries (h .node) (own k) (octets k) (lengths k) 0 (take z o)
+      → Next k request copy (Done z 0) o (nextOut (own k) 0) (octets k) (lengths k)
+  hand-control z o carries =
+      let c = nextOut (own k) 0 in
+      let means = control-out-sends (own k) (octets k) (lengths k) x (asked k) (own-sends k) (k .now .means) in
+      host-next h s past y x (k .inv) (k .numbered) (small k) request copy n (Done z 0) o SenderCall.noise tt refl refl refl
+      (λ j packet _ wrote _ _ kind.
+      let fields = subst (Carries (h .node) (own k) (octets k) (lengths k) 0) wrote carries .fields ∙ next-control (h .node) (own k) 0 refl in
+      absurd (control-kind (h .node) (own k) (sym (ap (λ (f : Fields). f .kind) fields) ∙ kind)))
+      (own k) c (octets k) (lengths k) means
+      (counts-same k c (octets k) (lengths k) x means refl (was-open k refl))
+      (waits-on k (hostEvent request copy n (Done z 0) o))
+
+  -- ---- Data
+
+  module _ (r : ℕ) (ready : Ready (own k) r) (some : r ≡ 0 → ⊥) where
+    out : DataOut (own k) (octets k) (lengths k) x r
+    out = data-out-sends (own k) (octets k) (lengths k) x (asked k) (own-sends k) (k .now .means) r (ready .is) (one-two r (ready .some) some)
+      where
+        one-two : (r : ℕ) → r < 3 → (r ≡ 0 → ⊥) → (r ≡ 1) ⊎ (r ≡ 2)
+        one-two r few some = go (eqb r 1) refl
+          where
+            go : (q : Bool) → eqb r 1 ≡ q → (r ≡ 1) ⊎ (r ≡ 2)
+            go true q = inl (eqb-true r 1 q)
+            go false q = let z = eqb-false r 1 q in inr (omega (arith, z, few, some))
+
+    abbrev away : ℕ
+    away = segmentFor (own k) r
+
+    abbrev segment : ℕ
+    segment = x .start + away
+
+    may : mayHandOut (limits h s) x segment ≡ true
+    may = subst (λ (L : Limits). mayHandOut L x segment ≡ true) (own-limits k) (out .may)
+
+    began : own k .window .start ≡ numberAt (x .start)
+    began =
+        let z : rank (x .phase) ≡ 2 = ap rank (state-opened (x .phase) (sym (k .now .means .state) ∙ out .opened)) in
+        k .now .means .window (omega arith) (omega arith) .number
+
+    handed-start : (q : Bool) → handedOut q x segment .0 .start ≡ x .start
+    handed-start true = refl
+    handed-start false = refl
+
+    handed-phase : (q : Bool) → handedOut q x segment .0 .phase ≡ x .phase
+    handed-phase true = refl
+    handed-phase false = refl
+
+    -- its number and its segment
+    module _ (packet : List ℕ) (carries : Carries (h .node) (own k) (octets k) (lengths k) r packet) where
+      number-is : fieldsAt packet .number ≡ numberAt segment
+      number-is =
+          ap (λ (f : Fields). f .number) (carries .fields ∙ next-data (h .node) (own k) r some)
+          ∙ number-on (own k .window .start) (x .start) away began
+
+      segment-is : segmentOf n packet ≡ segment
+      segment-is =
+          ap (λ (m : ℕ). segmentOf m packet) (k .now .counted)
+          ∙ ap (λ (m : ℕ). x .start + distance m (numberAt (x .start))) number-is
+          ∙ ap (λ (m : ℕ). x .start + m) (distance-on (x .start) away (let z = out .away in omega arith))
+
+      carried-is : carried (fieldsAt packet .flags) (payloadIn packet) ≡ getD (x .line) segment blank
+      carried-is =
+          ap₂ carried
+          (ap (λ (f : Fields). f .flags) (carries .fields ∙ next-data (h .node) (own k) r some))
+          (carries .payload ∙ payload-data (own k) (octets k) (lengths k) r some)
+          ∙ out .segment
+
+    sent-so : (q : Bool) → q ≡ true → (j : ℕ) (g : Segment) → segment ≡ j → getD (x .line) segment blank ≡ g
+        → protocol.sentBy (SenderCall.handOut segment) (handedOut q x segment .1) j g (Out h s past j g)
+    sent-so true e j g at is = inl (at, is)
+    sent-so false e j g at is = absurd (true≢false (sym e))
+
+    hand-data : (z : ℕ) (o : List ℕ) → Carries (h .node) (own k) (octets k) (lengths k) r (take z o)
+        → Next k request copy (Done z 0) o (nextOut (own k) r) (octets k) (lengths k)
+    hand-data z o carries =
+        let c = nextOut (own k) r in
+        let q = mayHandOut (limits h s) x segment in
+        let means : Sends c (octets k) (lengths k) (handedOut q x segment .0)
+        = subst (λ (q : Bool). Sends c (octets k) (lengths k) (handedOut q x segment .0)) (sym may) (out .related)
+        in
+        host-next h s past y x (k .inv) (k .numbered) (small k) request copy n (Done z 0) o (SenderCall.handOut segment) tt refl refl refl
+        (λ j packet _ wrote at _ _.
+        let got = subst (Carries (h .node) (own k) (octets k) (lengths k) r) wrote carries in
+        let is : segment ≡ j = sym (segment-is packet got) ∙ at in (
+          number-is packet got ∙ ap numberAt is,
+          λ g e. sent-so q may j g is (sym (carried-is packet got) ∙ e),
+        ))
+        (own k) c (octets k) (lengths k) means
+        (counts-same k c (octets k) (lengths k) (handedOut q x segment .0) means (handed-start q) (was-open k (handed-phase q)))
+        (λ e. handed-phase q ∙ waits-on k (hostEvent request copy n (Done z 0) o) e)
+
+  -- ---- of its own
+
+  hand-own : (r : ℕ) → Ready (own k) r → Left (Next k request copy) (nextFor (h .node) (own k) r (octets k) (lengths k) b)
+  hand-own r ready =
+      hand-cases (h .node) (own k) (octets k) (lengths k) (asked k) r ready (Left (Next k request copy)) b (hand-refused refusal.Small b)
+      (λ z o carries. by-rank z o carries (eqb r 0) refl)
+    where
+      by-rank : (z : ℕ) (o : List ℕ) → Carries (h .node) (own k) (octets k) (lengths k) r (take z o) → (q : Bool) → eqb r 0 ≡ q
+          → Next k request copy (Done z 0) o (nextOut (own k) r) (octets k) (lengths k)
+      by-rank z o carries true q =
+          let e = eqb-true r 0 q in
+          subst (λ (r : ℕ). Next k request copy (Done z 0) o (nextOut (own k) r) (octets k) (lengths k)) (sym e)
+          (hand-control z o (subst (λ (r : ℕ). Carries (h .node) (own k) (octets k) (lengths k) r (take z o)) e carries))
+      by-rank z o carries false q = hand-data r ready (eqb-false r 0 q) z o carries
+
+  pub host-hands : Seen (Next k request copy) (h .index) (handed t mem lens (h .node) b)
+  host-hands =
+      own-cases look.Ready (nextFor (h .node)) t mem lens b (shapes look.Ready (nextFor (h .node)) b (next-keeps (h .node) b)) (h .index) (own-below k)
+      (Next k request copy)
+      (λ why. hand-refused why b)
+      (λ j there apart at g.
+      let r = ready-is (recordAt t j) (choice look.Ready t .rank) (g .suits) (g .found) in
+      hand-elsewhere j there apart (choice look.Ready t .rank) (r .0) (r .1))
+      (λ at g.
+      let r = ready-is (own k) (choice look.Ready t .rank) (g .suits) (g .found) in
+      hand-own (choice look.Ready t .rank) (r .1))

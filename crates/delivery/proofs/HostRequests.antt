@@ -1,0 +1,197 @@
+-- Requests at the host, by the index of a channel: each keeps what is known of the channel that is watched.
+-- Assumes nothing.
+use mathlib.Core.Path.{_≡_, refl, sym, ap, ap₂, _∙_, subst}
+use mathlib.Core.Bool.{Bool, true, false, not, true≢false, _&&_}
+use mathlib.Core.List.{List, [], _∷_}
+use Prim.Native.Nat.{ℕ, suc}
+use native.Mathlib.Omega.{arith}
+use borrow.Author.Tests.{eq-eqb, ne-eqb}
+use lib.Dec.{ltb, eqb}
+use lib.ListN.{length}
+use Rattle.laws.specs.Choice.{if_then_else_}
+use Rattle.laws.proofs.Choice.{chosen, passed-by}
+use Rattle.walks.specs.Serving.{works}
+use Rattle.channel.specs.declared.record.Channel.{Channel}
+use Rattle.channel.specs.declared.answer.Answer.{Answer}
+use Rattle.channel.specs.declared.answer.Answer.the-variants.{Refused}
+use Rattle.channel.specs.declared.answer.Refusal.the-variants as refusal
+use Rattle.channel.specs.declared.step.Stepped.{Stepped}
+use Rattle.channel.specs.Answers.{numberOf}
+use Rattle.channel.specs.Record.{sends, receives, heldIn}
+use Rattle.channel.specs.Record as state
+use Rattle.channel.specs.Lone.{readyLone}
+use Rattle.channel.specs.Steps.{refusing, doing, enabledOf}
+use Rattle.sender.specs.Directives as sender
+use Rattle.receiver_data.specs.Taking.{takeStep, takeOut}
+use Rattle.table.specs.declared.looking.Look.the-variants.{Index}
+use Rattle.table.specs.Serving.{Step, alone, serveOne}
+use Rattle.steps.specs.Requests.{openedBy, closedBy, takeFor}
+use Rattle.steps.proofs.RequestLaws.{opened-sends, closed-sends}
+use Rattle.node.specs.Calls.{opened, closed, taken}
+use Rattle.node_keeps.specs.Keeping.{staying}
+use Rattle.node_keeps.proofs.Alone.{Shapes, index-served}
+use Rattle.node_keeps.proofs.StepsKeep.{open-keeps, close-keeps, take-keeps}
+use Rattle.node_keeps.proofs.CallsAlone.{shapes, alone-called}
+use Rattle.protocol.specs.Ends.{rank}
+use Rattle.protocol.specs.Sending.{Sender, SenderCall}
+use Rattle.protocol.specs.Receiving.{Receiver}
+use Rattle.sender_means.proofs.Controls.{close-sends, open-sends}
+use Rattle.delivery.specs.Calls.{End, Kind, opens, closes, transfers, takes, reclaims}
+use Rattle.delivery.specs.History.{host, Event, granted, openings}
+use Rattle.delivery.proofs.Counting.{counted-same}
+use Rattle.delivery.proofs.HostFrame.{hostEvent, host-next}
+use Rattle.delivery.proofs.Own.{View, Seen, Left, workedAt, own-cases}
+use Rattle.delivery.proofs.Packets.{refused-not-done}
+use Rattle.delivery.proofs.HostNow.{HostAt, asking, own, octets, lengths, own-below, own-sends, asked, small, Next, stays-so, moved-start, moves-on}
+
+-- the calls that name their channel by its index
+pub data Named : Kind → Type 0 where
+  an-opens : Named opens
+  a-closes : Named closes
+  a-transfers : Named transfers
+  a-takes : Named takes
+  a-reclaims : Named reclaims
+
+pub both-false : (a b : Bool) → b ≡ false → (a && b) ≡ false
+both-false true b e = e
+both-false false b e = refl
+
+module _ {h s : End} {past : List Event} {x : Sender} {y : Receiver} {t : List Channel} {mem lens : List ℕ} {n : ℕ}
+    (k : HostAt h s past x y t mem lens n) where
+  -- for another channel, or refused
+  pub request-quiet : {kind : Kind} → Named kind → (copy i : ℕ) (u b : List ℕ) (a : Answer) (o : List ℕ)
+      → (eqb i (h .index) && eqb (numberOf a) 0) ≡ false
+      → Next k (asking kind i u b) copy a o (own k) (octets k) (lengths k)
+  request-quiet an-opens copy i u b a o e = stays-so k (asking opens i u b) copy a o refl refl refl (λ packet q. absurd (true≢false (sym q)))
+  request-quiet a-closes copy i u b a o e = stays-so k (asking closes i u b) copy a o refl refl refl (λ packet q. absurd (true≢false (sym q)))
+  request-quiet a-transfers copy i u b a o e =
+      stays-so k (asking transfers i u b) copy a o (passed-by (eqb i (h .index) && eqb (numberOf a) 0) _ _ e) refl refl (λ packet q. absurd (true≢false (sym q)))
+  request-quiet a-takes copy i u b a o e = stays-so k (asking takes i u b) copy a o refl refl refl (λ packet q. absurd (true≢false (sym q)))
+  request-quiet a-reclaims copy i u b a o e =
+      stays-so k (asking reclaims i u b) copy a o refl refl (passed-by (eqb i (h .index) && eqb (numberOf a) 0) _ _ e) (λ packet q. absurd (true≢false (sym q)))
+
+  -- a view that holds for another channel, for a refusal, and for its own step
+  pub by-index : (P : View) (i : ℕ) (step : Step) (out : List ℕ) → Shapes (Index i) step out
+      → ((a : Answer) (o : List ℕ) → (eqb i (h .index) && eqb (numberOf a) 0) ≡ false → P a o (own k) (octets k) (lengths k))
+      → (i ≡ h .index → (rank : ℕ) → Left P (step (own k) rank (octets k) (lengths k) out))
+      → Seen P (h .index) (serveOne (Index i) step t mem lens out)
+  by-index P i step out shaped quiet mine =
+      own-cases (Index i) step t mem lens out shaped (h .index) (own-below k) P
+      (λ why. quiet (Refused why) out (both-false (eqb i (h .index)) (eqb (numberOf (Refused why)) 0) (refused-not-done why)))
+      (λ j there apart at g.
+      let w = workedAt (Index i) step t mem lens out shaped (h .index) (own-below k) j in
+      quiet (w .made .answer) (w .out)
+      (ap (λ (q : Bool). q && eqb (numberOf (w .made .answer)) 0) (ne-eqb i (h .index) (λ q. apart (index-served i j _ _ _ _ g ∙ q)))))
+      (λ at g. mine (sym (index-served i (h .index) _ _ _ _ g)) _)
+
+-- ---- the Open directive
+
+-- refused it changes nothing, and done it leads to ENABLED
+open-refused : (c : Channel) → eqb (numberOf (sender.openStep c .answer)) 0 ≡ false → sender.openStep c .channel ≡ c
+unfolding sender.openStep
+open-refused c = go (eqb (c .state) state.closed) (eqb (heldIn (c .window)) 0)
+  where
+    by : Bool → Bool → Stepped
+    by p q =
+        if not p then refusing c refusal.State
+        else if not q then refusing c refusal.Untaken
+        else doing (enabledOf c readyLone) 0
+
+    go : (p q : Bool) → eqb (numberOf (by p q .answer)) 0 ≡ false → by p q .channel ≡ c
+    go false q e = refl
+    go true false e = refl
+    go true true e = absurd (true≢false e)
+
+open-enables : (c : Channel) → eqb (numberOf (sender.openStep c .answer)) 0 ≡ true → sender.openStep c .channel .state ≡ state.enabled
+unfolding sender.openStep
+open-enables c = go (eqb (c .state) state.closed) (eqb (heldIn (c .window)) 0)
+  where
+    by : Bool → Bool → Stepped
+    by p q =
+        if not p then refusing c refusal.State
+        else if not q then refusing c refusal.Untaken
+        else doing (enabledOf c readyLone) 0
+
+    go : (p q : Bool) → eqb (numberOf (by p q .answer)) 0 ≡ true → by p q .channel .state ≡ state.enabled
+    go false q e = absurd (true≢false (sym e))
+    go true false e = absurd (true≢false (sym e))
+    go true true e = refl
+
+module _ {h s : End} {past : List Event} {x : Sender} {y : Receiver} {t : List Channel} {mem lens : List ℕ} {n : ℕ}
+    (k : HostAt h s past x y t mem lens n) where
+  own-opens : (copy i : ℕ) (u b o : List ℕ) → i ≡ h .index
+      → (eqb (numberOf (sender.openStep (own k) .answer)) 0 ≡ true → openings host (h .index) past ≡ 0)
+      → Next k (asking opens i u b) copy (sender.openStep (own k) .answer) o (sender.openStep (own k) .channel) (octets k) (lengths k)
+  own-opens copy i u b o at once = go (eqb (numberOf a) 0) refl
+    where
+      a : Answer
+      a = sender.openStep (own k) .answer
+
+      c : Channel
+      c = sender.openStep (own k) .channel
+
+      e : Event
+      e = hostEvent (asking opens i u b) copy n a o
+
+      go : (q : Bool) → eqb (numberOf a) 0 ≡ q → Next k (asking opens i u b) copy a o c (octets k) (lengths k)
+      go false q =
+          subst (λ (c : Channel). Next k (asking opens i u b) copy a o c (octets k) (lengths k)) (sym (open-refused (own k) q))
+          (request-quiet k an-opens copy i u b a o (both-false (eqb i (h .index)) (eqb (numberOf a) 0) q))
+      go true q =
+          let w = open-sends (own k) (octets k) (lengths k) x (asked k) (own-sends k) (k .now .means) (λ z. k .now .waits (once q)) in
+          let on = ltb (rank (x .phase)) (rank (w .phase)) in
+          let counted : openings host (h .index) (e ∷ past) ≡ suc (openings host (h .index) past)
+          = chosen (eqb i (h .index) && eqb (numberOf a) 0) _ _ (ap₂ (λ (p r : Bool). p && r) (eq-eqb i (h .index) at) q)
+          in
+          host-next h s past y x (k .inv) (k .numbered) (small k) (asking opens i u b) copy n a o (SenderCall.control (w .phase)) tt refl refl refl
+          (λ j packet z. absurd (true≢false (sym z)))
+          (own k) c (octets k) (lengths k) (w .related)
+          (counted-same n (own k) c (λ z. absurd (omega (arith, z, open-enables (own k) q))) ∙ k .now .counted ∙ sym (moved-start k on (w .phase)))
+          (λ z. absurd (omega (arith, z, counted)))
+
+  pub host-opens : (copy i : ℕ) (u b : List ℕ)
+      → (granted host opens (h .index) (hostEvent (asking opens i u b) copy n (opened t mem lens i .answer) []) ≡ true → openings host (h .index) past ≡ 0)
+      → Seen (Next k (asking opens i u b) copy) (h .index) (staying (opened t mem lens i) mem lens)
+  host-opens copy i u b =
+      subst (Seen Once (h .index)) (alone-called (Index i) openedBy t mem lens)
+      (by-index k Once i (alone openedBy) [] (shapes (Index i) (alone openedBy) [] (open-keeps (Index i) []))
+      (λ a o q once. request-quiet k an-opens copy i u b a o q)
+      (λ at rank.
+      subst (λ (w : Stepped). Left Once (works w (octets k) (lengths k) [])) (sym (opened-sends (own k) (own-sends k)))
+      (λ once. own-opens copy i u b [] at (λ q. once (ap₂ (λ (p r : Bool). p && r) (eq-eqb i (h .index) at) q)))))
+    where
+      Once : View
+      Once a o c m l =
+          (granted host opens (h .index) (hostEvent (asking opens i u b) copy n a o) ≡ true → openings host (h .index) past ≡ 0)
+          → Next k (asking opens i u b) copy a o c m l
+
+  -- ---- the Close directive
+
+  pub host-closes : (copy i : ℕ) (u b : List ℕ) → Seen (Next k (asking closes i u b) copy) (h .index) (staying (closed t mem lens i) mem lens)
+  host-closes copy i u b =
+      let P = Next k (asking closes i u b) copy in
+      subst (Seen P (h .index)) (alone-called (Index i) closedBy t mem lens)
+      (by-index k P i (alone closedBy) [] (shapes (Index i) (alone closedBy) [] (close-keeps (Index i) []))
+      (request-quiet k a-closes copy i u b)
+      (λ at rank.
+      subst (λ (w : Stepped). Left P (works w (octets k) (lengths k) [])) (sym (closed-sends (own k) (own-sends k)))
+      (moves-on k (asking closes i u b) copy (sender.closeStep (own k) .answer) [] refl refl refl refl (sender.closeStep (own k) .channel)
+      (close-sends (own k) (octets k) (lengths k) x (asked k) (own-sends k) (k .now .means)))))
+
+  -- ---- a sender gives no unit
+
+  take-here : (c : Channel) (rank : ℕ) (m l o : List ℕ) → c .addresses .direction ≡ sends → takeFor c rank m l o ≡ works (refusing c refusal.State) m l o
+  unfolding takeFor
+  take-here c rank m l o d =
+      passed-by (eqb (c .addresses .direction) receives) (works (takeStep c l (length o)) m l (takeOut c l m o)) (works (refusing c refusal.State) m l o)
+      (ne-eqb (c .addresses .direction) receives (λ q. omega (arith, q, d)))
+
+  pub host-takes : (copy i : ℕ) (u b : List ℕ) → Seen (Next k (asking takes i u b) copy) (h .index) (taken t mem lens i b)
+  host-takes copy i u b =
+      let P = Next k (asking takes i u b) copy in
+      by-index k P i takeFor b (shapes (Index i) takeFor b (take-keeps (Index i) b))
+      (request-quiet k a-takes copy i u b)
+      (λ at rank.
+      subst (Left P) (sym (take-here (own k) rank (octets k) (lengths k) b (own-sends k)))
+      (request-quiet k a-takes copy i u b (Refused refusal.State) b
+      (both-false (eqb i (h .index)) (eqb (numberOf (Refused refusal.State)) 0) (refused-not-done refusal.State))))

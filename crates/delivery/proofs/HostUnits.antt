@@ -1,0 +1,242 @@
+-- A unit handed over to the host, and one given back: each keeps what is known of the channel that is watched.
+-- Assumes nothing.
+use mathlib.Core.Path.{_≡_, refl, sym, ap, ap₂, _∙_, subst}
+use mathlib.Core.Bool.{Bool, true, false, not, true≢false, _&&_}
+use mathlib.Core.List.{List, [], _∷_, _++_}
+use Prim.Native.Nat.{ℕ, _+_, _-_}
+use borrow.Author.Tests.{eqb-true, eq-eqb}
+use lib.Dec.{ltb, leb, eqb}
+use lib.ListN.{length, take, drop}
+use lib.Seq.{take-at}
+use Rattle.laws.specs.Choice.{if_then_else_}
+use Rattle.laws.proofs.Choice.{chosen}
+use Rattle.slots.specs.Slots.{slotOf, laid}
+use Rattle.store.specs.Store.{octetsIn}
+use Rattle.walks.specs.Serving.{works}
+use Rattle.channel.specs.declared.record.Channel.{Channel}
+use Rattle.channel.specs.declared.answer.Answer.{Answer}
+use Rattle.channel.specs.declared.answer.Refusal.the-variants as refusal
+use Rattle.channel.specs.declared.step.Stepped.{Stepped}
+use Rattle.channel.specs.Answers.{numberOf, lengthOf}
+use Rattle.channel.specs.Record.{sends}
+use Rattle.channel.specs.Record as state
+use Rattle.channel.specs.Steps.{refusing, doing}
+use Rattle.sender_units.specs.Transfer.{transferStep, transferMem, transferLens}
+use Rattle.sender_units.specs.Reclaiming.{unitAt, sizeAt, dropped, reclaimStep, reclaimOut}
+use Rattle.table.specs.declared.looking.Look.the-variants.{Index}
+use Rattle.steps.specs.Requests.{transferFor, reclaimFor}
+use Rattle.node.specs.Calls.{transferred, reclaimed}
+use Rattle.node_keeps.proofs.StepsKeep.{reclaim-keeps}
+use Rattle.node_keeps.proofs.CallsAlone.{shapes, transfer-shapes}
+use Rattle.protocol.specs.Units.{DataUnit, Segment, cut}
+use Rattle.protocol.specs.Ends as ends
+use Rattle.protocol.specs.Ends.{Limits, Phase, fresh, enabled, rank, isOpen}
+use Rattle.protocol.specs.Sending as sending
+use Rattle.protocol.specs.Sending.{Sender, SenderCall, senderStep}
+use Rattle.protocol.specs.Receiving.{Receiver}
+use Rattle.sender_means.proofs.Sends.{Sends}
+use Rattle.sender_means.proofs.Transfers.{transfer-sends}
+use Rattle.sender_means.proofs.Reclaims.{reclaim-sends}
+use Rattle.delivery.specs.Calls.{End, transfers, reclaims}
+use Rattle.delivery.specs.History as history
+use Rattle.delivery.specs.History.{Event, accepted}
+use Rattle.delivery.proofs.Known.{limits}
+use Rattle.delivery.proofs.HostFrame.{hostEvent, host-next}
+use Rattle.delivery.proofs.Own.{Seen, Left}
+use Rattle.delivery.proofs.HostRequests.{a-transfers, a-reclaims, both-false, request-quiet, by-index}
+use Rattle.delivery.proofs.HostNow.{HostAt, asking, own, octets, lengths, own-sends, own-limits, asked, small, Next, waits-on, counts-same, was-open}
+
+-- ---- a unit is handed over
+
+module _ {h s : End} {past : List Event} {x : Sender} {y : Receiver} {t : List Channel} {mem lens : List ℕ} {n : ℕ}
+    (k : HostAt h s past x y t mem lens n) where
+  taken-start : (a b d : Bool) (l : List Segment) → sending.transferred a b d x l .0 .start ≡ x .start
+  taken-start false b d l = refl
+  taken-start true false d l = refl
+  taken-start true true false l = refl
+  taken-start true true true l = refl
+
+  taken-phase : (a b d : Bool) (l : List Segment) → sending.transferred a b d x l .0 .phase ≡ x .phase
+  taken-phase false b d l = refl
+  taken-phase true false d l = refl
+  taken-phase true true false l = refl
+  taken-phase true true true l = refl
+
+  -- whatever is answered, the start and the phase are left
+  transfer-start : (u : DataUnit) → senderStep (limits h s) x (SenderCall.transfer u) .0 .start ≡ x .start
+  transfer-start u =
+      let l = cut (limits h s .payload) u in
+      taken-start (isOpen (x .phase)) (leb (length l) (limits h s .segments)) (leb (length (x .line) - x .oldest + length l) (limits h s .slots)) l
+
+  transfer-phase : (u : DataUnit) → senderStep (limits h s) x (SenderCall.transfer u) .0 .phase ≡ x .phase
+  transfer-phase u =
+      let l = cut (limits h s .payload) u in
+      taken-phase (isOpen (x .phase)) (leb (length l) (limits h s .segments)) (leb (length (x .line) - x .oldest + length l) (limits h s .slots)) l
+
+  own-transfers : (copy i : ℕ) (u b o : List ℕ) → i ≡ h .index
+      → Next k (asking transfers i u b) copy (transferStep (own k) (length u) .answer) o (transferStep (own k) (length u) .channel)
+      (transferMem (own k) u (octets k)) (transferLens (own k) u (lengths k))
+  own-transfers copy i u b o at =
+      let c = transferStep (own k) (length u) .channel in
+      let a = transferStep (own k) (length u) .answer in
+      let m = transferMem (own k) u (octets k) in
+      let l = transferLens (own k) u (lengths k) in
+      let call = SenderCall.transfer u in
+      let w : Sends c m l (senderStep (limits h s) x call .0) × (numberOf a ≡ senderStep (limits h s) x call .1 .number)
+      = subst (λ (L : Limits). Sends c m l (senderStep L x call .0) × (numberOf a ≡ senderStep L x call .1 .number)) (own-limits k)
+      (transfer-sends (own k) (octets k) (lengths k) x (asked k) (own-sends k) (k .now .means) u)
+      in
+      let z = senderStep (limits h s) x call .0 in
+      host-next h s past y x (k .inv) (k .numbered) (small k) (asking transfers i u b) copy n a o call tt
+      (ap₂ (λ (p : Bool) (q : ℕ). if p && eqb q 0 then accepted h past ++ (u ∷ []) else accepted h past) (eq-eqb i (h .index) at) (w .1))
+      refl refl
+      (λ j packet q. absurd (true≢false (sym q)))
+      (own k) c m l (w .0)
+      (counts-same k c m l z (w .0) (transfer-start u) (was-open k (transfer-phase u)))
+      (λ q. transfer-phase u ∙ waits-on k (hostEvent (asking transfers i u b) copy n a o) q)
+
+  transfer-here : (c : Channel) (rank : ℕ) (u m l o : List ℕ) → c .addresses .direction ≡ sends
+      → transferFor u c rank m l o ≡ works (transferStep c (length u)) (transferMem c u m) (transferLens c u l) o
+  unfolding transferFor
+  transfer-here c rank u m l o d =
+      chosen (eqb (c .addresses .direction) sends) (works (transferStep c (length u)) (transferMem c u m) (transferLens c u l) o)
+      (works (refusing c refusal.State) m l o) (eq-eqb (c .addresses .direction) sends d)
+
+  pub host-transfers : (copy i : ℕ) (u b : List ℕ) → Seen (Next k (asking transfers i u b) copy) (h .index) (transferred t mem lens i u)
+  host-transfers copy i u b =
+      let P = Next k (asking transfers i u b) copy in
+      by-index k P i (transferFor u) [] (transfer-shapes (Index i) u [])
+      (request-quiet k a-transfers copy i u b)
+      (λ at rank. subst (Left P) (sym (transfer-here (own k) rank u (octets k) (lengths k) [] (own-sends k))) (own-transfers copy i u b [] at))
+
+-- ---- a unit is given back
+
+-- refused it changes nothing
+reclaim-refused : (c : Channel) (lens : List ℕ) (n : ℕ) → eqb (numberOf (reclaimStep c lens n .answer)) 0 ≡ false → reclaimStep c lens n .channel ≡ c
+unfolding reclaimStep
+reclaim-refused c lens n = go (eqb (c .state) state.closed) (eqb (c .window .ahead) 0) (ltb n (sizeAt c lens))
+  where
+    by : Bool → Bool → Bool → Stepped
+    by p q r =
+        if not p then refusing c refusal.State
+        else if q then refusing c refusal.Nothing
+        else if r then refusing c refusal.Small
+        else doing (dropped c (unitAt c)) (sizeAt c lens)
+
+    go : (p q r : Bool) → eqb (numberOf (by p q r .answer)) 0 ≡ false → by p q r .channel ≡ c
+    go false q r e = refl
+    go true true r e = refl
+    go true false true e = refl
+    go true false false e = absurd (true≢false e)
+
+-- done it writes the unit
+reclaim-writes : (c : Channel) (mem lens out : List ℕ) → eqb (numberOf (reclaimStep c lens (length out) .answer)) 0 ≡ true
+    → (lengthOf (reclaimStep c lens (length out) .answer) ≡ sizeAt c lens)
+    × (reclaimOut c lens mem out ≡ laid out 0 (octetsIn slotOf (c .limits .payload) mem lens (c .limits .slots) (unitAt c) (c .window .place)))
+unfolding reclaimStep reclaimOut
+reclaim-writes c mem lens out = go (eqb (c .state) state.closed) (eqb (c .window .ahead) 0) (ltb (length out) (sizeAt c lens))
+  where
+    unit : List ℕ
+    unit = octetsIn slotOf (c .limits .payload) mem lens (c .limits .slots) (unitAt c) (c .window .place)
+
+    by : Bool → Bool → Bool → Stepped
+    by p q r =
+        if not p then refusing c refusal.State
+        else if q then refusing c refusal.Nothing
+        else if r then refusing c refusal.Small
+        else doing (dropped c (unitAt c)) (sizeAt c lens)
+
+    out-by : Bool → Bool → Bool → List ℕ
+    out-by p q r = if not p then out else if q then out else if r then out else laid out 0 unit
+
+    go : (p q r : Bool) → eqb (numberOf (by p q r .answer)) 0 ≡ true → (lengthOf (by p q r .answer) ≡ sizeAt c lens) × (out-by p q r ≡ laid out 0 unit)
+    go false q r e = absurd (true≢false (sym e))
+    go true true r e = absurd (true≢false (sym e))
+    go true false true e = absurd (true≢false (sym e))
+    go true false false e = (refl, refl)
+
+laid-first : (out u : List ℕ) → take (length u) (laid out 0 u) ≡ u
+unfolding laid
+laid-first out u = take-at u (drop (0 + length u) out) (length u) refl
+
+module _ {h s : End} {past : List Event} {x : Sender} {y : Receiver} {t : List Channel} {mem lens : List ℕ} {n : ℕ}
+    (k : HostAt h s past x y t mem lens n) where
+  given-start : (p : Phase) (l : List DataUnit) → sending.reclaiming p l x .0 .start ≡ x .start
+  given-start fresh l = refl
+  given-start enabled l = refl
+  given-start ends.opened l = refl
+  given-start ends.closing l = refl
+  given-start ends.shut [] = refl
+  given-start ends.shut (u ∷ l) = refl
+
+  given-phase : (p : Phase) (l : List DataUnit) → sending.reclaiming p l x .0 .phase ≡ x .phase
+  given-phase fresh l = refl
+  given-phase enabled l = refl
+  given-phase ends.opened l = refl
+  given-phase ends.closing l = refl
+  given-phase ends.shut [] = refl
+  given-phase ends.shut (u ∷ l) = refl
+
+  own-reclaims : (copy i : ℕ) (u b : List ℕ) → i ≡ h .index
+      → Next k (asking reclaims i u b) copy (reclaimStep (own k) (lengths k) (length b) .answer) (reclaimOut (own k) (lengths k) (octets k) b)
+      (reclaimStep (own k) (lengths k) (length b) .channel) (octets k) (lengths k)
+  own-reclaims copy i u b at = go (eqb (numberOf a) 0) refl
+    where
+      a : Answer
+      a = reclaimStep (own k) (lengths k) (length b) .answer
+
+      c : Channel
+      c = reclaimStep (own k) (lengths k) (length b) .channel
+
+      o : List ℕ
+      o = reclaimOut (own k) (lengths k) (octets k) b
+
+      unit : List ℕ
+      unit = octetsIn slotOf (own k .limits .payload) (octets k) (lengths k) (own k .limits .slots) (unitAt (own k)) (own k .window .place)
+
+      Given : Limits → Type 0
+      Given L =
+          Sends c (octets k) (lengths k) (senderStep L x SenderCall.reclaim .0)
+          × (senderStep L x SenderCall.reclaim .1 .number ≡ 0)
+          × (senderStep L x SenderCall.reclaim .1 .unit ≡ unit)
+          × (sizeAt (own k) (lengths k) ≡ length (senderStep L x SenderCall.reclaim .1 .unit))
+
+      go : (q : Bool) → eqb (numberOf a) 0 ≡ q → Next k (asking reclaims i u b) copy a o c (octets k) (lengths k)
+      go false q =
+          subst (λ (c : Channel). Next k (asking reclaims i u b) copy a o c (octets k) (lengths k)) (sym (reclaim-refused (own k) (lengths k) (length b) q))
+          (request-quiet k a-reclaims copy i u b a o (both-false (eqb i (h .index)) (eqb (numberOf a) 0) q))
+      go true q =
+          let w : Given (limits h s)
+          = subst Given (own-limits k)
+          (reclaim-sends (own k) (octets k) (lengths k) x (asked k) (own-sends k) (k .now .means) (length b) (eqb-true (numberOf a) 0 q))
+          in
+          let call = SenderCall.reclaim in
+          let said = senderStep (limits h s) x call .1 in
+          let z = senderStep (limits h s) x call .0 in
+          let wrote = reclaim-writes (own k) (octets k) (lengths k) b q in
+          let is-unit : take (lengthOf a) o ≡ said .unit
+          = ap₂ (λ (p : ℕ) (r : List ℕ). take p r) (wrote .0 ∙ w .3 ∙ ap length (w .2)) (wrote .1) ∙ laid-first b unit ∙ sym (w .2)
+          in
+          let was = history.reclaimed h past in
+          host-next h s past y x (k .inv) (k .numbered) (small k) (asking reclaims i u b) copy n a o call tt refl refl
+          (chosen (eqb i (h .index) && eqb (numberOf a) 0) _ _ (ap₂ (λ (p r : Bool). p && r) (eq-eqb i (h .index) at) q)
+          ∙ ap (λ (p : List ℕ). was ++ (p ∷ [])) is-unit
+          ∙ sym (chosen (eqb (said .number) 0) (was ++ (said .unit ∷ [])) was (eq-eqb (said .number) 0 (w .1))))
+          (λ j packet r. absurd (true≢false (sym r)))
+          (own k) c (octets k) (lengths k) (w .0)
+          (counts-same k c (octets k) (lengths k) z (w .0) (given-start (x .phase) (sending.held x)) (was-open k (given-phase (x .phase) (sending.held x))))
+          (λ r. given-phase (x .phase) (sending.held x) ∙ waits-on k (hostEvent (asking reclaims i u b) copy n a o) r)
+
+  reclaim-here : (c : Channel) (rank : ℕ) (m l o : List ℕ) → c .addresses .direction ≡ sends
+      → reclaimFor c rank m l o ≡ works (reclaimStep c l (length o)) m l (reclaimOut c l m o)
+  unfolding reclaimFor
+  reclaim-here c rank m l o d =
+      chosen (eqb (c .addresses .direction) sends) (works (reclaimStep c l (length o)) m l (reclaimOut c l m o)) (works (refusing c refusal.State) m l o)
+      (eq-eqb (c .addresses .direction) sends d)
+
+  pub host-reclaims : (copy i : ℕ) (u b : List ℕ) → Seen (Next k (asking reclaims i u b) copy) (h .index) (reclaimed t mem lens i b)
+  host-reclaims copy i u b =
+      let P = Next k (asking reclaims i u b) copy in
+      by-index k P i reclaimFor b (shapes (Index i) reclaimFor b (reclaim-keeps (Index i) b))
+      (request-quiet k a-reclaims copy i u b)
+      (λ at rank. subst (Left P) (sym (reclaim-here (own k) rank (octets k) (lengths k) b (own-sends k))) (own-reclaims copy i u b at))

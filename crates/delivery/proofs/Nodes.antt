@@ -1,0 +1,116 @@
+-- What a node keeps over every call, whatever it is: it passes the test for 13, and its addresses and limits are those of the beginning.
+-- Assumes nothing.
+use mathlib.Core.Path.{_≡_, refl, sym, ap, ap₂, _∙_, subst}
+use mathlib.Core.Bool.{Bool, true, false}
+use mathlib.Core.List.{List, [], _∷_, map}
+use Prim.Native.Nat.{ℕ, zero, suc, _≤_, _<_}
+use native.Mathlib.Omega.{arith}
+use lib.ListN.{length, drop, getD, length-map, length-drop}
+use lib.Seq.{length-take-le}
+use Rattle.walks.specs.Serving.{Called}
+use Rattle.channel.specs.declared.record.Addresses.{Addresses}
+use Rattle.channel.specs.declared.record.Limits.{Limits}
+use Rattle.channel.specs.declared.record.Channel.{Channel}
+use Rattle.channel.specs.declared.answer.Answer.{Answer}
+use Rattle.channel.specs.Asked.{Asked}
+use Rattle.channel.proofs.SettingsLaws.{fit-is}
+use Rattle.channel.proofs.StandingLaws.{stands-is}
+use Rattle.table.specs.Lent.{areaOf, octetAt, lawful}
+use Rattle.table.specs.Serving.{blank, recordAt, ownMem, ownLens}
+use Rattle.table.proofs.SurveyLaws.{each-stands}
+use Rattle.table.proofs.ServeLaws.{lawful-is}
+use Rattle.node_keeps.specs.Keeping.{Wide, SettingsStay, addressesOf, limitsOf}
+use Rattle.node_keeps.proofs.Serving.{octets-inside}
+use Rattle.node_keeps.proofs.CallsKeep.{arrival-lawful, next-packet-lawful, open-lawful, close-lawful, transfer-lawful, take-lawful, reclaim-lawful, tick-lawful}
+use Rattle.node_keeps.proofs.Marks.{arrival-wide, next-packet-wide, open-wide, close-wide, transfer-wide, take-wide, reclaim-wide, tick-wide}
+use Rattle.node_keeps.proofs.Settled.{arrival-settings-stay, next-packet-settings-stay, open-settings-stay, close-settings-stay, transfer-settings-stay, take-settings-stay, reclaim-settings-stay, tick-settings-stay}
+use Rattle.delivery.specs.Calls.{End, Kind, opens, closes, transfers, takes, reclaims, hands, arrives, ticks, Request, calledBy}
+
+-- the node of the beginning, with what is lent now
+abbrev pub endWith : End → List Channel → List ℕ → List ℕ → ℕ → End
+endWith e t mem lens n = record { node = e .node; table = t; mem = mem; lens = lens; index = e .index; start = n }
+
+pub record Kept (e : End) (t : List Channel) (mem lens : List ℕ) : Type 0 where
+  pub stands : lawful t mem lens ≡ true
+  pub wide : Wide t
+  pub settings : SettingsStay (e .table) t
+
+abbrev pub KeptBy : End → Called Answer Channel → Type 0
+KeptBy e g = Kept e (g .table) (g .mem) (g .lens)
+
+-- ---- the addresses and limits of each record
+
+same-count : {A : Type 0} (f : Channel → A) (t u : List Channel) → map f t ≡ map f u → length t ≡ length u
+same-count f t u e = sym (length-map t f) ∙ ap length e ∙ length-map u f
+
+pub same-at : {A : Type 0} (f : Channel → A) (t u : List Channel) (j : ℕ) → map f t ≡ map f u → f (recordAt t j) ≡ f (recordAt u j)
+same-at f t u j e = sym (mapped f t j) ∙ ap (λ (l : List _). getD l j (f blank)) e ∙ mapped f u j
+  where
+    mapped : {A : Type 0} (f : Channel → A) (t : List Channel) (j : ℕ) → getD (map f t) j (f blank) ≡ f (recordAt t j)
+    mapped f [] j = refl
+    mapped f (c ∷ t) zero = refl
+    mapped f (c ∷ t) (suc j) = mapped f t j
+
+module _ (e : End) (t : List Channel) (mem lens : List ℕ) (k : Kept e t mem lens) where
+  pub same-length : length t ≡ length (e .table)
+  same-length = same-count (λ c. c .addresses) t (e .table) (k .settings .0)
+
+  pub same-addresses : (j : ℕ) → recordAt t j .addresses ≡ recordAt (e .table) j .addresses
+  same-addresses j = same-at (λ c. c .addresses) t (e .table) j (k .settings .0)
+
+  pub same-limits : (j : ℕ) → recordAt t j .limits ≡ recordAt (e .table) j .limits
+  same-limits j = same-at (λ c. c .limits) t (e .table) j (k .settings .1)
+
+  -- what the steps of a record ask
+  pub own-asked : (j : ℕ) → j < length t → Asked (recordAt t j) (ownMem t j mem) (ownLens t j lens)
+  own-asked j below =
+      let law = lawful-is t mem lens (k .stands) in
+      let c = recordAt t j in
+      let stand = stands-is c (ownLens t j lens) (each-stands t lens (law .stand) j below) in
+      let fit = fit-is (c .limits) (stand .fit) in
+      let inside = octets-inside t mem lens law j below in
+      record {
+        standing = stand;
+        sized =
+            record {
+              few = fit .most;
+              short = fit .payload;
+              each = stand .count;
+              exact = length-take-le (areaOf (c .limits)) (drop (octetAt t j) mem) (omega (arith, length-drop (octetAt t j) mem, inside));
+            };
+      }
+
+  pub small-window : (j : ℕ) → j < length t → recordAt t j .limits .window ≤ 128
+  small-window j below = fit-is (recordAt t j .limits) (own-asked j below .standing .fit) .window
+
+-- ---- every call
+
+stays-on : (t u v : List Channel) → SettingsStay t u → SettingsStay u v → SettingsStay t v
+stays-on t u v a b = (b .0 ∙ a .0, b .1 ∙ a .1)
+
+pub kept-called : (e : End) (t : List Channel) (mem lens : List ℕ) (n : ℕ) → Kept e t mem lens → (kind : Kind) (r : Request)
+    → KeptBy e (calledBy kind (endWith e t mem lens n) r)
+kept-called e t mem lens n k kind r = go kind
+  where
+    done : (g : Called Answer Channel) → lawful (g .table) (g .mem) (g .lens) ≡ true → Wide (g .table) → SettingsStay t (g .table) → KeptBy e g
+    done g a b c = record { stands = a; wide = b; settings = stays-on (e .table) t (g .table) (k .settings) c }
+
+    go : (kind : Kind) → KeptBy e (calledBy kind (endWith e t mem lens n) r)
+    go opens = done (calledBy opens (endWith e t mem lens n) r) (open-lawful t mem lens (r .channel) (k .stands)) (open-wide t mem lens (k .wide) (r .channel)) (open-settings-stay t mem lens (r .channel))
+    go closes = done (calledBy closes (endWith e t mem lens n) r) (close-lawful t mem lens (r .channel) (k .stands)) (close-wide t mem lens (k .wide) (r .channel)) (close-settings-stay t mem lens (r .channel))
+    go transfers =
+        done (calledBy transfers (endWith e t mem lens n) r) (transfer-lawful t mem lens (r .channel) (r .octets) (k .wide) (k .stands)) (transfer-wide t mem lens (k .wide) (r .channel) (r .octets))
+        (transfer-settings-stay t mem lens (r .channel) (r .octets))
+    go takes =
+        done (calledBy takes (endWith e t mem lens n) r) (take-lawful t mem lens (r .channel) (r .buffer) (k .stands)) (take-wide t mem lens (k .wide) (r .channel) (r .buffer))
+        (take-settings-stay t mem lens (r .channel) (r .buffer))
+    go reclaims =
+        done (calledBy reclaims (endWith e t mem lens n) r) (reclaim-lawful t mem lens (r .channel) (r .buffer) (k .stands)) (reclaim-wide t mem lens (k .wide) (r .channel) (r .buffer))
+        (reclaim-settings-stay t mem lens (r .channel) (r .buffer))
+    go hands =
+        done (calledBy hands (endWith e t mem lens n) r) (next-packet-lawful t mem lens (e .node) (r .buffer) (k .stands)) (next-packet-wide t mem lens (k .wide) (e .node) (r .buffer))
+        (next-packet-settings-stay t mem lens (e .node) (r .buffer))
+    go arrives =
+        done (calledBy arrives (endWith e t mem lens n) r) (arrival-lawful t mem lens (e .node) (r .octets) (r .buffer) (k .stands)) (arrival-wide t mem lens (k .wide) (e .node) (r .octets) (r .buffer))
+        (arrival-settings-stay t mem lens (e .node) (r .octets) (r .buffer))
+    go ticks = done (calledBy ticks (endWith e t mem lens n) r) (tick-lawful t mem lens (k .stands)) (tick-wide t mem lens (k .wide)) (tick-settings-stay t mem lens)

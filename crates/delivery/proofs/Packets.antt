@@ -1,0 +1,97 @@
+-- Packets as the two ends see them: what is known of one that names a channel, and that no two channels of a table are named by one.
+-- Assumes nothing.
+use mathlib.Core.Path.{_≡_, refl, sym, ap, _∙_, subst}
+use mathlib.Core.Bool.{Bool, true, false, true≢false, _&&_}
+use mathlib.Core.List.{List, []}
+use Prim.Native.Nat.{ℕ, _<_}
+use borrow.Author.Tests.{eqb-true, eq-eqb}
+use lib.Dec.{eqb}
+use lib.ListN.{length}
+use Rattle.laws.specs.Choice.{if_then_else_}
+use Rattle.laws.proofs.Choice.{both}
+use Rattle.packet.specs.declared.fields.Fields.{Fields}
+use Rattle.packet.specs.Layout.{fieldsAt, lengthAt, payloadAt}
+use Rattle.packet.specs.Tests.{short, damaged, lacking, strange}
+use Rattle.packet_read.specs.declared.reading.Read.{Read}
+use Rattle.packet_read.specs.declared.reading.Read.the-variants.{Found, Short, Damaged, Strange, Lacking}
+use Rattle.packet_read.specs.Reading.{readOf}
+use Rattle.channel.specs.declared.record.Node.{Node}
+use Rattle.channel.specs.declared.record.Addresses.{Addresses}
+use Rattle.channel.specs.declared.answer.Answer.{Answer}
+use Rattle.channel.specs.declared.answer.Answer.the-variants.{Refused}
+use Rattle.channel.specs.declared.answer.Refusal.{Refusal}
+use Rattle.channel.specs.declared.answer.Refusal.the-variants as refusal
+use Rattle.channel.specs.Answers.{numberOf, refusalNumber}
+use Rattle.channel.specs.Settings.{clash}
+use Rattle.table.specs.Looking.{looksFor, same}
+use Rattle.arriving_look.specs.Finding.{isOurs}
+use Rattle.arriving_look.proofs.FindLaws.{Read-well}
+use Rattle.delivery.specs.Calls.{End, channelOf}
+use Rattle.delivery.specs.History.{namesBy, names}
+
+-- ---- a packet that names the channel
+
+pub record Named (node : Node) (a : Addresses) (packet : List ℕ) : Type 0 where
+  pub well : Read-well packet
+  pub ours : isOurs node (fieldsAt packet) ≡ true
+  pub same : same a (fieldsAt packet) ≡ true
+
+-- by the reader's tests, in its order
+named-by : (node : Node) (a : Addresses) (packet : List ℕ) (b1 b2 b3 b4 : Bool)
+    → short packet ≡ b1 → damaged packet ≡ b2 → lacking (fieldsAt packet) ≡ b3 → strange (fieldsAt packet) (lengthAt packet) ≡ b4
+    → namesBy
+    (if b1 then Short else if b2 then Damaged else if b3 then Lacking else if b4 then Strange
+    else Found (fieldsAt packet) (payloadAt (fieldsAt packet)) (lengthAt packet)) node a ≡ true
+    → Named node a packet
+named-by node a packet true b2 b3 b4 e1 e2 e3 e4 n = absurd (true≢false (sym n))
+named-by node a packet false true b3 b4 e1 e2 e3 e4 n = absurd (true≢false (sym n))
+named-by node a packet false false true b4 e1 e2 e3 e4 n = absurd (true≢false (sym n))
+named-by node a packet false false false true e1 e2 e3 e4 n = absurd (true≢false (sym n))
+named-by node a packet false false false false e1 e2 e3 e4 n =
+    let p = both (isOurs node (fieldsAt packet)) (same a (fieldsAt packet)) n in
+    record { well = record { short = e1; damaged = e2; lacking = e3; strange = e4 }; ours = p .0; same = p .1 }
+
+pub named-is : (e : End) (packet : List ℕ) → names e packet ≡ true → Named (e .node) (channelOf e .addresses) packet
+unfolding readOf
+named-is e packet n =
+    named-by (e .node) (channelOf e .addresses) packet (short packet) (damaged packet) (lacking (fieldsAt packet)) (strange (fieldsAt packet) (lengthAt packet)) refl refl refl refl n
+
+pub names-nothing : (e : End) → names e [] ≡ false
+unfolding readOf short
+names-nothing e = refl
+
+-- ---- what two channels would have in common
+
+pub same-clash : (a b : Addresses) (f : Fields) → same a f ≡ true → same b f ≡ true → clash a b ≡ true
+unfolding same clash
+same-clash a b f p q =
+    let p1 = both (eqb (a .channel) (f .channel) && eqb (a .remote) (f .source)) (eqb (a .direction) (looksFor (f .kind))) p in
+    let q1 = both (eqb (b .channel) (f .channel) && eqb (b .remote) (f .source)) (eqb (b .direction) (looksFor (f .kind))) q in
+    let p2 = both (eqb (a .channel) (f .channel)) (eqb (a .remote) (f .source)) (p1 .0) in
+    let q2 = both (eqb (b .channel) (f .channel)) (eqb (b .remote) (f .source)) (q1 .0) in
+    let x = eq-eqb (a .channel) (b .channel) (eqb-true (a .channel) (f .channel) (p2 .0) ∙ sym (eqb-true (b .channel) (f .channel) (q2 .0))) in
+    let y = eq-eqb (a .remote) (b .remote) (eqb-true (a .remote) (f .source) (p2 .1) ∙ sym (eqb-true (b .remote) (f .source) (q2 .1))) in
+    let z = eq-eqb (a .direction) (b .direction) (eqb-true (a .direction) (looksFor (f .kind)) (p1 .1) ∙ sym (eqb-true (b .direction) (looksFor (f .kind)) (q1 .1))) in
+    simp (x, y, z)
+
+pub equal-clash : (a b : Addresses) → a .channel ≡ b .channel → a .remote ≡ b .remote → a .direction ≡ b .direction → clash a b ≡ true
+unfolding clash
+equal-clash a b p q r = simp (eq-eqb (a .channel) (b .channel) p, eq-eqb (a .remote) (b .remote) q, eq-eqb (a .direction) (b .direction) r)
+
+-- ---- a refusal is not 0
+
+pub refused-not-done : (why : Refusal) → eqb (numberOf (Refused why)) 0 ≡ false
+refused-not-done refusal.Short = refl
+refused-not-done refusal.Damaged = refl
+refused-not-done refusal.Strange = refl
+refused-not-done refusal.Lacking = refl
+refused-not-done refusal.State = refl
+refused-not-done refusal.Long = refl
+refused-not-done refusal.NoRoom = refl
+refused-not-done refusal.Full = refl
+refused-not-done refusal.Untaken = refl
+refused-not-done refusal.Small = refl
+refused-not-done refusal.Nothing = refl
+refused-not-done refusal.Settings = refl
+refused-not-done refusal.NoChannel = refl
+refused-not-done refusal.Ignored = refl

@@ -1,0 +1,199 @@
+-- What an arrival writes: nothing, or one Ack of the channel that it served, which is read back as it was written.
+-- Assumes nothing.
+use mathlib.Core.Path.{_≡_, refl, sym, ap, subst}
+use mathlib.Core.Bool.{Bool, true, false, not, _&&_, _||_}
+use mathlib.Core.List.{List, [], _++_}
+use mathlib.Core.Logic.{_⊎_, inl, inr, ⊎-elim}
+use Prim.Native.Nat.{ℕ, _≤_, _<_}
+use borrow.Author.Tests.{eqb-true, eqb-false, eq-eqb}
+use lib.Dec.{eqb}
+use lib.ListN.{length, take, drop}
+use Rattle.laws.specs.Choice.{if_then_else_}
+use Rattle.laws.proofs.Choice.{both}
+use Rattle.packet.specs.declared.fields.Fields.{Fields}
+use Rattle.packet.specs.Layout.{packetOf, fieldsAt, lengthAt}
+use Rattle.packet.specs.Tests.{lacking, strange}
+use Rattle.packet.specs.Writing.{afterWrite}
+use Rattle.packet.proofs.WriteLaws.{write-done}
+use Rattle.packet_read.specs.declared.reading.Read.the-variants.{Found}
+use Rattle.packet_read.specs.Reading.{readOf}
+use Rattle.packet_read.proofs.ReadLaws.{accepted}
+use Rattle.packet_read.proofs.RoundTrip.{written-then-read}
+use Rattle.walks.specs.Serving.{Worked, works}
+use Rattle.channel.specs.declared.record.Node.{Node}
+use Rattle.channel.specs.declared.record.Addresses.{Addresses}
+use Rattle.channel.specs.declared.record.Channel.{Channel}
+use Rattle.channel.specs.declared.answer.Answer.{Answer}
+use Rattle.channel.specs.declared.answer.Answer.the-variants.{Done, Repeated, Inactive, Refused}
+use Rattle.channel.specs.declared.answer.Refusal.the-variants as refusal
+use Rattle.channel.specs.declared.step.Stepped.{Stepped}
+use Rattle.channel.specs.Record.{sends, receives, enabled, opened, closing}
+use Rattle.channel.specs.Answers.{lengthOf}
+use Rattle.channel.specs.Steps.{refusing, doing, outgoingOf}
+use Rattle.channel.specs.Lone.{isOut}
+use Rattle.sender_acks.specs.Acks.{controlAcked, controlAckStep, awayOf, isAwaited, recorded, confirmedAt, advanced, dataAckStep}
+use Rattle.receiver.specs.Receiving.{ackKind, controlStep}
+use Rattle.receiver_data.specs.Data.{dataStep}
+use Rattle.receiver_keeps.proofs.Cases.{control-cases, data-cases, accept-cases}
+use Rattle.table.specs.Looking.{same, graded}
+use Rattle.steps_arriving.specs.Arriving.{arriveBy, payloadIn, arrivalFor, Framed}
+use Rattle.arriving_look.specs.Finding.{isOurs, lookOf}
+use Rattle.arriving_data.specs.Data.{unfit}
+use Rattle.arriving_reply.specs.Replying.{repliedBy}
+use Rattle.steps_arriving.proofs.ArriveLaws.{framed, data-receives, by-unfit, by-data, by-data-ack, by-control-ack, by-control}
+use Rattle.arriving_look.proofs.FindLaws.{found-packet}
+use Rattle.node_keeps.specs.Keeping.{Given}
+
+-- ---- a receiver's steps: with 0 and 15 they have an Ack's octets written
+
+abbrev pub Twelve : Answer → Type 0
+Twelve (Done n u) = n ≡ 12
+Twelve (Repeated n) = n ≡ 12
+Twelve (Inactive why) = Unit {0}
+Twelve (Refused why) = Unit {0}
+
+pub data-twelve : (c : Channel) (number flags : ℕ) → Twelve (dataStep c number flags .answer)
+data-twelve c number flags =
+    data-cases c number flags [] [] [] (λ (s : Stepped) (m l : List ℕ). Twelve (s .answer)) tt tt refl tt
+    (λ room. accept-cases c _ flags (λ (s : Stepped). Twelve (s .answer)) tt refl)
+
+pub control-twelve : (c : Channel) (opens : Bool) (number : ℕ) → Twelve (controlStep c opens number .answer)
+control-twelve c opens number = control-cases c (λ (s : Stepped). Twelve (s .answer)) tt refl opens number refl refl tt tt
+
+-- a sender's steps have none
+data-ack-silent : (c : Channel) (number : ℕ) → lengthOf (dataAckStep c number .answer) ≡ 0
+unfolding dataAckStep
+data-ack-silent c number = go (not (eqb (c .state) opened)) (not (isAwaited c (awayOf c number)))
+  where
+    go : (a b : Bool)
+        → lengthOf
+        ((if a then refusing c refusal.State else if b then refusing c refusal.Ignored
+        else record { channel = advanced (recorded c (awayOf c number)); answer = Done 0 (confirmedAt (recorded c (awayOf c number))) }) .answer) ≡ 0
+    go true b = refl
+    go false true = refl
+    go false false = refl
+
+control-ack-silent : (c : Channel) (number : ℕ) → lengthOf (controlAckStep c number .answer) ≡ 0
+unfolding controlAckStep
+control-ack-silent c number = go (not (eqb (c .state) enabled || eqb (c .state) closing)) (not (eqb number 0)) (not (isOut (c .control)))
+  where
+    go : (a b d : Bool)
+        → lengthOf
+        ((if a then refusing c refusal.State else if b then refusing c refusal.Ignored else if d then refusing c refusal.Ignored
+        else doing (controlAcked c) 0) .answer) ≡ 0
+    go true b d = refl
+    go false true d = refl
+    go false false true = refl
+    go false false false = refl
+
+-- ---- an Ack, read back
+
+pub record Acks (node : Node) (a : Addresses) (kind number : ℕ) (packet : List ℕ) : Type 0 where
+  pub read : readOf packet ≡ Found (outgoingOf node a kind 3 number) 10 0
+  pub fields : fieldsAt packet ≡ outgoingOf node a kind 3 number
+
+module _ (node : Node) (a : Addresses) (number : ℕ) where
+  ack-plain : (ofData : Bool) → (lacking (outgoingOf node a (ackKind ofData) 3 number) ≡ false) × (strange (outgoingOf node a (ackKind ofData) 3 number) 0 ≡ false)
+  unfolding lacking strange
+  ack-plain true = (refl, refl)
+  ack-plain false = (refl, refl)
+
+  module _ (ofData : Bool) (out : List ℕ) (room : 12 ≤ length out) where
+    abbrev f : Fields
+    f = outgoingOf node a (ackKind ofData) 3 number
+
+    pub ack-written : Acks node a (ackKind ofData) number (take 12 (packetOf f [] ++ drop 12 out))
+    unfolding afterWrite
+    ack-written =
+        let plain = ack-plain ofData in
+        let r = written-then-read f [] out 12 (write-done f 0 (length out) (plain .0) (plain .1) room) in
+        record { read = r .answer; fields = accepted _ f 10 0 (r .answer) .fields }
+
+    -- what is written by an answer: nothing, or the Ack
+    pub reply-written : (r : Answer) → Twelve r
+        → (take (lengthOf r) (repliedBy r node a ofData number out) ≡ []) ⊎ Acks node a (ackKind ofData) number (take (lengthOf r) (repliedBy r node a ofData number out))
+    reply-written (Done n u) e = inr (subst (λ (k : ℕ). Acks node a (ackKind ofData) number (take k (packetOf f [] ++ drop 12 out))) (sym e) ack-written)
+    reply-written (Repeated n) e = inr (subst (λ (k : ℕ). Acks node a (ackKind ofData) number (take k (packetOf f [] ++ drop 12 out))) (sym e) ack-written)
+    reply-written (Inactive why) e = inl refl
+    reply-written (Refused why) e = inl refl
+
+-- ---- whom a Data Ack names
+
+module _ (node other : Node) (a b : Addresses) (number : ℕ) where
+  abbrev g : Fields
+  g = outgoingOf node a 1 3 number
+
+  pub ack-named : isOurs other g ≡ true → same b g ≡ true → (a .remote ≡ other .address) × (b .channel ≡ a .channel)
+  unfolding isOurs same
+  ack-named ours is =
+      let p = both (eqb (g .destination) (other .address)) (eqb (g .protocol) (other .protocol)) ours in
+      let q = both (eqb (b .channel) (g .channel) && eqb (b .remote) (g .source)) (eqb (b .direction) sends) is in
+      let q2 = both (eqb (b .channel) (g .channel)) (eqb (b .remote) (g .source)) (q .0) in
+      (eqb-true (a .remote) (other .address) (p .0), eqb-true (b .channel) (a .channel) (q2 .0))
+
+  pub ack-names : a .remote ≡ other .address → node .protocol ≡ other .protocol → b .channel ≡ a .channel → b .remote ≡ node .address → b .direction ≡ sends
+      → (isOurs other g && same b g) ≡ true
+  unfolding isOurs same
+  ack-names e1 e2 e3 e4 e5 =
+      simp (eq-eqb (a .remote) (other .address) e1, eq-eqb (node .protocol) (other .protocol) e2, eq-eqb (b .channel) (a .channel) e3, eq-eqb (b .remote) (node .address) e4, eq-eqb (b .direction) sends e5)
+
+-- ---- what an arrival writes at the channel that it is for
+
+module _ (node : Node) (packet out : List ℕ) (at rank : ℕ) (c : Channel) (mem lens : List ℕ) (given : Given (lookOf node packet (length out)) at rank c mem lens) where
+  suits : graded (lookOf node packet (length out)) at c < 3
+  suits = subst (λ (k : ℕ). k < 3) (given .suits) (given .found)
+
+  pub arrival-framed : Framed c (fieldsAt packet) (lengthAt packet) packet out
+  arrival-framed =
+      framed node packet out at c (lookOf node packet (length out)) (fieldsAt packet) (lengthAt packet) refl suits
+      (found-packet node packet (length out) at c suits .3)
+
+  abbrev n : ℕ
+  n = fieldsAt packet .number
+
+  abbrev Wrote : Worked Stepped → Type 0
+  Wrote v =
+      (take (lengthOf (v .made .answer)) (v .out) ≡ [])
+      ⊎ (Acks node (c .addresses) 7 n (take (lengthOf (v .made .answer)) (v .out)))
+      ⊎ ((c .addresses .direction ≡ receives) × Acks node (c .addresses) 1 n (take (lengthOf (v .made .answer)) (v .out)))
+
+  pub arrival-wrote : Wrote (arrivalFor node packet c rank mem lens out)
+  unfolding arrivalFor
+  arrival-wrote = by-fit (unfit c f x) refl
+    where
+      f : Fields
+      f = fieldsAt packet
+
+      x : ℕ
+      x = lengthAt packet
+
+      p : List ℕ
+      p = payloadIn packet
+
+      told : Framed c f x packet out
+      told = arrival-framed
+
+      silent : (s : Stepped) → lengthOf (s .answer) ≡ 0 → Wrote (works s mem lens out)
+      silent s e = inl (ap (λ (k : ℕ). take k out) e)
+
+      by-kind : unfit c f x ≡ false → (a : Bool) → eqb (f .kind) 0 ≡ a → (b : Bool) → eqb (f .kind) 1 ≡ b → (d : Bool) → eqb (f .kind) 7 ≡ d
+          → Wrote (arriveBy node f x p c rank mem lens out)
+      by-kind fit true k b k1 d k7 =
+          let kind = eqb-true (f .kind) 0 k in
+          subst Wrote (sym (by-data node f x p c rank mem lens out fit kind))
+          (⊎-elim (λ e. inl e) (λ e. inr (inr (data-receives (c .addresses) f (told .ours) kind, e)))
+          (reply-written node (c .addresses) n true out (told .room) (dataStep c n (f .flags) .answer) (data-twelve c n (f .flags))))
+      by-kind fit false k true k1 d k7 =
+          subst Wrote (sym (by-data-ack node f x p c rank mem lens out fit (eqb-false (f .kind) 0 k) (eqb-true (f .kind) 1 k1)))
+          (silent (dataAckStep c n) (data-ack-silent c n))
+      by-kind fit false k false k1 true k7 =
+          subst Wrote (sym (by-control-ack node f x p c rank mem lens out fit (eqb-false (f .kind) 0 k) (eqb-false (f .kind) 1 k1) (eqb-true (f .kind) 7 k7)))
+          (silent (controlAckStep c n) (control-ack-silent c n))
+      by-kind fit false k false k1 false k7 =
+          subst Wrote (sym (by-control node f x p c rank mem lens out fit (eqb-false (f .kind) 0 k) (eqb-false (f .kind) 1 k1) (eqb-false (f .kind) 7 k7)))
+          (⊎-elim (λ e. inl e) (λ e. inr (inl e))
+          (reply-written node (c .addresses) n false out (told .room) (controlStep c (eqb (f .kind) 2) n .answer) (control-twelve c (eqb (f .kind) 2) n)))
+
+      by-fit : (b : Bool) → unfit c f x ≡ b → Wrote (arriveBy node f x p c rank mem lens out)
+      by-fit true e = subst Wrote (sym (by-unfit node f x p c rank mem lens out e)) (inl refl)
+      by-fit false e = by-kind e (eqb (f .kind) 0) refl (eqb (f .kind) 1) refl (eqb (f .kind) 7) refl

@@ -1,0 +1,201 @@
+-- An arrival at the subscriber: Data for its channel is an arrival at the protocol's receiver, with the same Data Ack; a Control packet is a move
+-- to a later phase, or nothing; and what is for another channel changes nothing here, and has no Data Ack for the host.
+-- Assumes nothing.
+use mathlib.Core.Path.{_≡_, refl, sym, ap, _∙_, subst}
+use mathlib.Core.Bool.{Bool, true, false, true≢false, _&&_, _||_}
+use mathlib.Core.List.{List, []}
+use mathlib.Core.Logic.{_⊎_, ⊎-elim}
+use Prim.Native.Nat.{ℕ, _≤_, _<_}
+use native.Mathlib.Omega.{arith}
+use borrow.Author.Tests.{eqb-true, eqb-false}
+use lib.Dec.{eqb}
+use lib.ListN.{length, take, drop, length-take}
+use Rattle.laws.proofs.Choice.{both, neither, chosen}
+use Rattle.packet.specs.declared.fields.Fields.{Fields}
+use Rattle.packet.specs.Layout.{fieldsAt, lengthAt, payloadAt}
+use Rattle.packet_read.specs.declared.reading.Read.{Read}
+use Rattle.packet_read.proofs.ReadLaws.{read-found}
+use Rattle.walks.specs.Serving.{Worked}
+use Rattle.channel.specs.declared.record.Addresses.{Addresses}
+use Rattle.channel.specs.declared.record.Channel.{Channel}
+use Rattle.channel.specs.declared.answer.Answer.{Answer}
+use Rattle.channel.specs.declared.answer.Answer.the-variants.{Refused}
+use Rattle.channel.specs.declared.answer.Refusal.the-variants as refusal
+use Rattle.channel.specs.declared.step.Stepped.{Stepped}
+use Rattle.channel.specs.Record.{sends, receives}
+use Rattle.channel.specs.Answers.{lengthOf}
+use Rattle.channel.specs.Settings.{clash}
+use Rattle.receiver.specs.Receiving.{controlStep}
+use Rattle.table.specs.declared.looking.Look.{Look}
+use Rattle.table.specs.Looking.{looksFor, same, chosen as choice}
+use Rattle.table.specs.Serving.{recordAt, ownMem, ownLens}
+use Rattle.steps_arriving.specs.Arriving.{arriveBy, payloadIn, arrivalFor, Framed}
+use Rattle.arriving_look.specs.Finding.{isOurs, lookOf}
+use Rattle.arriving_data.specs.Data.{unfit}
+use Rattle.arriving_reply.specs.Replying.{repliedBy}
+use Rattle.steps_arriving.proofs.ArriveLaws.{by-unfit, by-data, by-control}
+use Rattle.arriving_look.proofs.FindLaws.{Read-well, found-packet}
+use Rattle.arriving_data.proofs.DataLaws.{fit-payload}
+use Rattle.node_keeps.specs.Keeping.{Given}
+use Rattle.node_keeps.proofs.StepsKeep.{arrival-keeps}
+use Rattle.node_keeps.proofs.CallsAlone.{shapes}
+use Rattle.protocol.specs.Sending.{Sender}
+use Rattle.protocol.specs.Receiving.{Receiver}
+use Rattle.receiver_means.proofs.Control.{control-receives}
+use Rattle.delivery.specs.Calls.{End, arrives, Request, channelOf, calledBy}
+use Rattle.delivery.specs.History.{Event, namesBy, names, kindOf, HandedOut}
+use Rattle.delivery.specs.Delivery.{NotLate}
+use Rattle.delivery.proofs.Own.{Seen, Left, own-cases}
+use Rattle.delivery.proofs.Nodes.{endWith, same-length, same-addresses}
+use Rattle.delivery.proofs.Packets.{named-is, equal-clash}
+use Rattle.delivery.proofs.Replies.{control-twelve, Acks, reply-written, ack-named, arrival-framed, arrival-wrote}
+use Rattle.delivery.proofs.SubscriberData.{data-next}
+use Rattle.delivery.proofs.SubscriberEnd.{Stage, below, addresses-are, receiving, not-sending, asked, Next, Unreplied, unwritten, quiet, moves-next}
+
+-- ---- small facts
+
+both-true : (a b : Bool) → a ≡ true → b ≡ true → (a && b) ≡ true
+both-true a b p q = simp (p, q)
+
+-- Acks look for a sender
+ack-sends : (a : Addresses) (f : Fields) → same a f ≡ true → (eqb (f .kind) 1 || eqb (f .kind) 7) ≡ true → a .direction ≡ sends
+unfolding same
+ack-sends a f e k =
+    eqb-true (a .direction) (looksFor (f .kind)) (both (eqb (a .channel) (f .channel) && eqb (a .remote) (f .source)) (eqb (a .direction) (looksFor (f .kind))) e .1)
+    ∙ chosen (eqb (f .kind) 1 || eqb (f .kind) 7) sends receives k
+
+-- ---- the arrival
+
+module _ {h s : End} {past : List Event} {x : Sender} {y : Receiver} {t : List Channel} {mem lens : List ℕ} {n : ℕ} (w : Stage h s past x y t mem lens n)
+    (channel : ℕ) (packet buffer : List ℕ) (copy : ℕ) where
+  abbrev i : ℕ
+  i = s .index
+
+  abbrev c : Channel
+  c = recordAt t (s .index)
+
+  abbrev m : List ℕ
+  m = ownMem t (s .index) mem
+
+  abbrev l : List ℕ
+  l = ownLens t (s .index) lens
+
+  abbrev f : Fields
+  f = fieldsAt packet
+
+  abbrev count : ℕ
+  count = lengthAt packet
+
+  abbrev p : List ℕ
+  p = payloadIn packet
+
+  abbrev look : Look
+  look = lookOf (s .node) packet (length buffer)
+
+  abbrev request : Request
+  request = record { kind = arrives; channel = channel; octets = packet; buffer = buffer }
+
+  -- ---- what is no Data Ack for the host
+
+  arrives-quiet : (a : Answer) (o : List ℕ) → Unreplied w request copy a o → Next w request copy a o c m l
+  arrives-quiet a o u = quiet w request copy a o refl refl u
+
+  control-written : (a : Answer) (o : List ℕ) (d : Addresses) (number : ℕ) → Acks (s .node) d 7 number (take (lengthOf a) o) → Unreplied w request copy a o
+  control-written a o d number k q is wrote named kind =
+      let seven : kindOf q ≡ 7 = ap kindOf (sym wrote) ∙ ap (λ (g : Fields). g .kind) (k .fields) in
+      omega (arith, seven, kind)
+
+  -- of another channel: it would have the addresses of this one
+  other-written : (j : ℕ) → j < length t → (j ≡ i → ⊥) → (a : Answer) (o : List ℕ) (number : ℕ)
+      → recordAt t j .addresses .direction ≡ receives
+      → Acks (s .node) (recordAt t j .addresses) 1 number (take (lengthOf a) o)
+      → Unreplied w request copy a o
+  other-written j there apart a o number direction k q is wrote named kind =
+      let d : Addresses = recordAt t j .addresses in
+      let begun : d ≡ recordAt (s .table) j .addresses = same-addresses s t mem lens (w .now .kept) j in
+      let is-named = named-is h (take (lengthOf a) o) (ap (names h) wrote ∙ named) in
+      let z = ack-named (s .node) (h .node) d (channelOf h .addresses) number
+      (subst (λ (g : Fields). isOurs (h .node) g ≡ true) (k .fields) (is-named .ours))
+      (subst (λ (g : Fields). same (channelOf h .addresses) g ≡ true) (k .fields) (is-named .same))
+      in
+      let equal : clash d (channelOf s .addresses) ≡ true
+      = equal-clash d (channelOf s .addresses) (sym (z .1) ∙ w .alike .number) (z .0 ∙ sym (w .alike .to-host)) (direction ∙ sym (w .alike .receives))
+      in
+      true≢false
+      (sym equal ∙ ap (λ (b : Addresses). clash b (channelOf s .addresses)) begun
+      ∙ w .beginning .alone j (subst (λ (k : ℕ). j < k) (same-length s t mem lens (w .now .kept)) there) apart)
+
+  elsewhere : (j : ℕ) → j < length t → (j ≡ i → ⊥)
+      → Given look j (choice look t .rank) (recordAt t j) (ownMem t j mem) (ownLens t j lens)
+      → (v : Worked Stepped) → arrivalFor (s .node) packet (recordAt t j) (choice look t .rank) (ownMem t j mem) (ownLens t j lens) buffer ≡ v
+      → Next w request copy (v .made .answer) (v .out) c m l
+  elsewhere j there apart g v e =
+      arrives-quiet (v .made .answer) (v .out)
+      (⊎-elim (λ z. unwritten w request copy (v .made .answer) (v .out) z)
+      (λ z. ⊎-elim
+      (λ k. control-written (v .made .answer) (v .out) (recordAt t j .addresses) (f .number) k)
+      (λ k. other-written j there apart (v .made .answer) (v .out) (f .number) (k .0) (k .1)) z)
+      (subst (λ (u : Worked Stepped).
+      (take (lengthOf (u .made .answer)) (u .out) ≡ [])
+      ⊎ (Acks (s .node) (recordAt t j .addresses) 7 (f .number) (take (lengthOf (u .made .answer)) (u .out)))
+      ⊎ ((recordAt t j .addresses .direction ≡ receives) × Acks (s .node) (recordAt t j .addresses) 1 (f .number) (take (lengthOf (u .made .answer)) (u .out)))) e
+      (arrival-wrote (s .node) packet buffer j (choice look t .rank) (recordAt t j) (ownMem t j mem) (ownLens t j lens) g)))
+
+  -- ---- at the channel itself
+
+  module _ (fair : names s packet ≡ true → HandedOut past copy packet × (kindOf packet ≡ 0 → NotLate (endWith s t mem lens n) copy))
+      (rank : ℕ) (g : Given look i rank c m l) where
+    told : Framed c f count packet buffer
+    told = arrival-framed (s .node) packet buffer i rank c m l g
+
+    for-us : names s packet ≡ true
+    for-us =
+        let q = found-packet (s .node) packet (length buffer) i c (subst (λ (k : ℕ). k < 3) (g .suits) (g .found)) in
+        let r : Read-well packet = q .1 in
+        ap (λ (k : Read). namesBy k (s .node) (channelOf s .addresses)) (read-found packet (r .short) (r .damaged) (r .lacking) (r .strange))
+        ∙ both-true (isOurs (s .node) f) (same (channelOf s .addresses) f) (q .2) (ap (λ (a : Addresses). same a f) (sym (addresses-are w)) ∙ told .ours)
+
+    short-payload : unfit c f count ≡ false → f .kind ≡ 0 → length p ≤ c .limits .payload
+    short-payload fit kind = omega (arith, fit-payload c f count fit kind, length-take count (drop (payloadAt f) packet))
+
+    abbrev Made : Worked Stepped → Type 0
+    Made v = Left (Next w request copy) v
+
+    by-kind : unfit c f count ≡ false → (a : Bool) → eqb (f .kind) 0 ≡ a → (b : Bool) → (eqb (f .kind) 1 || eqb (f .kind) 7) ≡ b
+        → Made (arriveBy (s .node) f count p c rank m l buffer)
+    by-kind fit true k b k17 =
+        let kind : f .kind ≡ 0 = eqb-true (f .kind) 0 k in
+        let q = fair for-us in
+        subst Made (sym (by-data (s .node) f count p c rank m l buffer fit kind))
+        (data-next w channel packet buffer copy for-us kind (q .0) (q .1 kind) (told .room) (told .flags) (short-payload fit kind))
+    by-kind fit false k true k17 = absurd (not-sending w (ack-sends (c .addresses) f (told .ours) k17))
+    by-kind fit false k false k17 =
+        let other = neither (eqb (f .kind) 1) (eqb (f .kind) 7) k17 in
+        let opens : Bool = eqb (f .kind) 2 in
+        let step : Stepped = controlStep c opens (f .number) in
+        let out : List ℕ = repliedBy (step .answer) (s .node) (c .addresses) false (f .number) buffer in
+        subst Made (sym (by-control (s .node) f count p c rank m l buffer fit (eqb-false (f .kind) 0 k) (eqb-false (f .kind) 1 (other .0)) (eqb-false (f .kind) 7 (other .1))))
+        (moves-next w request copy (step .answer) out refl refl
+        (⊎-elim (λ e. unwritten w request copy (step .answer) out e) (λ e. control-written (step .answer) out (c .addresses) (f .number) e)
+        (reply-written (s .node) (c .addresses) (f .number) false buffer (told .room) (step .answer) (control-twelve c opens (f .number))))
+        (step .channel) (control-receives c m l y (asked w) (receiving w) (w .now .means) opens (f .number)))
+
+    by-fit : (b : Bool) → unfit c f count ≡ b → Made (arriveBy (s .node) f count p c rank m l buffer)
+    by-fit true e =
+        subst Made (sym (by-unfit (s .node) f count p c rank m l buffer e))
+        (arrives-quiet (Refused refusal.Strange) buffer (unwritten w request copy (Refused refusal.Strange) buffer refl))
+    by-fit false e = by-kind e (eqb (f .kind) 0) refl (eqb (f .kind) 1 || eqb (f .kind) 7) refl
+
+    own-arrival : Made (arrivalFor (s .node) packet c rank m l buffer)
+    unfolding arrivalFor
+    own-arrival = by-fit (unfit c f count) refl
+
+  pub subscriber-arrives : (names s packet ≡ true → HandedOut past copy packet × (kindOf packet ≡ 0 → NotLate (endWith s t mem lens n) copy))
+      → Seen (Next w request copy) i (calledBy arrives (endWith s t mem lens n) request)
+  subscriber-arrives fair =
+      own-cases look (arrivalFor (s .node) packet) t mem lens buffer (shapes look (arrivalFor (s .node) packet) buffer (arrival-keeps (s .node) packet buffer)) i (below w)
+      (Next w request copy)
+      (λ why. arrives-quiet (Refused why) buffer (unwritten w request copy (Refused why) buffer refl))
+      (λ j there apart at g.
+      elsewhere j there apart g (arrivalFor (s .node) packet (recordAt t j) (choice look t .rank) (ownMem t j mem) (ownLens t j lens) buffer) refl)
+      (λ at g. own-arrival fair (choice look t .rank) g)

@@ -1,0 +1,183 @@
+-- Requests at the subscriber but for takes, and the call for a packet. An Open directive begins the opening, and all others leave a receiving
+-- record as it was.
+-- Assumes nothing.
+use mathlib.Core.Path.{_≡_, refl, sym, ap, _∙_, subst}
+use mathlib.Core.Bool.{Bool, true, false, true≢false}
+use mathlib.Core.List.{List, []}
+use Prim.Native.Nat.{ℕ}
+use native.Mathlib.Omega.{arith}
+use borrow.Author.Tests.{ne-eqb}
+use lib.Dec.{eqb, ltb}
+use Rattle.laws.proofs.Choice.{chosen, passed-by}
+use Rattle.walks.specs.Serving.{works}
+use Rattle.channel.specs.declared.record.Channel.{Channel}
+use Rattle.channel.specs.declared.answer.Answer.{Answer}
+use Rattle.channel.specs.declared.answer.Answer.the-variants.{Done, Refused}
+use Rattle.channel.specs.declared.answer.Refusal.{Refusal}
+use Rattle.channel.specs.declared.answer.Refusal.the-variants as refusal
+use Rattle.channel.specs.declared.step.Stepped.{Stepped}
+use Rattle.channel.specs.Record.{sends, noLone}
+use Rattle.channel.specs.Steps.{refusing, doing, enabledOf}
+use Rattle.receiver.specs.Receiving.{openStep}
+use Rattle.receiver_keeps.proofs.Cases.{open-cases}
+use Rattle.table.specs.declared.looking.Look.{Look}
+use Rattle.table.specs.declared.looking.Look.the-variants.{Index, Ready}
+use Rattle.table.specs.Looking.{chosen as choice}
+use Rattle.table.specs.Serving.{recordAt, ownMem, ownLens, Step, serveOne, alone}
+use Rattle.steps.specs.Requests.{openedBy, closedBy, transferFor, reclaimFor}
+use Rattle.steps_handing.specs.Handing.{nextFor}
+use Rattle.steps.proofs.RequestLaws.{opened-receives, closed-receives}
+use Rattle.steps_handing.proofs.HandLaws.{ready-is}
+use Rattle.node_keeps.specs.Keeping.{Given}
+use Rattle.node_keeps.proofs.StepsKeep.{open-keeps, close-keeps, reclaim-keeps, next-keeps}
+use Rattle.node_keeps.proofs.CallsAlone.{shapes, transfer-shapes, alone-called}
+use Rattle.node_keeps.proofs.Alone.{Shapes, index-served}
+use Rattle.protocol.specs.Ends.{fresh, rank}
+use Rattle.protocol.specs.Sending.{Sender}
+use Rattle.protocol.specs.Receiving.{Receiver, ReceiverCall, startOf, controlled}
+use Rattle.receiver_means.proofs.Control.{Opens, open-receives}
+use Rattle.delivery.specs.Calls.{End, Kind, opens, closes, transfers, reclaims, hands, Request, calledBy}
+use Rattle.delivery.specs.History.{subscriber, Event, granted, openings}
+use Rattle.delivery.proofs.Own.{View, Seen, Left, own-cases}
+use Rattle.delivery.proofs.Nodes.{endWith}
+use Rattle.delivery.proofs.Counting.{counted-same}
+use Rattle.delivery.proofs.Packets.{refused-not-done}
+use Rattle.delivery.proofs.SubscriberFrame.{subscriberEvent, subscriber-next, no-reply}
+use Rattle.delivery.proofs.SubscriberEnd.{unanswered, for-another, granted-is, Stage, below, receiving, not-sending, asked, small, Next, quiet}
+
+-- ---- a request that is served at another channel than the one with index i is not for that one
+
+pub other-index : (index j i : ℕ) (rank : ℕ) (c : Channel) (mem lens : List ℕ) → (j ≡ i → ⊥) → Given (Index index) j rank c mem lens → eqb index i ≡ false
+other-index index j i rank c mem lens apart g = ne-eqb index i (λ e. apart (index-served index j rank c mem lens g ∙ e))
+
+-- ---- what a receiving record does
+
+module _ (c : Channel) (rank : ℕ) (mem lens out : List ℕ) (other : c .addresses .direction ≡ sends → ⊥) where
+  transfer-refused : (unit : List ℕ) → transferFor unit c rank mem lens out ≡ works (refusing c refusal.State) mem lens out
+  unfolding transferFor
+  transfer-refused unit = passed-by (eqb (c .addresses .direction) sends) _ _ (ne-eqb (c .addresses .direction) sends other)
+
+  reclaim-refused : reclaimFor c rank mem lens out ≡ works (refusing c refusal.State) mem lens out
+  unfolding reclaimFor
+  reclaim-refused = passed-by (eqb (c .addresses .direction) sends) _ _ (ne-eqb (c .addresses .direction) sends other)
+
+module _ {h s : End} {past : List Event} {x : Sender} {y : Receiver} {t : List Channel} {mem lens : List ℕ} {n : ℕ} (w : Stage h s past x y t mem lens n)
+    (channel : ℕ) (octets buffer : List ℕ) (copy : ℕ) where
+  abbrev i : ℕ
+  i = s .index
+
+  abbrev c : Channel
+  c = recordAt t (s .index)
+
+  abbrev m : List ℕ
+  m = ownMem t (s .index) mem
+
+  abbrev l : List ℕ
+  l = ownLens t (s .index) lens
+
+  abbrev request : Kind → Request
+  request kind = record { kind = kind; channel = channel; octets = octets; buffer = buffer }
+
+  -- what is to be shown of a call
+  abbrev Shown : Kind → Type 0
+  Shown kind = Seen (Next w (request kind) copy) i (calledBy kind (endWith s t mem lens n) (request kind))
+
+  -- ---- a call that leaves a receiving record as it was
+
+  unmoved : (kind : Kind) → ((a : Answer) (o : List ℕ) → Next w (request kind) copy a o c m l)
+      → (look : Look) (step : Step) (out : List ℕ) → Shapes look step out
+      → (Given look i (choice look t .rank) c m l → step c (choice look t .rank) m l out ≡ works (refusing c refusal.State) m l out)
+      → Seen (Next w (request kind) copy) i (serveOne look step t mem lens out)
+  unmoved kind nothing look step out shape refuses =
+      own-cases look step t mem lens out shape i (below w) (Next w (request kind) copy)
+      (λ why. nothing (Refused why) out)
+      (λ j there apart at g. nothing _ _)
+      (λ at g. subst (Left (Next w (request kind) copy)) (sym (refuses g)) (nothing (Refused refusal.State) out))
+
+  pub subscriber-closes : Shown closes
+  subscriber-closes =
+      subst (Seen (Next w (request closes) copy) i) (alone-called (Index channel) closedBy t mem lens)
+      (unmoved closes (λ a o. quiet w (request closes) copy a o refl refl (λ packet q. absurd (true≢false (sym q))))
+      (Index channel) (alone closedBy) [] (shapes (Index channel) (alone closedBy) [] (close-keeps (Index channel) []))
+      (λ g. ap (λ (z : Stepped). works z m l []) (closed-receives c (not-sending w))))
+
+  pub subscriber-transfers : Shown transfers
+  subscriber-transfers =
+      unmoved transfers (λ a o. quiet w (request transfers) copy a o refl refl (λ packet q. absurd (true≢false (sym q))))
+      (Index channel) (transferFor octets) [] (transfer-shapes (Index channel) octets [])
+      (λ g. transfer-refused c (choice (Index channel) t .rank) m l [] (not-sending w) octets)
+
+  pub subscriber-reclaims : Shown reclaims
+  subscriber-reclaims =
+      unmoved reclaims (λ a o. quiet w (request reclaims) copy a o refl refl (λ packet q. absurd (true≢false (sym q))))
+      (Index channel) reclaimFor buffer (shapes (Index channel) reclaimFor buffer (reclaim-keeps (Index channel) buffer))
+      (λ g. reclaim-refused c (choice (Index channel) t .rank) m l buffer (not-sending w))
+
+  -- a receiver hands out nothing
+  pub subscriber-hands : Shown hands
+  subscriber-hands =
+      unmoved hands (λ a o. quiet w (request hands) copy a o refl refl (λ packet q. absurd (true≢false (sym q))))
+      Ready (nextFor (s .node)) buffer (shapes Ready (nextFor (s .node)) buffer (next-keeps (s .node) buffer))
+      (λ g. absurd (not-sending w (ready-is c (choice Ready t .rank) (g .suits) (g .found) .0)))
+
+  -- ---- the Open directive
+
+  -- the premise on it: the opening is the first
+  abbrev First : View
+  First a o k m2 l2 =
+      (granted subscriber opens i (subscriberEvent (request opens) copy n a o) ≡ true → openings subscriber i past ≡ 0)
+      → Next w (request opens) copy a o k m2 l2
+
+  opens-quiet : (a : Answer) (o : List ℕ) → granted subscriber opens i (subscriberEvent (request opens) copy n a o) ≡ false → Next w (request opens) copy a o c m l
+  opens-quiet a o e = quiet w (request opens) copy a o refl e (λ packet q. absurd (true≢false (sym q)))
+
+  opens-refused : (why : Refusal) (o : List ℕ) → Next w (request opens) copy (Refused why) o c m l
+  opens-refused why o =
+      opens-quiet (Refused why) o (unanswered subscriber opens i (subscriberEvent (request opens) copy n (Refused why) o) (refused-not-done why))
+
+  opens-done : channel ≡ i → openStep c ≡ doing (enabledOf c noLone) 0 → First (Done 0 0) [] (enabledOf c noLone) m l
+  opens-done own e first =
+      subscriber-next h s past x y (w .inv) (w .numbered) (small w) (request opens) copy n (Done 0 0) [] call tt refl
+      (no-reply h s past x y (w .inv) (w .numbered) (small w) (request opens) copy n (Done 0 0) [] call (λ packet q. absurd (true≢false (sym q))) (λ j b. b))
+      c (enabledOf c noLone) m l (q .related)
+      (λ z. counted-same n c (enabledOf c noLone) (λ k. absurd (omega (arith, k))) ∙ w .now .counted (omega (arith, ap rank fresh-yet)) ∙ start (ltb (rank (y .phase)) (rank (q .phase))))
+      (λ z. absurd (omega (arith, sym (chosen (granted subscriber opens i event) _ _ done) ∙ z)))
+    where
+      event : Event
+      event = subscriberEvent (request opens) copy n (Done 0 0) []
+
+      done : granted subscriber opens i event ≡ true
+      done = granted-is subscriber opens i event refl own refl
+
+      fresh-yet : y .phase ≡ fresh
+      fresh-yet = w .now .waits (first done)
+
+      q : Opens c (enabledOf c noLone) m l y
+      q = subst (λ (z : Stepped). Opens c (z .channel) m l y) e (open-receives c m l y (asked w) (receiving w) (w .now .means) (λ z. fresh-yet))
+
+      call : ReceiverCall
+      call = ReceiverCall.control (q .phase)
+
+      start : (b : Bool) → startOf y ≡ startOf (controlled b y (q .phase) .0)
+      start true = refl
+      start false = refl
+
+  opens-own : channel ≡ i → Left First (works (openedBy c) m l [])
+  opens-own own =
+      subst (λ (z : Stepped). Left First (works z m l [])) (sym (opened-receives c (not-sending w)))
+      (open-cases c (λ (z : Stepped). openStep c ≡ z → Left First (works z m l []))
+      (λ e first. opens-refused refusal.State []) (λ e first. opens-refused refusal.Untaken []) (λ e. opens-done own e) refl)
+
+  pub subscriber-opens :
+      (granted subscriber opens i
+      (subscriberEvent (request opens) copy n (calledBy opens (endWith s t mem lens n) (request opens) .answer) (calledBy opens (endWith s t mem lens n) (request opens) .out)) ≡ true
+      → openings subscriber i past ≡ 0)
+      → Shown opens
+  subscriber-opens =
+      subst (Seen First i) (alone-called (Index channel) openedBy t mem lens)
+      (own-cases (Index channel) (alone openedBy) t mem lens [] (shapes (Index channel) (alone openedBy) [] (open-keeps (Index channel) [])) i (below w) First
+      (λ why first. opens-refused why [])
+      (λ j there apart at g first.
+      opens-quiet (openedBy (recordAt t j) .answer) []
+      (for-another subscriber opens i (subscriberEvent (request opens) copy n (openedBy (recordAt t j) .answer) []) (other-index channel j i _ _ _ _ apart g)))
+      (λ at g. opens-own (sym (index-served channel i _ _ _ _ g))))

@@ -1,0 +1,42 @@
+-- A tick at the subscriber: a move of its record to a later phase, or nothing.
+-- Assumes nothing.
+use mathlib.Core.Path.{refl, sym, ap, subst}
+use mathlib.Core.Bool.{true≢false, false}
+use mathlib.Core.List.{List, []}
+use Prim.Native.Nat.{ℕ}
+use Rattle.channel.specs.declared.record.Channel.{Channel}
+use Rattle.receiver.specs.Receiving.{tickStep}
+use Rattle.table.specs.Serving.{recordAt, ownMem, ownLens}
+use Rattle.steps_ticking.specs.declared.ticking.Ticked.{Ticked}
+use Rattle.steps_ticking.proofs.TickLaws as steps
+use Rattle.node_ticks.specs.Ticks.{ticked}
+use Rattle.protocol.specs.Sending.{Sender}
+use Rattle.protocol.specs.Receiving.{Receiver}
+use Rattle.receiver_means.proofs.Control.{tick-receives}
+use Rattle.delivery.specs.Calls.{End, ticks, Request, calledBy}
+use Rattle.delivery.specs.History.{Event}
+use Rattle.delivery.proofs.Own.{Seen}
+use Rattle.delivery.proofs.Nodes.{endWith}
+use Rattle.delivery.proofs.Ticked.{tick-seen}
+use Rattle.delivery.proofs.SubscriberEnd.{Stage, below, receiving, not-sending, asked, Next, moves-next}
+
+module _ {h s : End} {past : List Event} {x : Sender} {y : Receiver} {t : List Channel} {mem lens : List ℕ} {n : ℕ} (w : Stage h s past x y t mem lens n)
+    (channel : ℕ) (octets buffer : List ℕ) (copy : ℕ) where
+  abbrev c : Channel
+  c = recordAt t (s .index)
+
+  abbrev m : List ℕ
+  m = ownMem t (s .index) mem
+
+  abbrev l : List ℕ
+  l = ownLens t (s .index) lens
+
+  abbrev request : Request
+  request = record { kind = ticks; channel = channel; octets = octets; buffer = buffer }
+
+  pub subscriber-ticks : Seen (Next w request copy) (s .index) (calledBy ticks (endWith s t mem lens n) request)
+  subscriber-ticks =
+      tick-seen (Next w request copy) t mem lens (w .now .kept .stands) (s .index) (below w)
+      (subst (λ (k : Channel). Next w request copy (ticked t mem lens .answer) [] k m l) (sym (ap (λ (k : Ticked). k .channel) (steps.tick-receives c false (not-sending w))))
+      (moves-next w request copy (ticked t mem lens .answer) [] refl refl (λ packet q. absurd (true≢false (sym q)))
+      (tickStep c) (tick-receives c m l y (asked w) (receiving w) (w .now .means))))

@@ -1,0 +1,62 @@
+-- A tick, seen at the channel that is watched: its record is ticked, and its octets and lengths lie where they lay.
+-- Assumes nothing.
+use mathlib.Core.Path.{_≡_, refl, sym, ap, ap₂, _∙_, subst}
+use mathlib.Core.Bool.{true}
+use mathlib.Core.List.{List, [], _∷_}
+use Prim.Native.Nat.{ℕ, zero, suc, _+_, _<_}
+use lib.ListN.{length, take}
+use Rattle.channel.specs.declared.record.Limits.{Limits}
+use Rattle.channel.specs.declared.record.Channel.{Channel}
+use Rattle.table.specs.Lent.{areaOf, partOf, slotsOf, octetsOf, lawful}
+use Rattle.table.specs.Serving.{recordAt, ownMem, ownLens}
+use Rattle.node_ticks.specs.Ticks.{ticked, tickOf}
+use Rattle.node_keeps.specs.Keeping.{SettingsStay, limitsOf, staying}
+use Rattle.node_keeps.proofs.CallsAlone.{tick-alone}
+use Rattle.node_keeps.proofs.Settled.{tick-settings-stay}
+use Rattle.delivery.proofs.Own.{View, Seen}
+use Rattle.delivery.proofs.Nodes.{same-at}
+
+-- what the first records have together, by their limits
+abbrev totalOf : (Limits → ℕ) → List Limits → ℕ → ℕ
+totalOf f [] i = 0
+totalOf f (k ∷ ks) zero = 0
+totalOf f (k ∷ ks) (suc i) = f k + totalOf f ks i
+
+octets-total : (t : List Channel) (i : ℕ) → octetsOf (take i t) ≡ totalOf areaOf (limitsOf t) i
+unfolding octetsOf
+octets-total [] zero = refl
+octets-total [] (suc i) = refl
+octets-total (c ∷ t) zero = refl
+octets-total (c ∷ t) (suc i) = ap (λ (k : ℕ). areaOf (c .limits) + k) (octets-total t i)
+
+slots-total : (t : List Channel) (i : ℕ) → slotsOf (take i t) ≡ totalOf (λ k. k .slots) (limitsOf t) i
+unfolding slotsOf
+slots-total [] zero = refl
+slots-total [] (suc i) = refl
+slots-total (c ∷ t) zero = refl
+slots-total (c ∷ t) (suc i) = ap (λ (k : ℕ). c .limits .slots + k) (slots-total t i)
+
+-- with the same limits all parts lie where they lay
+module _ (t u : List Channel) (e : SettingsStay t u) (i : ℕ) where
+  limits-at : recordAt u i .limits ≡ recordAt t i .limits
+  limits-at = same-at (λ c. c .limits) u t i (e .1)
+
+  mem-at : (mem : List ℕ) → ownMem u i mem ≡ ownMem t i mem
+  mem-at mem =
+      ap₂ (λ (from : ℕ) (k : Limits). partOf from (areaOf k) mem)
+      (octets-total u i ∙ ap (λ (ks : List Limits). totalOf areaOf ks i) (e .1) ∙ sym (octets-total t i)) limits-at
+
+  lens-at : (lens : List ℕ) → ownLens u i lens ≡ ownLens t i lens
+  lens-at lens =
+      ap₂ (λ (from : ℕ) (k : Limits). partOf from (k .slots) lens)
+      (slots-total u i ∙ ap (λ (ks : List Limits). totalOf (λ k. k .slots) ks i) (e .1) ∙ sym (slots-total t i)) limits-at
+
+pub tick-seen : (P : View) (t : List Channel) (mem lens : List ℕ) → lawful t mem lens ≡ true → (i : ℕ) → i < length t
+    → P (ticked t mem lens .answer) [] (tickOf (recordAt t i)) (ownMem t i mem) (ownLens t i lens)
+    → Seen P i (staying (ticked t mem lens) mem lens)
+tick-seen P t mem lens stands i below x =
+    let u : List Channel = ticked t mem lens .table in
+    let stay : SettingsStay t u = tick-settings-stay t mem lens in
+    subst (λ (z : Channel). P (ticked t mem lens .answer) [] z (ownMem u i mem) (ownLens u i lens)) (sym (tick-alone t mem lens stands i below))
+    (subst (λ (z : List ℕ). P (ticked t mem lens .answer) [] (tickOf (recordAt t i)) z (ownLens u i lens)) (sym (mem-at t u stay i mem))
+    (subst (λ (z : List ℕ). P (ticked t mem lens .answer) [] (tickOf (recordAt t i)) (ownMem t i mem) z) (sym (lens-at t u stay i lens)) x))

@@ -1,0 +1,84 @@
+-- A node in which one channel is watched, and every call that can be made of it, with its real arguments.
+use Prim.Native.Nat.{ℕ, _+_}
+use mathlib.Core.List.{List}
+use lib.Dec.{eqb}
+use Rattle.laws.specs.Choice.{if_then_else_}
+use Rattle.walks.specs.Serving.{Called}
+use Rattle.channel.specs.declared.record.Node.{Node}
+use Rattle.channel.specs.declared.record.Channel.{Channel}
+use Rattle.channel.specs.declared.answer.Answer.{Answer}
+use Rattle.channel.specs.Record as state
+use Rattle.table.specs.Serving.{recordAt, ownMem, ownLens}
+use Rattle.node_ticks.specs.Ticks.{ticked}
+use Rattle.node.specs.Calls.{opened, closed, transferred, taken, reclaimed, handed, arrived}
+use Rattle.node_keeps.specs.Keeping.{staying}
+use Rattle.protocol.specs.Numbers.{distance}
+use Rattle.units_held.specs.Held.{unitsHeld}
+
+-- The node's own settings, the lent table, memory and lengths, and the index of the channel that is watched. `start`: how many segments its
+-- window has passed in this opening.
+pub record End : Type 0 where
+  pub node : Node
+  pub table : List Channel
+  pub mem : List ℕ
+  pub lens : List ℕ
+  pub index : ℕ
+  pub start : ℕ
+
+-- The public calls (crate node).
+pub data Kind : Type 0 where
+  opens closes transfers takes reclaims hands arrives ticks : Kind
+
+abbrev pub code : Kind → ℕ
+code opens = 0
+code closes = 1
+code transfers = 2
+code takes = 3
+code reclaims = 4
+code hands = 5
+code arrives = 6
+code ticks = 7
+
+-- Its arguments, as far as it has them: the index of a channel of the table, any of them; the octets of a unit or of a packet; the lent buffer.
+pub record Request : Type 0 where
+  pub kind : Kind
+  pub channel : ℕ
+  pub octets : List ℕ
+  pub buffer : List ℕ
+
+-- what a call gives: the functions that the contracts of crate node cite, and nothing else
+abbrev pub calledBy : Kind → End → Request → Called Answer Channel
+calledBy opens e r = staying (opened (e .table) (e .mem) (e .lens) (r .channel)) (e .mem) (e .lens)
+calledBy closes e r = staying (closed (e .table) (e .mem) (e .lens) (r .channel)) (e .mem) (e .lens)
+calledBy transfers e r = transferred (e .table) (e .mem) (e .lens) (r .channel) (r .octets)
+calledBy takes e r = taken (e .table) (e .mem) (e .lens) (r .channel) (r .buffer)
+calledBy reclaims e r = reclaimed (e .table) (e .mem) (e .lens) (r .channel) (r .buffer)
+calledBy hands e r = handed (e .table) (e .mem) (e .lens) (e .node) (r .buffer)
+calledBy arrives e r = arrived (e .table) (e .mem) (e .lens) (e .node) (r .octets) (r .buffer)
+calledBy ticks e r = staying (ticked (e .table) (e .mem) (e .lens)) (e .mem) (e .lens)
+
+abbrev pub called : End → Request → Called Answer Channel
+called e r = calledBy (r .kind) e r
+
+-- the record of the channel that is watched, and the units that it holds: read from record, memory and lengths
+abbrev pub channelOf : End → Channel
+channelOf e = recordAt (e .table) (e .index)
+
+abbrev pub unitsOf : End → List (List ℕ)
+unitsOf e = unitsHeld (channelOf e) (ownMem (e .table) (e .index) (e .mem)) (ownLens (e .table) (e .index) (e .lens))
+
+-- The record has the window's start modulo 256 only. It is counted on: in OPEN, by as much as a call has moved it round.
+abbrev pub countedOn : ℕ → Channel → Channel → ℕ
+countedOn n before after =
+    if eqb (after .state) state.opened then n + distance (after .window .start) (before .window .start) else n
+
+abbrev pub afterCall : End → Called Answer Channel → End
+afterCall e g =
+    record {
+      node = e .node;
+      table = g .table;
+      mem = g .mem;
+      lens = g .lens;
+      index = e .index;
+      start = countedOn (e .start) (channelOf e) (recordAt (g .table) (e .index));
+    }
