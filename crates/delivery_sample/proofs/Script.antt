@@ -1,0 +1,170 @@
+-- Two nodes and what is called of them: the story of the run that is computed in Sample.antt, and how the nodes stand in the middle of it.
+-- Assumes nothing.
+use mathlib.Core.List.{List, [], _∷_, _++_}
+use Prim.Native.Nat.{ℕ, zero, suc, _+_, _-_, _%_}
+use lib.ListN.{replicate}
+use Rattle.channel.specs.declared.record.Limits.{Limits}
+use Rattle.channel.specs.declared.record.Settings.{Settings}
+use Rattle.channel.specs.declared.record.Channel.{Channel}
+use Rattle.channel.specs.declared.record.Timers.{Timers}
+use Rattle.channel.specs.Record.{opened, madeOf, noLone, noMarks, noTimers}
+use Rattle.delivery.specs.Calls.{End, Kind, opens, transfers, takes, reclaims, hands, ticks}
+use Rattle.delivery.specs.History.{host, subscriber, Event}
+use Rattle.delivery.specs.Delivery.{Run, begin}
+use Rattle.delivery_sample.proofs.Deciding.{Move, does, brings, spoils}
+
+-- ---- two nodes with one channel: window 2, 5 slots, at most 2 octets in a segment and 2 segments in a unit
+
+abbrev pub limits : Limits
+limits = record { window = 2; slots = 5; payload = 2; segments = 2; timeout = 3; closing = 3; retries = 1 }
+
+abbrev pub sending : Settings
+sending = record { addresses = record { channel = 7; remote = 65; direction = 0 }; limits = limits }
+
+abbrev pub receiving : Settings
+receiving = record { addresses = record { channel = 7; remote = 64; direction = 1 }; limits = limits }
+
+abbrev pub hostEnd : End
+hostEnd = record { node = record { address = 64; protocol = 5 }; table = madeOf sending ∷ []; mem = replicate 10 0; lens = replicate 5 0; index = 0; start = 0 }
+
+abbrev pub stationEnd : End
+stationEnd = record { node = record { address = 65; protocol = 5 }; table = madeOf receiving ∷ []; mem = replicate 10 0; lens = replicate 5 0; index = 0; start = 0 }
+
+-- ---- calls at the host and at the station
+
+abbrev pub room : List ℕ
+room = replicate 16 0
+
+abbrev pub atHost : Kind → List ℕ → List ℕ → Move
+atHost kind octets buffer = does (record { side = host; request = record { kind = kind; channel = 0; octets = octets; buffer = buffer }; copyOf = 0 })
+
+abbrev pub atStation : Kind → List ℕ → List ℕ → Move
+atStation kind octets buffer = does (record { side = subscriber; request = record { kind = kind; channel = 0; octets = octets; buffer = buffer }; copyOf = 0 })
+
+-- ---- the channel is opened, and n units of one octet go through, one after another
+
+abbrev pub opening : List Move
+opening =
+    atHost opens [] []
+    ∷ atStation opens [] []
+    ∷ atHost hands [] room
+    ∷ brings subscriber 0 0
+    ∷ brings host 0 0
+    ∷ []
+
+abbrev pub rounds : ℕ → ℕ → List Move
+rounds zero i = []
+rounds (suc n) i =
+    atHost transfers (i ∷ []) []
+    ∷ atHost hands [] room
+    ∷ brings subscriber 0 i
+    ∷ atStation takes [] room
+    ∷ brings host 0 i
+    ∷ rounds n (i + 1)
+
+-- ---- one of three octets, in the segments i and i + 1, which come in the other order, and so do their Acks
+
+abbrev pub turned : ℕ → List Move
+turned i =
+    atHost transfers (1 ∷ 2 ∷ 3 ∷ []) []
+    ∷ atHost hands [] room
+    ∷ atHost hands [] room
+    ∷ brings subscriber 0 (i + 1)
+    ∷ brings subscriber 1 i
+    ∷ brings host 1 (i + 1)
+    ∷ brings host 0 i
+    ∷ atStation takes [] room
+    ∷ []
+
+-- ---- one that is lost, handed out again, comes damaged, then whole, then once more, and so does its Ack
+
+abbrev pub lost : ℕ → List Move
+lost i =
+    atHost transfers (4 ∷ []) []
+    ∷ atHost hands [] room
+    ∷ atHost ticks [] []
+    ∷ atHost ticks [] []
+    ∷ atHost ticks [] []
+    ∷ atHost hands [] room
+    ∷ spoils subscriber 0 i
+    ∷ brings subscriber 0 i
+    ∷ brings subscriber 0 i
+    ∷ brings host 0 i
+    ∷ brings host 1 i
+    ∷ atStation takes [] room
+    ∷ []
+
+-- ---- the fan event comes through, and its Acks are lost; one more is accepted; then the station is silent, until the retries are used up
+
+abbrev pub silent : ℕ → List Move
+silent i =
+    atHost transfers (70 ∷ 65 ∷ 78 ∷ []) []
+    ∷ atHost hands [] room
+    ∷ atHost hands [] room
+    ∷ brings subscriber 1 i
+    ∷ brings subscriber 0 (i + 1)
+    ∷ atStation takes [] room
+    ∷ atHost transfers (9 ∷ []) []
+    ∷ atHost ticks [] []
+    ∷ atHost ticks [] []
+    ∷ atHost ticks [] []
+    ∷ atHost hands [] room
+    ∷ atHost hands [] room
+    ∷ atHost ticks [] []
+    ∷ atHost ticks [] []
+    ∷ atHost ticks [] []
+    ∷ atHost reclaims [] room
+    ∷ []
+
+abbrev pub ending : List Move
+ending = turned 255 ++ lost 257 ++ silent 258
+
+-- ---- how the nodes stand once i units have gone through, i a multiple of 5: nothing is held, and the slots have the last five octets
+
+-- the first five of 128 are v
+abbrev pub fiveOf : ℕ → List ℕ
+fiveOf v = replicate 5 v ++ replicate 123 0
+
+abbrev pub lastFive : ℕ → List ℕ
+lastFive i = (i - 5) ∷ 0 ∷ (i - 4) ∷ 0 ∷ (i - 3) ∷ 0 ∷ (i - 2) ∷ 0 ∷ (i - 1) ∷ 0 ∷ []
+
+abbrev pub standingAt : Settings → ℕ → ℕ → Timers → List ℕ → Channel
+standingAt s i accepted timers acked =
+    record {
+      addresses = s .addresses;
+      limits = s .limits;
+      state = opened;
+      reason = 0;
+      kept = 0;
+      accepted = accepted;
+      control = noLone;
+      window = record { start = (i + 1) % 256; place = 0; behind = 0; ahead = 0; flight = 0; way = 0 };
+      timers = timers;
+      marks = noMarks;
+      acked = acked;
+    }
+
+abbrev pub hostAfter : ℕ → End
+hostAfter i =
+    record {
+      node = hostEnd .node;
+      table = standingAt sending i 0 (record { closing = 0; left = replicate 128 0; tries = fiveOf 1 }) (fiveOf 1) ∷ [];
+      mem = lastFive i;
+      lens = replicate 5 1;
+      index = 0;
+      start = i;
+    }
+
+abbrev pub stationAfter : ℕ → End
+stationAfter i =
+    record { node = stationEnd .node; table = standingAt receiving i 1 noTimers noMarks ∷ []; mem = lastFive i; lens = replicate 5 1; index = 0; start = i }
+
+abbrev pub from : Run
+from = begin hostEnd stationEnd
+
+abbrev pub runAt : List Event → ℕ → Run
+runAt past i = record { past = past; host = hostAfter i; subscriber = stationAfter i }
+
+-- all of it
+abbrev pub script : List Move
+script = ((((((opening ++ rounds 5 0) ++ rounds 50 5) ++ rounds 50 55) ++ rounds 50 105) ++ rounds 50 155) ++ rounds 50 205) ++ ending

@@ -1,0 +1,1 @@
+// No code: a run of two nodes that satisfies every premise of demand 3.
