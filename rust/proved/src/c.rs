@@ -1,4 +1,7 @@
-//! What the static library exports, as its C declarations say.
+//! What the static library exports, as its C declarations say. A slice goes as
+//! a pointer and a count of its elements.
+
+use crate::record::{Channel, Node, Settings};
 
 /// `PeatFields`: the header's fields but for the payload length.
 #[repr(C)]
@@ -53,6 +56,20 @@ pub struct Writing {
     pub length: usize,
 }
 
+/// `PeatSaid`: what a call of the node answers.
+#[repr(C)]
+#[derive(Clone, Copy, Debug, Default, PartialEq, Eq)]
+pub struct Said {
+    /// The answer number of document 01.
+    pub number: u32,
+    /// With 9 why the channel went inactive, else 0.
+    pub reason: u32,
+    /// With 0 and 15 the octets written, else 0.
+    pub length: usize,
+    /// With 0 the units that a Data Ack confirmed, else 0.
+    pub confirmed: usize,
+}
+
 extern "C" {
     pub fn peat_crc(octets: *const u8, count: usize) -> u16;
     pub fn peat_read_packet(packet: *const u8, count: usize) -> Reading;
@@ -63,4 +80,98 @@ extern "C" {
         out: *mut u8,
         out_count: usize,
     ) -> Writing;
+
+    pub fn peat_settings(
+        table: *mut Channel,
+        records: usize,
+        memory: *const u8,
+        octets: usize,
+        lengths: *const u16,
+        slots: usize,
+        settings: *const Settings,
+        count: usize,
+    ) -> Said;
+    pub fn peat_open(
+        table: *mut Channel,
+        records: usize,
+        memory: *const u8,
+        octets: usize,
+        lengths: *const u16,
+        slots: usize,
+        index: usize,
+    ) -> Said;
+    pub fn peat_close(
+        table: *mut Channel,
+        records: usize,
+        memory: *const u8,
+        octets: usize,
+        lengths: *const u16,
+        slots: usize,
+        index: usize,
+    ) -> Said;
+    pub fn peat_transfer(
+        table: *mut Channel,
+        records: usize,
+        memory: *mut u8,
+        octets: usize,
+        lengths: *mut u16,
+        slots: usize,
+        index: usize,
+        unit: *const u8,
+        count: usize,
+    ) -> Said;
+    pub fn peat_take(
+        table: *mut Channel,
+        records: usize,
+        memory: *const u8,
+        octets: usize,
+        lengths: *const u16,
+        slots: usize,
+        index: usize,
+        out: *mut u8,
+        count: usize,
+    ) -> Said;
+    pub fn peat_reclaim(
+        table: *mut Channel,
+        records: usize,
+        memory: *const u8,
+        octets: usize,
+        lengths: *const u16,
+        slots: usize,
+        index: usize,
+        out: *mut u8,
+        count: usize,
+    ) -> Said;
+    pub fn peat_next_packet(
+        table: *mut Channel,
+        records: usize,
+        memory: *const u8,
+        octets: usize,
+        lengths: *const u16,
+        slots: usize,
+        node: Node,
+        out: *mut u8,
+        count: usize,
+    ) -> Said;
+    pub fn peat_arrival(
+        table: *mut Channel,
+        records: usize,
+        memory: *mut u8,
+        octets: usize,
+        lengths: *mut u16,
+        slots: usize,
+        node: Node,
+        packet: *const u8,
+        packet_count: usize,
+        reply: *mut u8,
+        reply_count: usize,
+    ) -> Said;
+    pub fn peat_tick(
+        table: *mut Channel,
+        records: usize,
+        memory: *const u8,
+        octets: usize,
+        lengths: *const u16,
+        slots: usize,
+    ) -> Said;
 }

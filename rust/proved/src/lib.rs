@@ -4,9 +4,19 @@
 #![deny(unsafe_op_in_unsafe_fn)]
 #![warn(missing_docs)]
 
+mod answer;
 mod c;
+pub mod calls;
+mod node_table;
+pub mod numbers;
+pub mod record;
+mod words;
 
-pub use c::{Fields, Reading, Writing};
+pub use answer::{Answer, Refusal};
+pub use c::{Fields, Reading, Said, Writing};
+pub use node_table::{storage, NodeTable};
+pub use record::{Addresses, Channel, Limits, Lone, Node, Settings, Timers, Window};
+pub use words::{Reason, State};
 
 /// The check sum over these octets.
 pub fn crc(octets: &[u8]) -> u16 {

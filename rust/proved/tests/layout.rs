@@ -1,46 +1,53 @@
-//! The structs lie in memory as their C declarations say. A wrong place would
-//! also show in the comparison, but not as plainly.
+//! The records of this crate lie in memory as tests/layout.txt says, and so as
+//! the C header's do, whose program (tests/c/layout.c) must print the same file.
+//! That the library reads and writes them at these places is shown by the tests
+//! beside this one, `written` and `read`.
 
-use proved::{Fields, Reading, Writing};
+use proved::{Addresses, Channel, Fields, Limits, Lone, Node, Reading, Said};
+use proved::{Settings, Timers, Window, Writing};
 use std::mem::{align_of, offset_of, size_of};
 
-#[test]
-fn fields() {
-    assert_eq!(size_of::<Fields>(), 12);
-    assert_eq!(align_of::<Fields>(), 2);
-    let offsets = [
-        offset_of!(Fields, destination),
-        offset_of!(Fields, protocol),
-        offset_of!(Fields, version),
-        offset_of!(Fields, secondary),
-        offset_of!(Fields, flags),
-        offset_of!(Fields, kind),
-        offset_of!(Fields, channel),
-        offset_of!(Fields, number),
-        offset_of!(Fields, reserved),
-        offset_of!(Fields, prefix),
-        offset_of!(Fields, source),
-    ];
-    assert_eq!(offsets, [0, 1, 2, 3, 4, 5, 6, 8, 9, 10, 11]);
+const TABLE: &str = include_str!("../../../tests/layout.txt");
+
+/// The size of what this looks at; the value itself is not needed.
+fn size<Record, Field>(_: fn(&Record) -> &Field) -> usize {
+    size_of::<Field>()
+}
+
+macro_rules! lines {
+    ($($record:ident: $($field:ident)*;)*) => {{
+        let mut lines = Vec::new();
+        $(
+            let name = stringify!($record);
+            let (whole, align) = (size_of::<$record>(), align_of::<$record>());
+            lines.push(format!("{name} {whole} {align}"));
+            $(
+                let field = stringify!($field);
+                let place = offset_of!($record, $field);
+                let octets = size(|record: &$record| &record.$field);
+                lines.push(format!("{name}.{field} {place} {octets}"));
+            )*
+        )*
+        lines
+    }};
 }
 
 #[test]
-fn reading() {
-    assert_eq!(size_of::<Reading>(), 32);
-    assert_eq!(align_of::<Reading>(), 8);
-    let offsets = [
-        offset_of!(Reading, answer),
-        offset_of!(Reading, fields),
-        offset_of!(Reading, start),
-        offset_of!(Reading, length),
-    ];
-    assert_eq!(offsets, [0, 4, 16, 24]);
-}
-
-#[test]
-fn writing() {
-    assert_eq!(size_of::<Writing>(), 16);
-    assert_eq!(align_of::<Writing>(), 8);
-    let offsets = [offset_of!(Writing, answer), offset_of!(Writing, length)];
-    assert_eq!(offsets, [0, 8]);
+fn records_lie_as_the_table_says() {
+    let lines = lines! {
+        Node: address protocol;
+        Addresses: channel remote direction;
+        Limits: window slots payload segments timeout closing retries;
+        Settings: addresses limits;
+        Lone: state timer tries;
+        Window: start place behind ahead flight way;
+        Timers: closing left tries;
+        Channel: addresses limits state reason kept accepted control window timers marks acked;
+        Said: number reason length confirmed;
+        Fields: destination protocol version secondary flags kind channel number reserved prefix source;
+        Reading: answer fields start length;
+        Writing: answer length;
+    };
+    let expected: Vec<&str> = TABLE.lines().collect();
+    assert_eq!(lines, expected);
 }

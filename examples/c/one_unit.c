@@ -1,0 +1,74 @@
+/* Two nodes, a hall's host and a cooling station, each with one channel: the host publishes a unit, the station takes it, and the host is told
+ * that it is confirmed. What is a link between two machines elsewhere is here a buffer.
+ *
+ *   cc -Iinclude examples/c/one_unit.c target/staticlib/libhost.a -o one_unit */
+#include <stdio.h>
+#include <stdlib.h>
+
+#include "peatwimple.h"
+
+enum { SLOTS = 8, PAYLOAD = 16, PACKET = PAYLOAD + 12 };
+
+/* A node with all that it lends. */
+typedef struct End {
+    PeatNode node;
+    PeatChannel table[1];
+    uint8_t memory[SLOTS * PAYLOAD];
+    uint16_t lengths[SLOTS];
+} End;
+
+#define LENT(end) (end)->table, 1, (end)->memory, sizeof (end)->memory, (end)->lengths, SLOTS
+
+static PeatSaid expect(const char *what, PeatSaid said) {
+    if (said.number != PEAT_DONE) {
+        printf("%s: answer %u\n", what, (unsigned)said.number);
+        exit(1);
+    }
+    return said;
+}
+
+static void make(End *end, uint8_t own, uint8_t remote, uint8_t direction) {
+    PeatSettings settings = {{7, remote, direction}, {4, SLOTS, PAYLOAD, 4, 10, 50, 2}};
+    end->node.address = own;
+    end->node.protocol = PEAT_PROTOCOL;
+    expect("settings", peat_settings(LENT(end), &settings, 1));
+    expect("open", peat_open(LENT(end), 0));
+}
+
+/* One packet from one end to the other, and the ack back. Gives how many units the ack confirmed. */
+static size_t exchange(End *from, End *to, const char *what) {
+    uint8_t packet[PACKET], ack[PEAT_ACK_OCTETS];
+    PeatSaid out = expect("next packet", peat_next_packet(LENT(from), from->node, packet, sizeof packet));
+    PeatSaid in = expect("arrival", peat_arrival(LENT(to), to->node, packet, out.length, ack, sizeof ack));
+    PeatSaid back = expect("arrival of the ack", peat_arrival(LENT(from), from->node, ack, in.length, packet, sizeof packet));
+    printf("%s: %zu octets over the link, acknowledged\n", what, out.length);
+    return back.confirmed;
+}
+
+int main(void) {
+    static const uint8_t event[] = "pump fan 3 stopped";
+    static End host, station;
+    uint8_t unit[64];
+    size_t confirmed;
+    PeatSaid said;
+
+    make(&host, 64, 65, PEAT_SENDS);
+    make(&station, 65, 64, PEAT_RECEIVES);
+    exchange(&host, &station, "Open");
+
+    expect("transfer", peat_transfer(LENT(&host), 0, event, sizeof event - 1));
+    printf("the host publishes '%s'\n", (const char *)event);
+    confirmed = exchange(&host, &station, "first segment");
+    printf("units confirmed: %zu\n", confirmed);
+    confirmed = exchange(&host, &station, "last segment");
+    printf("units confirmed: %zu\n", confirmed);
+
+    said = expect("take", peat_take(LENT(&station), 0, unit, sizeof unit));
+    printf("the station takes '%.*s'\n", (int)said.length, (const char *)unit);
+
+    expect("close", peat_close(LENT(&host), 0));
+    exchange(&host, &station, "Close");
+    said = peat_reclaim(LENT(&host), 0, unit, sizeof unit);
+    printf("nothing is left to reclaim: answer %u\n", (unsigned)said.number);
+    return said.number == PEAT_NOTHING ? 0 : 1;
+}

@@ -1,0 +1,129 @@
+/* Peatwimple: a SpaceWire-R node for C. Every call is proved to give what docs/PROMISES.md says.
+ *
+ * The library keeps no state and allocates nothing. All that it works on is lent by the caller, for the time of one call, as pointers
+ * with counts; a count is of elements, not of octets. The caller sees to three things, and to no other:
+ *   - each pointer is good for its count of elements, and aligned; with a count of 0 it is not followed;
+ *   - what a call may change (a pointer without const) overlaps nothing else that is lent to the same call;
+ *   - no other thread uses what is lent while the call runs. Calls on other tables may run at the same time.
+ * Any octets, any records, any counts may be lent: what is wrong is refused by number and never undefined.
+ *
+ * A node is lent in three parts, the same ones in every call:
+ *   table    1 to 16 records, one for each channel; a call's index counts from 0
+ *   memory   exactly slots * payload octets for each record, one after another in table order
+ *   lengths  exactly one 16-bit number for each slot, in table order
+ * Every call but peat_settings first tests these sizes, and the standing condition of each record (docs/CONDITION.md): else 13.
+ *
+ * A refusal is any answer but 0, 9 and 15. It leaves table, memory, lengths and buffer as they were, to the last octet. A call that writes
+ * a packet, a reply or a unit writes it at the front of the lent buffer and leaves the octets past its end. No call but peat_settings and
+ * peat_tick changes another channel than the one it serves. */
+#ifndef PEATWIMPLE_H
+#define PEATWIMPLE_H
+
+#include <stddef.h>
+#include <stdint.h>
+
+#include "peatwimple_records.h"
+
+#ifdef __cplusplus
+extern "C" {
+#endif
+
+/* ---- the node ---- */
+
+/* Makes the table afresh, one record of each of the settings, CLOSED and empty. It reads no old record, and alone may drop held units. The
+ * memory and lengths are only measured: their octets may be anything.
+ *   13  not 1 to 16 settings; not as many as records; one out of its bounds; two with equal addresses; memory or lengths not of their size
+ *   0   else */
+PeatSaid peat_settings(PeatChannel *table, size_t records, const uint8_t *memory, size_t octets, const uint16_t *lengths, size_t slots,
+                       const PeatSettings *settings, size_t count);
+
+/* An Open directive for the channel of this index.
+ *   13, 14  sizes or records; no record has the index
+ *   5       the channel is not CLOSED
+ *   10      units are unreclaimed (sender) or untaken (receiver)
+ *   0       ENABLED, a new opening: window start 1, no mark, no timer, no reason; at a sender an Open is ready */
+PeatSaid peat_open(PeatChannel *table, size_t records, const uint8_t *memory, size_t octets, const uint16_t *lengths, size_t slots,
+                   size_t index);
+
+/* A Close directive.
+ *   13, 14  as above
+ *   5       a receiver; a sender in CLOSED or CLOSING; one in ENABLED that keeps a Close already
+ *   0       in ENABLED: kept until the Open is acknowledged. In OPEN: CLOSING, a Close is ready, no Data goes out any more; every
+ *           unconfirmed unit is still held, whole */
+PeatSaid peat_close(PeatChannel *table, size_t records, const uint8_t *memory, size_t octets, const uint16_t *lengths, size_t slots,
+                    size_t index);
+
+/* A unit of any length, 0 too, for a sender to hold and send. The unit is only read, and need not be kept.
+ *   13, 14  as above
+ *   5       a receiver; a sender that is not OPEN
+ *   6, 7    the unit has over M segments; slots held and slots needed are over the slots
+ *   0       accepted: its segments lie in the memory, with their lengths; a slot's octets past its segment stay */
+PeatSaid peat_transfer(PeatChannel *table, size_t records, uint8_t *memory, size_t octets, uint16_t *lengths, size_t slots,
+                       size_t index, const uint8_t *unit, size_t count);
+
+/* The oldest complete unit of a receiver, in any state.
+ *   13, 14  as above
+ *   5       a sender
+ *   12, 11  no complete unit is held; it is longer than the buffer, and still held
+ *   0       the unit at the front of out, its octets counted by length; its slots are free */
+PeatSaid peat_take(PeatChannel *table, size_t records, const uint8_t *memory, size_t octets, const uint16_t *lengths, size_t slots,
+                   size_t index, uint8_t *out, size_t count);
+
+/* The oldest unit of a sender in CLOSED that was not confirmed, whole.
+ *   13, 14  as above
+ *   5       a receiver; a sender that is not CLOSED
+ *   12, 11  no unit is held; it is longer than the buffer, and still held
+ *   0       the unit at the front of out, its octets counted by length; its slots are free */
+PeatSaid peat_reclaim(PeatChannel *table, size_t records, const uint8_t *memory, size_t octets, const uint16_t *lengths, size_t slots,
+                      size_t index, uint8_t *out, size_t count);
+
+/* The packet that goes out next: Control before resent Data before new Data; among channels of equal rank the lowest index; within a
+ * channel the lowest segment. 12 + P octets hold any packet of a channel.
+ *   13      as above
+ *   12, 11  no sender has a packet ready; the one that goes next is longer than the buffer, and is still ready
+ *   0       the packet at the front of out, its octets counted by length; its timer runs from the timeout on */
+PeatSaid peat_next_packet(PeatChannel *table, size_t records, const uint8_t *memory, size_t octets, const uint16_t *lengths, size_t slots,
+                          PeatNode node, uint8_t *out, size_t count);
+
+/* A packet that came in: any octets, any number of them. The packet is only read. With length 12 the reply is to be sent.
+ *   13      as above
+ *   11      the reply buffer has under 12 octets, whatever came
+ *   1, 2, 4, 3  the packet is refused alone; 3 also for another node's destination or protocol ID
+ *   14      no record has its channel number and source: Data and Control look for a receiver, Acks for a sender
+ *   3       Data with a payload over P
+ *   5       the state does not allow it
+ *   16      an ack that nothing waits for
+ *   15      a second Open before Data, a further Close, or Data held already or behind the window: the reply alone is written, an Ack
+ *   8       new Data as many slots or more past the oldest segment not yet taken
+ *   9       the channel went inactive for the reason told: CLOSED, units complete by then stay to be taken, unfinished ones go. No
+ *           reply is written. With the reason flags the segment was filed, else no octet and no length has changed
+ *   0       Data: filed in its slot, and a Data Ack is the reply. Open or Close: its state, and a Control Ack is the reply. A Control Ack:
+ *           its state, no reply. A Data Ack: recorded, no reply; confirmed tells how many units it confirmed, whose slots are free */
+PeatSaid peat_arrival(PeatChannel *table, size_t records, uint8_t *memory, size_t octets, uint16_t *lengths, size_t slots,
+                      PeatNode node, const uint8_t *packet, size_t packet_count, uint8_t *reply, size_t reply_count);
+
+/* One tick of every timer of every channel: a packet whose timer ends is ready again, or with no resend left its channel goes inactive; a
+ * receiver whose close timer ends is CLOSED.
+ *   13  as above
+ *   9   some channel went inactive, by its retries; all were ticked, and each record says its own reason. Units are still held
+ *   0   all were ticked */
+PeatSaid peat_tick(PeatChannel *table, size_t records, const uint8_t *memory, size_t octets, const uint16_t *lengths, size_t slots);
+
+/* ---- the packet alone ----
+ * Nothing of a node is asked: addresses and protocol ID are plain fields. */
+
+/* The check sum of any octets: x^16+x^12+x^5+1, all ones at the start, top bit first, not inverted. Nothing is written. */
+uint16_t peat_crc(const uint8_t *octets, size_t count);
+
+/* Reads a packet where it lies: 1, 2, 4, 3 in this order, else 0. Nothing is written. */
+PeatReading peat_read_packet(const uint8_t *packet, size_t count);
+
+/* Writes a packet: 4, 3 (also a payload over 65,535 octets), 11 in this order and out as it was; else 0, the packet at the front of out and
+ * its octets past it as they were. */
+PeatWriting peat_write_packet(PeatFields fields, const uint8_t *payload, size_t payload_count, uint8_t *out, size_t count);
+
+#ifdef __cplusplus
+}
+#endif
+
+#endif

@@ -1,0 +1,171 @@
+/* The numbers and records that the calls of peatwimple.h take and give. A caller includes that file, which includes this one. */
+#ifndef PEATWIMPLE_RECORDS_H
+#define PEATWIMPLE_RECORDS_H
+
+#include <stddef.h>
+#include <stdint.h>
+
+/* ---- numbers ---- */
+
+/* Answers (document 01, Answer numbers). */
+enum {
+    PEAT_DONE = 0,       /* done */
+    PEAT_SHORT = 1,      /* under 12 octets, or not 12 + X */
+    PEAT_DAMAGED = 2,    /* the check sum is wrong */
+    PEAT_STRANGE = 3,    /* another header field is unexpected, or the payload is too long, or there is one where none may be */
+    PEAT_LACKING = 4,    /* secondary header, prefix, or a type that the base lacks */
+    PEAT_STATE = 5,      /* the state, or the direction, does not allow it */
+    PEAT_LONG = 6,       /* the unit has over M segments */
+    PEAT_NO_ROOM = 7,    /* slots held and slots needed are over the slots */
+    PEAT_FULL = 8,       /* the receive slots are full */
+    PEAT_INACTIVE = 9,   /* this call made a channel inactive: CLOSED, with a reason */
+    PEAT_UNTAKEN = 10,   /* units are untaken or unreclaimed */
+    PEAT_SMALL = 11,     /* the lent buffer is too small */
+    PEAT_NOTHING = 12,   /* there is nothing to hand out */
+    PEAT_SETTINGS = 13,  /* bad settings, sizes that do not fit, or a record that lacks its standing condition */
+    PEAT_NO_CHANNEL = 14, /* no such channel */
+    PEAT_REPEATED = 15,  /* acknowledged, not accepted */
+    PEAT_IGNORED = 16    /* the ack is ignored */
+};
+
+/* Directions. */
+enum { PEAT_SENDS = 0, PEAT_RECEIVES = 1 };
+
+/* States of a channel (000, 4.4.2 and 4.5.2). */
+enum { PEAT_CLOSED = 0, PEAT_ENABLED = 1, PEAT_OPEN = 2, PEAT_CLOSING = 3 };
+
+/* Why a channel went inactive. */
+enum {
+    PEAT_NO_REASON = 0,      /* it did not */
+    PEAT_RETRIES = 1,        /* a packet's retries were used up */
+    PEAT_LATE_OPEN = 2,      /* an Open came after Data was accepted */
+    PEAT_CONTROL_NUMBER = 3, /* a Control packet had another number than 0 */
+    PEAT_DATA_NUMBER = 4,    /* Data had a number neither in the window nor behind it */
+    PEAT_BROKEN_FLAGS = 5    /* the flags of segments in a row do not make units */
+};
+
+/* States of a packet that is sent alone. */
+enum { PEAT_LONE_NONE = 0, PEAT_LONE_READY = 1, PEAT_LONE_OUT = 2, PEAT_LONE_AGAIN = 3 };
+
+/* Packet types, sequence flags and the version (000, 4.2.3). */
+enum { PEAT_DATA = 0, PEAT_DATA_ACK = 1, PEAT_OPEN_COMMAND = 2, PEAT_CLOSE_COMMAND = 3, PEAT_CONTROL_ACK = 7 };
+enum { PEAT_CONTINUATION = 0, PEAT_FIRST = 1, PEAT_LAST = 2, PEAT_WHOLE = 3 };
+
+#define PEAT_VERSION 1    /* what every packet has */
+#define PEAT_PROTOCOL 5   /* the protocol ID of SpaceWire-R (000, 4.2.3.3), unless the node is set otherwise */
+#define PEAT_RECORDS 16   /* most records in a table */
+#define PEAT_SLOTS 128    /* slots that a record has a mark for, used or not */
+#define PEAT_ACK_OCTETS 12 /* room that a reply needs */
+
+/* ---- records ----
+ * The caller fills PeatSettings and PeatNode. PeatChannel is made by peat_settings and changed by the calls alone; its state and reason
+ * are for the caller to read. */
+
+/* The node's own settings, given by value. */
+typedef struct PeatNode {
+    uint8_t address;  /* own logical address */
+    uint8_t protocol; /* protocol ID */
+} PeatNode;
+
+/* Which channel it is, to which node, and whether this end sends or receives. No two records of a table may agree in all three. */
+typedef struct PeatAddresses {
+    uint16_t channel;
+    uint8_t remote; /* the other node's logical address */
+    uint8_t direction;
+} PeatAddresses;
+
+/* What the settings fix. */
+typedef struct PeatLimits {
+    size_t window;    /* k: a power of two, 1 to 64 */
+    size_t slots;     /* k to 128 */
+    size_t payload;   /* P, the most payload octets: 1 to 1,024 */
+    size_t segments;  /* M, the most segments in a unit: 1 to slots */
+    uint16_t timeout; /* ticks until a packet that is not acknowledged is ready again: at least 1 */
+    uint16_t closing; /* ticks that a receiver stays in CLOSING: at least 1 */
+    uint16_t retries; /* resends allowed to a packet: 0 to 255 */
+} PeatLimits;
+
+typedef struct PeatSettings {
+    PeatAddresses addresses;
+    PeatLimits limits;
+} PeatSettings;
+
+/* One packet that is sent alone, a sender's Open or Close. Its timer runs while it is out; tries are the resends left to it. */
+typedef struct PeatLone {
+    uint8_t state;
+    uint16_t timer;
+    uint16_t tries;
+} PeatLone;
+
+/* behind: segments kept before the start (sent and passed, but their unit is not confirmed; or received and not taken). A sender has ahead
+ * segments from the start on, of which flight were handed out; way of the receiver's last behind are of a unit that is not finished. */
+typedef struct PeatWindow {
+    uint8_t start; /* the window's first number */
+    size_t place;  /* the place on the ring of slots where that segment lies */
+    size_t behind;
+    size_t ahead;
+    size_t flight;
+    size_t way;
+} PeatWindow;
+
+/* By place: ticks left to a segment that is out (0: none runs), and the resends left to it. */
+typedef struct PeatTimers {
+    uint16_t closing; /* the receiver's close timer */
+    uint16_t left[PEAT_SLOTS];
+    uint16_t tries[PEAT_SLOTS];
+} PeatTimers;
+
+typedef struct PeatChannel {
+    PeatAddresses addresses;
+    PeatLimits limits;
+    uint8_t state;
+    uint8_t reason;
+    uint8_t kept;     /* a Close directive waits for the Open's ack */
+    uint8_t accepted; /* Data was accepted in this opening */
+    PeatLone control;
+    PeatWindow window;
+    PeatTimers timers;
+    uint8_t marks[PEAT_SLOTS]; /* by place: 0 for a slot not in use, else the segment's flags and 1 more */
+    uint8_t acked[PEAT_SLOTS]; /* by place: not 0 once acknowledged */
+} PeatChannel;
+
+/* What a call of the node answers. */
+typedef struct PeatSaid {
+    uint32_t number;  /* the answer */
+    uint32_t reason;  /* with 9 why the channel went inactive, else 0 */
+    size_t length;    /* with 0 and 15 the octets written, else 0 */
+    size_t confirmed; /* with 0 the units that a Data Ack confirmed, else 0 */
+} PeatSaid;
+
+/* ---- the packet alone ---- */
+
+/* The header's fields but for the payload length, which is that of the payload. */
+typedef struct PeatFields {
+    uint8_t destination;
+    uint8_t protocol;
+    uint8_t version;
+    uint8_t secondary;
+    uint8_t flags;
+    uint8_t kind; /* packet type */
+    uint16_t channel;
+    uint8_t number;
+    uint8_t reserved;
+    uint8_t prefix;
+    uint8_t source;
+} PeatFields;
+
+/* With 0 the fields, where the payload begins in the packet, and how many octets it has; else zeros. */
+typedef struct PeatReading {
+    uint32_t answer;
+    PeatFields fields;
+    size_t start;
+    size_t length;
+} PeatReading;
+
+/* With 0 the octets written, else 0. */
+typedef struct PeatWriting {
+    uint32_t answer;
+    size_t length;
+} PeatWriting;
+
+#endif

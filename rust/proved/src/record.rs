@@ -1,0 +1,197 @@
+//! The record of a channel and its parts, as `crates/channel` has them: numbers
+//! and arrays of numbers only, so that every bit pattern is a value, and a
+//! record that was spoilt is refused with 13 and never undefined.
+
+pub use crate::numbers::{direction, lone, reason, state, PROTOCOL, RECORDS, SLOTS};
+
+/// `PeatNode`: the node's own settings.
+#[repr(C)]
+#[derive(Clone, Copy, Debug, Default, PartialEq, Eq)]
+pub struct Node {
+    /// Own logical address.
+    pub address: u8,
+    /// Protocol ID.
+    pub protocol: u8,
+}
+
+/// `PeatAddresses`: which channel it is, to which node, and whether this end
+/// sends or receives.
+#[repr(C)]
+#[derive(Clone, Copy, Debug, Default, PartialEq, Eq)]
+pub struct Addresses {
+    /// Channel number.
+    pub channel: u16,
+    /// The other node's logical address.
+    pub remote: u8,
+    /// One of [`direction`].
+    pub direction: u8,
+}
+
+/// `PeatLimits`: what the settings fix.
+#[repr(C)]
+#[derive(Clone, Copy, Debug, Default, PartialEq, Eq)]
+pub struct Limits {
+    /// Window k: a power of two, 1 to 64.
+    pub window: usize,
+    /// Slots: k to 128.
+    pub slots: usize,
+    /// P, the most payload octets: 1 to 1,024.
+    pub payload: usize,
+    /// M, the most segments in a unit: 1 to slots.
+    pub segments: usize,
+    /// Ticks until a packet that is not acknowledged is ready again.
+    pub timeout: u16,
+    /// Ticks that a receiver stays in CLOSING.
+    pub closing: u16,
+    /// Resends allowed to a packet: 0 to 255.
+    pub retries: u16,
+}
+
+/// `PeatSettings`: of one channel.
+#[repr(C)]
+#[derive(Clone, Copy, Debug, Default, PartialEq, Eq)]
+pub struct Settings {
+    /// Which channel it is.
+    pub addresses: Addresses,
+    /// What it is allowed.
+    pub limits: Limits,
+}
+
+/// `PeatLone`: one packet that is sent alone, a sender's Open or Close.
+#[repr(C)]
+#[derive(Clone, Copy, Debug, Default, PartialEq, Eq)]
+pub struct Lone {
+    /// One of [`lone`].
+    pub state: u8,
+    /// Ticks left while it is out.
+    pub timer: u16,
+    /// The resends left to it.
+    pub tries: u16,
+}
+
+/// `PeatWindow`: the window's first number, and what lies before it and from it
+/// on.
+#[repr(C)]
+#[derive(Clone, Copy, Debug, Default, PartialEq, Eq)]
+pub struct Window {
+    /// The window's first number.
+    pub start: u8,
+    /// The place on the ring of slots where that segment lies: the number does
+    /// not tell it.
+    pub place: usize,
+    /// Segments kept before the start: sent and passed, but their unit is not
+    /// confirmed; or received and not taken.
+    pub behind: usize,
+    /// A sender's segments from the start on.
+    pub ahead: usize,
+    /// Of these, those that were handed out.
+    pub flight: usize,
+    /// Of the receiver's last behind, those of a unit that is not finished.
+    pub way: usize,
+}
+
+/// `PeatTimers`: by place on the ring, but for the close timer.
+#[repr(C)]
+#[derive(Clone, Copy, Debug, PartialEq, Eq)]
+pub struct Timers {
+    /// The receiver's close timer.
+    pub closing: u16,
+    /// Ticks left to a segment that is out; 0: no timer runs.
+    pub left: [u16; SLOTS],
+    /// The resends left to a segment.
+    pub tries: [u16; SLOTS],
+}
+
+/// `PeatChannel`: the whole record.
+#[repr(C)]
+#[derive(Clone, Copy, Debug, PartialEq, Eq)]
+pub struct Channel {
+    /// Which channel it is.
+    pub addresses: Addresses,
+    /// What it is allowed.
+    pub limits: Limits,
+    /// One of [`state`].
+    pub state: u8,
+    /// One of [`reason`].
+    pub reason: u8,
+    /// Not 0: a Close directive waits for the Open's ack.
+    pub kept: u8,
+    /// Not 0: Data was accepted in this opening.
+    pub accepted: u8,
+    /// The Open or the Close of a sender.
+    pub control: Lone,
+    /// Where the window stands, and what is held.
+    pub window: Window,
+    /// What runs.
+    pub timers: Timers,
+    /// By place: 0 for a slot not in use, else the segment's flags and 1 more.
+    pub marks: [u8; SLOTS],
+    /// By place: not 0 once the segment was acknowledged.
+    pub acked: [u8; SLOTS],
+}
+
+impl Timers {
+    /// None runs.
+    pub const fn blank() -> Self {
+        Timers {
+            closing: 0,
+            left: [0; SLOTS],
+            tries: [0; SLOTS],
+        }
+    }
+}
+
+impl Channel {
+    /// All zeros: what a caller lends to [`crate::calls::settings`] to be made.
+    /// It lacks the standing condition, so every other call refuses it with 13.
+    pub const fn blank() -> Self {
+        Channel {
+            addresses: Addresses {
+                channel: 0,
+                remote: 0,
+                direction: 0,
+            },
+            limits: Limits {
+                window: 0,
+                slots: 0,
+                payload: 0,
+                segments: 0,
+                timeout: 0,
+                closing: 0,
+                retries: 0,
+            },
+            state: state::CLOSED,
+            reason: reason::NONE,
+            kept: 0,
+            accepted: 0,
+            control: Lone {
+                state: lone::NONE,
+                timer: 0,
+                tries: 0,
+            },
+            window: Window {
+                start: 0,
+                place: 0,
+                behind: 0,
+                ahead: 0,
+                flight: 0,
+                way: 0,
+            },
+            timers: Timers::blank(),
+            marks: [0; SLOTS],
+            acked: [0; SLOTS],
+        }
+    }
+}
+
+impl Default for Timers {
+    fn default() -> Self {
+        Timers::blank()
+    }
+}
+
+impl Default for Channel {
+    fn default() -> Self {
+        Channel::blank()
+    }
+}

@@ -1,0 +1,118 @@
+//! The node as a type: what it answers in words, and that settings alone make it.
+
+mod ends;
+
+use ends::{HOST, LIMITS, STATION};
+use proved::record::direction;
+use proved::{
+    storage, Addresses, Answer, Channel, NodeTable, Reason, Refusal, Said, Settings, State,
+};
+
+/// Channel 0 sends, channel 1 receives, to and from the node itself.
+fn settings() -> [Settings; 2] {
+    [direction::SENDS, direction::RECEIVES].map(|direction| Settings {
+        addresses: Addresses {
+            channel: 1,
+            remote: HOST.address,
+            direction,
+        },
+        limits: LIMITS,
+    })
+}
+
+fn with_node(play: impl FnOnce(&mut NodeTable)) {
+    let (octets, lengths) = storage(&settings());
+    let mut table = [Channel::blank(); 2];
+    let (mut memory, mut lengths) = (vec![0xAA; octets], vec![0xBBBB; lengths]);
+    let made = NodeTable::settings(HOST, &mut table, &mut memory, &mut lengths, &settings());
+    play(&mut made.expect("these settings are good"));
+}
+
+/// The next packet to the node itself, and its ack.
+fn exchange(node: &mut NodeTable) -> [Answer; 3] {
+    let (mut packet, mut ack) = ([0; 28], [0; 12]);
+    let out = node.next_packet(&mut packet);
+    let there = node.arrival(&packet[..out.length()], &mut ack);
+    let back = node.arrival(&ack[..there.length()], &mut packet);
+    [out, there, back]
+}
+
+#[test]
+fn a_unit_to_itself() {
+    with_node(|node| {
+        assert_eq!([node.open(0), node.open(1)], [Answer::DONE; 2]);
+        assert_eq!(node.state(0), Some(State::Enabled));
+        assert_eq!(node.transfer(0, b"early"), Answer::Refused(Refusal::State));
+        exchange(node);
+        assert_eq!([node.state(0), node.state(1)], [Some(State::Open); 2]);
+        assert_eq!(node.transfer(0, b"event"), Answer::DONE);
+        let (length, confirmed) = (17, 0);
+        let out = Answer::Done { length, confirmed };
+        let (length, confirmed) = (12, 0);
+        let there = Answer::Done { length, confirmed };
+        let (length, confirmed) = (0, 1);
+        let back = Answer::Done { length, confirmed };
+        assert_eq!(exchange(node), [out, there, back]);
+        let mut unit = [0; 6];
+        assert_eq!(
+            node.take(1, &mut unit[..4]),
+            Answer::Refused(Refusal::Small)
+        );
+        assert_eq!(node.take(1, &mut unit).length(), 5);
+        assert_eq!(&unit, b"event\0");
+        assert_eq!(node.close(0), Answer::DONE);
+        exchange(node);
+        assert_eq!(node.state(0), Some(State::Closed));
+        assert_eq!(node.state(1), Some(State::Closing));
+        assert_eq!(node.open(2), Answer::Refused(Refusal::NoChannel));
+        assert_eq!((node.state(2), node.reason(2)), (None, None));
+    });
+}
+
+#[test]
+fn a_channel_goes_inactive() {
+    with_node(|node| {
+        node.open(0);
+        let mut packet = [0; 28];
+        let ticks = (0..3).flat_map(|_| {
+            node.next_packet(&mut packet);
+            (0..5).map(|_| node.tick()).collect::<Vec<_>>()
+        });
+        let last = ticks.last();
+        assert_eq!(last, Some(Answer::Inactive(Reason::Retries)));
+        assert_eq!(node.reason(0), Some(Reason::Retries));
+        assert_eq!(node.state(0), Some(State::Closed));
+        let nothing = Answer::Refused(Refusal::Nothing);
+        assert_eq!(node.reclaim(0, &mut packet), nothing);
+        assert_eq!(node.records()[0].addresses, settings()[0].addresses);
+    });
+}
+
+#[test]
+fn bad_settings_make_no_node() {
+    let mut table = [Channel::blank(); 2];
+    let (octets, lengths) = storage(&settings());
+    let (mut memory, mut slots) = (vec![0; octets], vec![0; lengths]);
+    let twice = [settings()[0]; 2];
+    let made = NodeTable::settings(STATION, &mut table, &mut memory, &mut slots, &twice);
+    assert_eq!(made.err(), Some(Refusal::Settings));
+    let less = &mut memory[1..];
+    let made = NodeTable::settings(STATION, &mut table, less, &mut slots, &settings());
+    assert_eq!(made.err(), Some(Refusal::Settings));
+}
+
+#[test]
+fn every_number_has_its_name() {
+    for number in 0..=16 {
+        let reason = if number == 9 { 4 } else { 0 };
+        let said = Said {
+            number,
+            reason,
+            length: 0,
+            confirmed: 0,
+        };
+        assert_eq!(Answer::from(said).number(), number);
+    }
+    let named = Refusal::ALL.map(Refusal::number);
+    assert_eq!(named, [1, 2, 3, 4, 5, 6, 7, 8, 10, 11, 12, 13, 14, 16]);
+}

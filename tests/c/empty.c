@@ -1,0 +1,89 @@
+/* A pointer with a count of 0 is not followed: a node of which nothing is lent is refused by every call with 13, and an empty unit is sent from
+ * nowhere and taken to nowhere. Records that were never set are refused, and nothing of what is lent changes. */
+#include <string.h>
+
+#include "check.h"
+#include "peatwimple.h"
+
+static const PeatNode NODE = {64, PEAT_PROTOCOL};
+
+static int says(PeatSaid said, uint32_t number) {
+    return said.number == number && said.reason == 0 && said.length == 0 && said.confirmed == 0;
+}
+
+#define NONE NULL, 0, NULL, 0, NULL, 0
+
+static void nothing_is_lent(void) {
+    CHECK(says(peat_settings(NONE, NULL, 0), PEAT_SETTINGS));
+    CHECK(says(peat_open(NONE, 0), PEAT_SETTINGS));
+    CHECK(says(peat_close(NONE, 0), PEAT_SETTINGS));
+    CHECK(says(peat_transfer(NONE, 0, NULL, 0), PEAT_SETTINGS));
+    CHECK(says(peat_take(NONE, 0, NULL, 0), PEAT_SETTINGS));
+    CHECK(says(peat_reclaim(NONE, 0, NULL, 0), PEAT_SETTINGS));
+    CHECK(says(peat_next_packet(NONE, NODE, NULL, 0), PEAT_SETTINGS));
+    CHECK(says(peat_arrival(NONE, NODE, NULL, 0, NULL, 0), PEAT_SETTINGS));
+    CHECK(says(peat_tick(NONE), PEAT_SETTINGS));
+    CHECK(peat_read_packet(NULL, 0).answer == PEAT_SHORT);
+}
+
+#define LENT table, 17, memory, sizeof memory, lengths, 4
+
+/* Octets of any value as records, one more than a table may have. */
+static void never_set(int octet) {
+    static PeatChannel table[17], before[17];
+    uint8_t memory[8] = {0};
+    uint16_t lengths[4] = {0};
+    uint8_t packet[12] = {0}, out[16] = {0}, clear[16] = {0};
+
+    memset(table, octet, sizeof table);
+    memset(before, octet, sizeof before);
+    CHECK(says(peat_open(LENT, 0), PEAT_SETTINGS));
+    CHECK(says(peat_transfer(LENT, 0, packet, 1), PEAT_SETTINGS));
+    CHECK(says(peat_next_packet(LENT, NODE, out, sizeof out), PEAT_SETTINGS));
+    CHECK(says(peat_arrival(LENT, NODE, packet, sizeof packet, out, sizeof out), PEAT_SETTINGS));
+    CHECK(says(peat_tick(table, 1, memory, sizeof memory, lengths, 4), PEAT_SETTINGS));
+    CHECK(memcmp(table, before, sizeof table) == 0);
+    CHECK(memcmp(out, clear, sizeof out) == 0);
+}
+
+#undef LENT
+#define LENT table, 2, memory, sizeof memory, lengths, 4
+
+/* The next packet to the node itself, and its ack. Gives how many units that confirmed. */
+static size_t exchange(PeatChannel *table, uint8_t memory[4], uint16_t *lengths) {
+    uint8_t packet[16], ack[12];
+    PeatSaid out = peat_next_packet(table, 2, memory, 4, lengths, 4, NODE, packet, sizeof packet);
+    PeatSaid there = peat_arrival(table, 2, memory, 4, lengths, 4, NODE, packet, out.length, ack, sizeof ack);
+    PeatSaid back = peat_arrival(table, 2, memory, 4, lengths, 4, NODE, ack, there.length, packet, sizeof packet);
+    CHECK(out.number == PEAT_DONE && there.number == PEAT_DONE && back.number == PEAT_DONE);
+    return back.confirmed;
+}
+
+static void an_empty_unit(void) {
+    static const PeatSettings settings[2] = {
+        {{1, 64, PEAT_SENDS}, {1, 2, 1, 1, 9, 9, 0}},
+        {{1, 64, PEAT_RECEIVES}, {1, 2, 1, 1, 9, 9, 0}},
+    };
+    static PeatChannel table[2];
+    uint8_t memory[4] = {0};
+    uint16_t lengths[4] = {0};
+
+    CHECK(says(peat_settings(LENT, settings, 2), PEAT_DONE));
+    CHECK(says(peat_open(LENT, 0), PEAT_DONE));
+    CHECK(says(peat_open(LENT, 1), PEAT_DONE));
+    CHECK(exchange(table, memory, lengths) == 0);
+    CHECK(says(peat_transfer(LENT, 0, NULL, 0), PEAT_DONE));
+    CHECK(exchange(table, memory, lengths) == 1);
+    CHECK(says(peat_take(LENT, 1, NULL, 0), PEAT_DONE));
+    CHECK(says(peat_take(LENT, 1, NULL, 0), PEAT_NOTHING));
+}
+
+int main(void) {
+    int octet;
+    nothing_is_lent();
+    an_empty_unit();
+    for (octet = 0; octet < 256 && !wrong; octet++) {
+        never_set(octet);
+    }
+    return wrong;
+}
