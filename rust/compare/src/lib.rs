@@ -4,9 +4,21 @@
 #![forbid(unsafe_code)]
 #![warn(missing_docs)]
 
+pub mod bounds;
+pub mod call;
 pub mod check;
+pub mod condition;
 pub mod counts;
 pub mod damage;
 pub mod faults;
+pub mod link;
 pub mod noise;
+pub mod overwriting;
 pub mod packets;
+pub mod records;
+pub mod sizes;
+pub mod strays;
+pub mod tables;
+pub mod tally;
+pub mod twin;
+pub mod world;

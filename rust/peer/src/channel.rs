@@ -4,6 +4,7 @@ use crate::answer::Refusal;
 use crate::receiving::ReceivingEnd;
 use crate::sending::SendingEnd;
 use crate::settings::{Direction, Settings};
+use crate::sight::Sight;
 use crate::state::{Reason, State};
 
 /// A record of the table.
@@ -39,6 +40,13 @@ impl Channel {
         match self {
             Channel::Sending(end) => end.reason(),
             Channel::Receiving(end) => end.reason(),
+        }
+    }
+
+    pub(crate) fn sight(&self) -> Sight {
+        match self {
+            Channel::Sending(end) => end.sight(),
+            Channel::Receiving(end) => end.sight(),
         }
     }
 

@@ -1,6 +1,8 @@
 //! The course of one packet from being ready to its ack: timer and retries
 //! (document 01, Sending; 000, 4.4.4.5).
 
+use crate::sight::CourseSight;
+
 /// How often a packet was handed out, and the timer of the last time. Once it
 /// is acknowledged it has no course any more.
 #[derive(Clone, Debug, PartialEq, Eq)]
@@ -16,6 +18,13 @@ impl Course {
         hand_outs: 0,
         timer: None,
     };
+
+    pub(crate) fn sight(&self) -> CourseSight {
+        CourseSight {
+            hand_outs: self.hand_outs,
+            timer: self.timer,
+        }
+    }
 
     /// Whether the packet may be handed out.
     pub(crate) fn is_ready(&self) -> bool {

@@ -22,6 +22,7 @@ pub mod replay;
 mod segment;
 mod sending;
 pub mod settings;
+pub mod sight;
 mod slots;
 pub mod state;
 #[cfg(test)]

@@ -4,6 +4,7 @@
 use crate::answer::{refuse_if, Answer, Refusal};
 use crate::channel::Channel;
 use crate::settings::{storage, test_table, Direction, NodeSettings, Settings};
+use crate::sight::Sight;
 use crate::slots::Slots;
 use crate::state::{Reason, State};
 
@@ -112,6 +113,11 @@ impl Node {
     pub fn direction(&self, index: usize) -> Option<Direction> {
         let channel = self.channels.get(index)?;
         Some(channel.settings().direction)
+    }
+
+    /// What else can be seen of a channel, if there is one of this index.
+    pub fn sight(&self, index: usize) -> Option<Sight> {
+        self.channels.get(index).map(Channel::sight)
     }
 
     /// The lent memory: "A node's memories lie one after another in table

@@ -12,6 +12,7 @@ use crate::state::{Reason, State};
 use reception::{place, Place, Reception};
 
 mod reception;
+mod seen;
 #[cfg(test)]
 mod tests;
 

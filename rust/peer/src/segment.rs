@@ -3,6 +3,7 @@
 
 use crate::answer::Refusal;
 use crate::packet::flags;
+use crate::sight::{CourseSight, SegmentSight};
 
 /// One segment of an opening. Its number is the whole one, which starts from 1
 /// and is never taken round, so that it cannot be mistaken for another.
@@ -14,6 +15,14 @@ pub(crate) struct Segment {
 }
 
 impl Segment {
+    pub(crate) fn sight(&self, course: Option<CourseSight>) -> SegmentSight {
+        SegmentSight {
+            number: self.number,
+            flags: self.flags,
+            course,
+        }
+    }
+
     /// Whether this is a unit's last segment.
     pub(crate) fn ends_unit(&self) -> bool {
         [flags::LAST, flags::WHOLE].contains(&self.flags)

@@ -12,6 +12,7 @@ use crate::state::{Reason, State};
 
 use window::Window;
 
+mod seen;
 #[cfg(test)]
 mod tests;
 mod window;

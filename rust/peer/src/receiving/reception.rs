@@ -51,6 +51,16 @@ impl Reception {
         self.start
     }
 
+    /// All segments held here, lowest first.
+    pub(super) fn segments(&self) -> impl Iterator<Item = &Segment> {
+        self.unfinished.iter().chain(self.beyond.values())
+    }
+
+    /// How many of them the start has passed.
+    pub(super) fn unfinished(&self) -> usize {
+        self.unfinished.len()
+    }
+
     /// Whether Data was accepted in this opening.
     pub(super) fn has_accepted(&self) -> bool {
         self.start > 1 || !self.beyond.is_empty()

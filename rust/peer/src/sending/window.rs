@@ -31,6 +31,11 @@ impl Window {
             .map_or(self.next, |(&number, _)| number)
     }
 
+    /// The course of a segment that waits for its ack.
+    pub(super) fn course(&self, segment: u64) -> Option<&Course> {
+        self.waiting.get(&segment)
+    }
+
     /// Makes so many new segments ready and gives the first one's number.
     pub(super) fn add(&mut self, count: usize) -> u64 {
         let first = self.next;

@@ -1,0 +1,114 @@
+//! The proved library.
+
+use peer::settings::{storage, Direction, Settings};
+use proved::record::{direction, Addresses, Channel, Limits};
+
+use super::{Given, Side};
+
+/// The proved library.
+#[derive(Clone)]
+pub struct Ours {
+    node: proved::record::Node,
+    settings: Vec<proved::record::Settings>,
+    table: Vec<Channel>,
+    memory: Vec<u8>,
+    lengths: Vec<u16>,
+}
+
+impl From<proved::Said> for Given {
+    fn from(said: proved::Said) -> Given {
+        Given {
+            number: said.number,
+            length: said.length,
+        }
+    }
+}
+
+impl Side for Ours {
+    fn new(address: u8, settings: &[Settings]) -> Ours {
+        let (octets, slots) = storage(settings);
+        let node = proved::record::Node {
+            address,
+            protocol: proved::record::PROTOCOL,
+        };
+        let mut side = Ours {
+            node,
+            settings: settings.iter().map(to_proved).collect(),
+            table: vec![Channel::blank(); settings.len()],
+            memory: vec![0; octets],
+            lengths: vec![0; slots],
+        };
+        assert_eq!(side.settings().number, 0);
+        side
+    }
+
+    fn settings(&mut self) -> Given {
+        let Ours {
+            memory, lengths, ..
+        } = self;
+        proved::calls::settings(&mut self.table, memory, lengths, &self.settings).into()
+    }
+
+    fn open(&mut self, index: usize) -> Given {
+        proved::calls::open(&mut self.table, &self.memory, &self.lengths, index).into()
+    }
+
+    fn close(&mut self, index: usize) -> Given {
+        proved::calls::close(&mut self.table, &self.memory, &self.lengths, index).into()
+    }
+
+    fn transfer(&mut self, index: usize, unit: &[u8]) -> Given {
+        let Ours {
+            memory, lengths, ..
+        } = self;
+        proved::calls::transfer(&mut self.table, memory, lengths, index, unit).into()
+    }
+
+    fn take(&mut self, index: usize, out: &mut [u8]) -> Given {
+        proved::calls::take(&mut self.table, &self.memory, &self.lengths, index, out).into()
+    }
+
+    fn reclaim(&mut self, index: usize, out: &mut [u8]) -> Given {
+        proved::calls::reclaim(&mut self.table, &self.memory, &self.lengths, index, out).into()
+    }
+
+    fn next_packet(&mut self, out: &mut [u8]) -> Given {
+        let Ours {
+            memory, lengths, ..
+        } = self;
+        proved::calls::next_packet(&mut self.table, memory, lengths, self.node, out).into()
+    }
+
+    fn arrival(&mut self, packet: &[u8], reply: &mut [u8]) -> Given {
+        let Ours {
+            memory, lengths, ..
+        } = self;
+        proved::calls::arrival(&mut self.table, memory, lengths, self.node, packet, reply).into()
+    }
+
+    fn tick(&mut self) -> Given {
+        proved::calls::tick(&mut self.table, &self.memory, &self.lengths).into()
+    }
+}
+
+fn to_proved(settings: &Settings) -> proved::record::Settings {
+    proved::record::Settings {
+        addresses: Addresses {
+            channel: settings.channel,
+            remote: settings.remote,
+            direction: match settings.direction {
+                Direction::Sending => direction::SENDS,
+                Direction::Receiving => direction::RECEIVES,
+            },
+        },
+        limits: Limits {
+            window: settings.window as usize,
+            slots: settings.slots as usize,
+            payload: settings.most_payload as usize,
+            segments: settings.most_segments as usize,
+            timeout: settings.timeout as u16,
+            closing: settings.close_timeout as u16,
+            retries: settings.retries as u16,
+        },
+    }
+}

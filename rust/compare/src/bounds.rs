@@ -1,0 +1,196 @@
+//! Settings at and past each bound, asked of both libraries.
+
+use peer::settings::{Direction, Settings};
+use peer::state::State;
+use proved::record::Node;
+
+use crate::call::{to_proved, Call};
+use crate::noise::Noise;
+use crate::tables::{limits, Size};
+use crate::tally::Tally;
+use crate::twin::Twin;
+
+const NODE: Node = Node {
+    address: 64,
+    protocol: 5,
+};
+
+/// A change of settings, and its name.
+pub type Bound = (&'static str, fn(&mut Vec<Settings>));
+
+/// Each bound of document 01, one at a time: all else is good.
+pub const REFUSED: [Bound; 13] = [
+    ("settings: window 0", |table| table[0].window = 0),
+    ("settings: window not a power of two", |table| {
+        table[0].window = 3;
+        table[0].slots = 8;
+    }),
+    ("settings: window over 64", |table| {
+        table[0].window = 128;
+        table[0].slots = 128;
+    }),
+    ("settings: slots under the window", |table| {
+        table[0].window = 8;
+        table[0].slots = 7;
+        table[0].most_segments = 1;
+    }),
+    ("settings: slots over 128", |table| table[0].slots = 129),
+    ("settings: P 0", |table| table[0].most_payload = 0),
+    ("settings: P over 1,024", |table| {
+        table[0].most_payload = 1_025;
+    }),
+    ("settings: M 0", |table| table[0].most_segments = 0),
+    ("settings: M over slots", |table| {
+        table[0].most_segments = table[0].slots + 1;
+    }),
+    ("settings: timeout 0", |table| table[0].timeout = 0),
+    ("settings: close timeout 0", |table| {
+        table[0].close_timeout = 0;
+    }),
+    ("settings: retries over 255", |table| table[0].retries = 256),
+    ("settings: two that clash", |table| {
+        let last = table.len() - 1;
+        table.push(table[last]);
+    }),
+];
+
+/// Changes that lie just within the bounds.
+pub const ACCEPTED: [Bound; 7] = [
+    ("settings: window and slots 1", |table| {
+        (table[0].window, table[0].slots, table[0].most_segments) = (1, 1, 1);
+    }),
+    ("settings: window 64, slots 128", |table| {
+        (table[0].window, table[0].slots) = (64, 128);
+    }),
+    ("settings: P 1", |table| table[0].most_payload = 1),
+    ("settings: P 1,024", |table| table[0].most_payload = 1_024),
+    ("settings: M as many as slots", |table| {
+        table[0].most_segments = table[0].slots;
+    }),
+    ("settings: timeouts 65,535, retries 255", |table| {
+        table[0].timeout = 65_535;
+        table[0].close_timeout = 65_535;
+        table[0].retries = 255;
+    }),
+    ("settings: apart in direction alone", |table| {
+        let mut other = table[table.len() - 1];
+        other.direction = match other.direction {
+            Direction::Sending => Direction::Receiving,
+            Direction::Receiving => Direction::Sending,
+        };
+        table.push(other);
+    }),
+];
+
+/// Counts of records, and of settings; all but the last are refused.
+pub const COUNTS: [(&str, usize, usize); 5] = [
+    ("settings: none for no record", 0, 0),
+    ("settings: 17 for 17 records", 17, 17),
+    ("settings: one for two records", 2, 1),
+    ("settings: two for one record", 1, 2),
+    ("settings: 16 for 16 records", 16, 16),
+];
+
+/// Good settings for so many records.
+fn good(count: usize, noise: &mut Noise) -> Vec<Settings> {
+    let numbered = |channel| Settings {
+        channel,
+        ..limits(Size::Small, noise)
+    };
+    (0..count as u16).map(numbered).collect()
+}
+
+/// Gives these settings to a node whose storage is made for them; all else is
+/// asked of it afterwards.
+fn give(settings: &[Settings], records: usize, noise: &mut Noise, tally: &mut Tally) -> u32 {
+    let mut twin = Twin::new(NODE, records, settings, noise);
+    let answer = twin.call(Call::Settings(settings), 0, tally).said.number;
+    for call in [Call::Open(0), Call::Tick, Call::NextPacket, Call::Open(16)] {
+        twin.call(call, 64, tally);
+    }
+    answer
+}
+
+/// Every bound once, in the record of a table of chance.
+pub fn check_bounds(noise: &mut Noise, tally: &mut Tally) {
+    for (bounds, expected) in [(&REFUSED[..], 13), (&ACCEPTED[..], 0)] {
+        for (name, change) in bounds {
+            let mut settings = good(1 + noise.below(3), noise);
+            change(&mut settings);
+            let answer = give(&settings, settings.len(), noise, tally);
+            assert_eq!(answer, expected, "{name}");
+            tally.case(name);
+        }
+    }
+    for (name, records, count) in COUNTS {
+        let settings = good(count, noise);
+        let expected = if records == 16 { 0 } else { 13 };
+        assert_eq!(give(&settings, records, noise, tally), expected, "{name}");
+        tally.case(name);
+    }
+    check_storage(noise, tally);
+    check_unsayable(noise, tally);
+}
+
+/// Settings that ask for other storage than is lent.
+pub const STORAGE: [Bound; 2] = [
+    ("settings: memory of another size", |table| {
+        table[0].most_payload += 1;
+    }),
+    ("settings: lengths of another size", |table| {
+        // As many octets in fewer slots.
+        table[0].slots /= 2;
+        table[0].most_payload *= 2;
+    }),
+];
+
+/// A field of settings, set to what the peer's cannot say.
+type Unsayable = fn(&mut proved::record::Settings, usize);
+
+const UNSAYABLE: [Unsayable; 5] = [
+    |settings, number| settings.addresses.direction = (number % 254) as u8 + 2,
+    |settings, number| settings.limits.window = number,
+    |settings, number| settings.limits.slots = number,
+    |settings, number| settings.limits.payload = number,
+    |settings, number| settings.limits.segments = number,
+];
+
+/// Settings that the proved library alone can be asked for: directions that are
+/// none, and numbers so large that slots times P goes past what a word holds.
+fn check_unsayable(noise: &mut Noise, tally: &mut Tally) {
+    for change in UNSAYABLE {
+        for number in [usize::MAX, 1 << 63, 1 << 32, usize::MAX / 2 + 2] {
+            let settings = good(1, noise);
+            let mut twin = Twin::new(NODE, 1, &settings, noise);
+            twin.call(Call::Settings(&settings), 0, tally);
+            let before = twin.table.clone();
+            let mut asked = [to_proved(&settings[0])];
+            change(&mut asked[0], number);
+            let (memory, lengths) = (&twin.memory, &twin.lengths);
+            let said = proved::calls::settings(&mut twin.table, memory, lengths, &asked);
+            tally.alone += 1;
+            tally.answer("settings", said.number);
+            tally.case("settings: what the peer cannot say");
+            assert_eq!(said.number, 13, "{asked:?}");
+            assert!(twin.table == before);
+        }
+    }
+}
+
+/// Settings over the storage of other ones, which have an opening: it goes on.
+fn check_storage(noise: &mut Noise, tally: &mut Tally) {
+    for (name, change) in STORAGE {
+        let mut settings = good(1, noise);
+        (settings[0].window, settings[0].slots) = (1, 8);
+        settings[0].most_segments = 1;
+        let mut twin = Twin::new(NODE, 1, &settings, noise);
+        let answer = twin.call(Call::Settings(&settings), 0, tally).said.number;
+        assert_eq!(answer, 0, "{name}");
+        twin.call(Call::Open(0), 0, tally);
+        change(&mut settings);
+        let answer = twin.call(Call::Settings(&settings), 0, tally).said.number;
+        assert_eq!(answer, 13, "{name}");
+        tally.case(name);
+        assert_eq!(twin.state(0), State::Enabled, "{name}");
+    }
+}

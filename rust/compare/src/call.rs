@@ -1,0 +1,127 @@
+//! One call of a node, to be made of both libraries.
+
+use peer::answer::Answer;
+use peer::settings::{Direction, Settings};
+use proved::calls;
+use proved::record::{direction, Addresses, Channel, Limits, Node};
+use proved::Said;
+
+/// A call and what it is given beside the table, the memory, the lengths and
+/// the buffer.
+#[derive(Clone, Copy, Debug)]
+pub enum Call<'a> {
+    /// Settings for the whole table.
+    Settings(&'a [Settings]),
+    /// An Open directive for the record of this index.
+    Open(usize),
+    /// A Close directive.
+    Close(usize),
+    /// A unit to be sent.
+    Transfer(usize, &'a [u8]),
+    /// The oldest complete unit is asked for.
+    Take(usize),
+    /// The oldest unconfirmed unit is asked for.
+    Reclaim(usize),
+    /// The next packet is asked for.
+    NextPacket,
+    /// A packet from the link.
+    Arrival(&'a [u8]),
+    /// A tick.
+    Tick,
+}
+
+/// What the caller of the proved library lends.
+pub struct Lent<'a> {
+    /// The node's own settings.
+    pub node: Node,
+    /// The records.
+    pub table: &'a mut [Channel],
+    /// The slots' octets.
+    pub memory: &'a mut [u8],
+    /// The slots' lengths.
+    pub lengths: &'a mut [u16],
+    /// The buffer, for calls that write a packet or a unit.
+    pub out: &'a mut [u8],
+}
+
+impl Call<'_> {
+    /// The call's name, as in docs/PROMISES.md.
+    pub fn name(&self) -> &'static str {
+        match self {
+            Call::Settings(_) => "settings",
+            Call::Open(_) => "open",
+            Call::Close(_) => "close",
+            Call::Transfer(..) => "transfer",
+            Call::Take(_) => "take",
+            Call::Reclaim(_) => "reclaim",
+            Call::NextPacket => "next_packet",
+            Call::Arrival(_) => "arrival",
+            Call::Tick => "tick",
+        }
+    }
+
+    /// Made of the proved library.
+    pub fn of_proved(&self, lent: Lent) -> Said {
+        let Lent {
+            node,
+            table,
+            memory,
+            lengths,
+            out,
+        } = lent;
+        match *self {
+            Call::Settings(settings) => {
+                let settings: Vec<_> = settings.iter().map(to_proved).collect();
+                calls::settings(table, memory, lengths, &settings)
+            }
+            Call::Open(index) => calls::open(table, memory, lengths, index),
+            Call::Close(index) => calls::close(table, memory, lengths, index),
+            Call::Transfer(index, unit) => calls::transfer(table, memory, lengths, index, unit),
+            Call::Take(index) => calls::take(table, memory, lengths, index, out),
+            Call::Reclaim(index) => calls::reclaim(table, memory, lengths, index, out),
+            Call::NextPacket => calls::next_packet(table, memory, lengths, node, out),
+            Call::Arrival(packet) => calls::arrival(table, memory, lengths, node, packet, out),
+            Call::Tick => calls::tick(table, memory, lengths),
+        }
+    }
+
+    /// Made of the peer.
+    pub fn of_peer(&self, node: &mut peer::node::Node, out: &mut [u8]) -> Answer {
+        match *self {
+            Call::Settings(settings) => node.settings(settings),
+            Call::Open(index) => node.open(index),
+            Call::Close(index) => node.close(index),
+            Call::Transfer(index, unit) => node.transfer(index, unit),
+            Call::Take(index) => node.take(index, out),
+            Call::Reclaim(index) => node.reclaim(index, out),
+            Call::NextPacket => node.next_packet(out),
+            Call::Arrival(packet) => node.arrival(packet, out),
+            Call::Tick => node.tick(),
+        }
+    }
+}
+
+/// The same settings as the proved library takes them. Timeouts over 65,535
+/// and retries so large cannot be said there: a caller asks for none.
+pub fn to_proved(settings: &Settings) -> proved::record::Settings {
+    let narrow = |number: u32| u16::try_from(number).expect("16 bits");
+    proved::record::Settings {
+        addresses: Addresses {
+            channel: settings.channel,
+            remote: settings.remote,
+            direction: match settings.direction {
+                Direction::Sending => direction::SENDS,
+                Direction::Receiving => direction::RECEIVES,
+            },
+        },
+        limits: Limits {
+            window: settings.window as usize,
+            slots: settings.slots as usize,
+            payload: settings.most_payload as usize,
+            segments: settings.most_segments as usize,
+            timeout: narrow(settings.timeout),
+            closing: narrow(settings.close_timeout),
+            retries: narrow(settings.retries),
+        },
+    }
+}

@@ -1,0 +1,93 @@
+//! The test for 13, written from docs/CONDITION.md alone: what a table that
+//! was overwritten must be answered.
+
+use proved::record::{direction, state, Channel, Limits};
+
+/// Whether a table passes with so many octets and these lengths.
+pub fn is_lawful(table: &[Channel], octets: usize, lengths: &[u16]) -> bool {
+    if !(1..=16).contains(&table.len()) {
+        return false;
+    }
+    let mut rest = lengths;
+    let mut needed = 0;
+    for record in table {
+        let slots = record.limits.slots;
+        if !fits(&record.limits) || rest.len() < slots {
+            return false;
+        }
+        let (own, others) = rest.split_at(slots);
+        if !stands(record, own) {
+            return false;
+        }
+        needed += slots * record.limits.payload;
+        rest = others;
+    }
+    rest.is_empty() && needed == octets
+}
+
+/// `fitLimits`: such as settings allow.
+fn fits(limits: &Limits) -> bool {
+    limits.window.is_power_of_two()
+        && limits.window <= 64
+        && (limits.window..=128).contains(&limits.slots)
+        && (1..=1_024).contains(&limits.payload)
+        && (1..=limits.slots).contains(&limits.segments)
+        && limits.timeout >= 1
+        && limits.closing >= 1
+        && limits.retries <= 255
+}
+
+/// The other clauses, of a record whose limits fit.
+fn stands(record: &Channel, lengths: &[u16]) -> bool {
+    is_named(record) && is_counted(record) && is_marked(record) && slots_fit(record, lengths)
+}
+
+fn is_named(record: &Channel) -> bool {
+    record.addresses.direction <= 1
+        && record.state <= 3
+        && record.reason <= 5
+        && record.kept <= 1
+        && record.accepted <= 1
+        && record.control.state <= 3
+}
+
+/// `inRing`, `inFlight` and `sided`.
+fn is_counted(record: &Channel) -> bool {
+    let (limits, window) = (&record.limits, &record.window);
+    let in_ring = window.place < limits.slots
+        && window.behind <= limits.slots
+        && window.ahead <= limits.slots - window.behind;
+    let in_flight = window.flight <= window.ahead
+        && window.flight <= limits.window
+        && window.way <= window.behind
+        && window.way < limits.segments;
+    let sided = if record.addresses.direction == direction::SENDS {
+        let rests = window.behind == 0 && window.flight == 0;
+        window.way == 0 && (record.state == state::OPEN || rests)
+    } else {
+        window.ahead == 0
+    };
+    in_ring && in_flight && sided
+}
+
+/// Each segment held, from the oldest on, lies in a slot that is marked.
+fn is_marked(record: &Channel) -> bool {
+    let (slots, window) = (record.limits.slots, &record.window);
+    let oldest = window.place + slots - window.behind;
+    let mut held = (0..window.behind + window.ahead).map(|one| (oldest + one) % slots);
+    held.all(|place| record.marks[place] != 0)
+}
+
+/// Flags 0 to 3, at most P octets, and exactly P in a sender's segment that
+/// does not end its unit.
+fn slots_fit(record: &Channel, lengths: &[u16]) -> bool {
+    let sends = record.addresses.direction == direction::SENDS;
+    let most = record.limits.payload;
+    let mut slots = record.marks.iter().zip(lengths);
+    slots.all(|(&mark, &length)| match mark {
+        0 => true,
+        1 | 2 if sends => usize::from(length) == most,
+        1..=4 => usize::from(length) <= most,
+        _ => false,
+    })
+}

@@ -1,0 +1,147 @@
+//! Records overwritten by the caller. The peer keeps no such record, so the
+//! answer is held against docs/CONDITION.md: 13 exactly if a record lacks its
+//! condition, and then nothing has changed.
+
+use proved::record::Channel;
+
+use crate::call::Call;
+use crate::condition::is_lawful;
+use crate::noise::Noise;
+use crate::strays::from_other_end;
+use crate::tally::Tally;
+use crate::twin::Twin;
+
+/// A field of a record, set to a number as far as its type holds it.
+type Field = fn(&mut Channel, u64);
+
+const FIELDS: [Field; 24] = [
+    |record, number| record.addresses.direction = number as u8,
+    |record, number| record.limits.window = number as usize,
+    |record, number| record.limits.slots = number as usize,
+    |record, number| record.limits.payload = number as usize,
+    |record, number| record.limits.segments = number as usize,
+    |record, number| record.limits.timeout = number as u16,
+    |record, number| record.limits.closing = number as u16,
+    |record, number| record.limits.retries = number as u16,
+    |record, number| record.state = number as u8,
+    |record, number| record.reason = number as u8,
+    |record, number| record.kept = number as u8,
+    |record, number| record.accepted = number as u8,
+    |record, number| record.control.state = number as u8,
+    |record, number| record.control.timer = number as u16,
+    |record, number| record.control.tries = number as u16,
+    |record, number| record.window.start = number as u8,
+    |record, number| record.window.place = number as usize,
+    |record, number| record.window.behind = number as usize,
+    |record, number| record.window.ahead = number as usize,
+    |record, number| record.window.flight = number as usize,
+    |record, number| record.window.way = number as usize,
+    |record, number| record.marks[(number >> 8) as usize % 128] = number as u8,
+    |record, number| record.acked[(number >> 8) as usize % 128] = number as u8,
+    |record, number| record.timers.left[(number >> 16) as usize % 128] = number as u16,
+];
+
+/// Numbers at the edges of what the fields may hold.
+const EDGES: [u64; 20] = [
+    0,
+    1,
+    2,
+    3,
+    4,
+    5,
+    6,
+    64,
+    65,
+    127,
+    128,
+    129,
+    255,
+    256,
+    1_024,
+    1_025,
+    65_535,
+    65_536,
+    1 << 32,
+    u64::MAX,
+];
+
+/// Overwrites something, makes any call of the proved library, looks at the
+/// answer, and puts everything back.
+pub fn overwrite_and_call(twin: &mut Twin, noise: &mut Noise, tally: &mut Tally) {
+    let index = noise.below(twin.table.len());
+    let packet = from_other_end(twin, index, 30, noise);
+    let kept = (
+        twin.table.clone(),
+        twin.memory.clone(),
+        twin.lengths.clone(),
+    );
+    for _ in 0..1 + noise.below(2) {
+        overwrite(twin, noise);
+    }
+    if noise.one_in(4) {
+        twin.table[index].marks = [5; 128];
+    }
+    let unit = [7; 3];
+    let settings = twin.settings.clone();
+    let call = match noise.below(9) {
+        0 => Call::Settings(&settings),
+        1 => Call::Open(index),
+        2 => Call::Close(index),
+        3 => Call::Transfer(index, &unit),
+        4 => Call::Take(index),
+        5 => Call::Reclaim(index),
+        6 => Call::NextPacket,
+        7 => Call::Arrival(&packet),
+        _ => Call::Tick,
+    };
+    check(twin, call, tally);
+    (twin.table, twin.memory, twin.lengths) = kept;
+}
+
+fn overwrite(twin: &mut Twin, noise: &mut Noise) {
+    let small = noise.below(10) as u64;
+    let edge = noise.one_of(&EDGES);
+    let any = noise.number();
+    let number = noise.one_of(&[small, small, edge, any]);
+    if noise.one_in(8) {
+        let slot = noise.below(twin.lengths.len());
+        twin.lengths[slot] = number as u16;
+    } else {
+        let record = noise.below(twin.table.len());
+        noise.one_of(&FIELDS)(&mut twin.table[record], number);
+    }
+}
+
+/// Makes a call of the proved library alone over what is lent as it is.
+fn check(twin: &mut Twin, call: Call, tally: &mut Tally) {
+    let lawful = is_lawful(&twin.table, twin.memory.len(), &twin.lengths);
+    let before = (
+        twin.table.clone(),
+        twin.memory.clone(),
+        twin.lengths.clone(),
+    );
+    let mut out = [0xA5; 64];
+    let said = call.of_proved(twin.lent(&mut out));
+    tally.alone += 1;
+    tally.answer(call.name(), said.number);
+    if matches!(call, Call::Arrival(_)) && said.number == 13 {
+        tally.answer("not read", 13);
+    }
+    if let Call::Settings(_) = call {
+        assert_eq!(said.number, 0, "settings read no old record");
+        tally.case("13: settings over an overwritten table are accepted");
+    } else if lawful {
+        assert_ne!(said.number, 13, "{call:?}");
+        tally.case("13: an overwritten record has its condition, and keeps it");
+    } else {
+        tally.case("13: an overwritten record lacks its condition");
+        let values = (said.number, said.reason, said.length, said.confirmed);
+        assert_eq!(values, (13, 0, 0, 0), "{call:?}");
+        assert!(twin.table == before.0, "a refusal changed a record");
+        assert!(twin.memory == before.1 && twin.lengths == before.2);
+        assert_eq!(out, [0xA5; 64]);
+        return;
+    }
+    let after = is_lawful(&twin.table, twin.memory.len(), &twin.lengths);
+    assert!(after, "{call:?} did not keep the condition");
+}

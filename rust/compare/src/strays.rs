@@ -1,0 +1,191 @@
+//! Packets that no node sent: such as the other end of a record might send
+//! now, and such as break one clause of the tests.
+
+use peer::packet::{flags, kind, Fields, VERSION};
+use peer::settings::{Direction, Settings};
+use peer::sight::Sight;
+use peer::state::State;
+
+use crate::damage::repair;
+use crate::noise::Noise;
+use crate::packets::assemble;
+use crate::twin::Twin;
+
+/// A packet from the other end of this record: one that goes on with the
+/// exchange, or, so many times in a hundred, one that may break it.
+pub fn from_other_end(twin: &Twin, index: usize, breaking: usize, noise: &mut Noise) -> Vec<u8> {
+    let settings = &twin.settings[index];
+    let sight = twin.peer.sight(index).expect("a record");
+    let state = twin.state(index);
+    let breaks = noise.percent(breaking);
+    let (kind, number) = match (settings.direction, breaks) {
+        (Direction::Receiving, false) => forward(state, settings, &sight, noise),
+        (Direction::Receiving, true) => any_forward(settings, &sight, noise),
+        (Direction::Sending, false) => ack(state, &sight, noise),
+        (Direction::Sending, true) => any_ack(&sight, noise),
+    };
+    let (flags, length) = if kind == kind::DATA {
+        shape(settings, &sight, breaks, noise)
+    } else {
+        (flags::WHOLE, 0)
+    };
+    let fields = Fields {
+        destination: twin.node.address,
+        protocol: twin.node.protocol,
+        version: VERSION,
+        flags,
+        kind,
+        channel: settings.channel,
+        number,
+        source: settings.remote,
+        ..Fields::default()
+    };
+    assemble(&fields, &noise.octets(length))
+}
+
+/// The window start's number; 1 while there is none.
+fn start_of(sight: &Sight) -> u8 {
+    sight.start.unwrap_or(1) as u8
+}
+
+/// What a transmit end would send: the kind and the number.
+fn forward(state: State, settings: &Settings, sight: &Sight, noise: &mut Noise) -> (u8, u8) {
+    let start = start_of(sight);
+    match state {
+        State::Closed | State::Enabled => (kind::OPEN, 0),
+        State::Closing => (kind::CLOSE, 0),
+        State::Open if !sight.accepted && noise.one_in(8) => (kind::OPEN, 0),
+        State::Open if noise.one_in(4) => {
+            let ahead = noise.below(settings.window as usize) as u8;
+            (kind::DATA, start.wrapping_add(ahead))
+        }
+        State::Open if noise.one_in(6) => {
+            let behind = 1 + noise.below(settings.window as usize) as u8;
+            (kind::DATA, start.wrapping_sub(behind))
+        }
+        State::Open => (kind::DATA, start),
+    }
+}
+
+/// Data at the edges of the window, and Control at any time.
+fn any_forward(settings: &Settings, sight: &Sight, noise: &mut Noise) -> (u8, u8) {
+    let (start, window) = (start_of(sight), settings.window as u8);
+    let number = match noise.below(5) {
+        0 => start.wrapping_add(window),
+        1 => start.wrapping_sub(window).wrapping_sub(1),
+        2 => start.wrapping_add(noise.below(usize::from(window)) as u8),
+        3 => noise.octet(),
+        _ => 0,
+    };
+    let kinds = [kind::DATA, kind::DATA, kind::DATA, kind::OPEN, kind::CLOSE];
+    match noise.one_of(&kinds) {
+        kind::DATA => (kind::DATA, number),
+        control if noise.one_in(2) => (control, number),
+        control => (control, 0),
+    }
+}
+
+/// What a receive end would send back.
+fn ack(state: State, sight: &Sight, noise: &mut Noise) -> (u8, u8) {
+    if state != State::Open {
+        return (kind::CONTROL_ACK, 0);
+    }
+    let start = sight.start.unwrap_or(1);
+    let from_start = sight.held.iter().filter(|one| one.number >= start);
+    let waits = |course: peer::sight::CourseSight| course.hand_outs > 0;
+    let waiting = from_start.filter(|one| one.course.is_some_and(waits));
+    let numbers: Vec<u64> = waiting.map(|one| one.number).collect();
+    match numbers.as_slice() {
+        [first, ..] if noise.one_in(2) => (kind::DATA_ACK, *first as u8),
+        [] => (kind::DATA_ACK, start as u8),
+        some => (kind::DATA_ACK, noise.one_of(some) as u8),
+    }
+}
+
+fn any_ack(sight: &Sight, noise: &mut Noise) -> (u8, u8) {
+    let near = start_of(sight).wrapping_add(noise.below(20) as u8);
+    let number = noise.one_of(&[near, near, near.wrapping_sub(18), 0]);
+    (noise.one_of(&[kind::DATA_ACK, kind::CONTROL_ACK]), number)
+}
+
+/// Flags and length of Data: flags that go on with the unfinished unit.
+fn shape(settings: &Settings, sight: &Sight, breaks: bool, noise: &mut Noise) -> (u8, usize) {
+    let most = settings.most_payload as usize;
+    if breaks && noise.one_in(2) {
+        return (noise.octet() & 0b11, noise.below(most + 2));
+    }
+    let last_now = sight.unfinished + 1 >= settings.most_segments as usize;
+    let ends = last_now || noise.one_in(3);
+    let flags = match (sight.unfinished == 0, ends) {
+        (true, true) => flags::WHOLE,
+        (true, false) => flags::FIRST,
+        (false, true) => flags::LAST,
+        (false, false) => flags::CONTINUATION,
+    };
+    (flags, noise.below(most + 1))
+}
+
+/// A clause that a packet breaks, and its name.
+pub type Clause = (&'static str, fn(&mut Vec<u8>, &mut Noise));
+
+/// Every clause of the tests 1, 2, 4, 3 and 14 that a packet alone can break.
+pub const CLAUSES: [Clause; 13] = [
+    ("clause: under 12 octets", |packet, noise| {
+        packet.truncate(noise.below(12));
+    }),
+    ("clause: an octet more", |packet, noise| {
+        packet.push(noise.octet());
+        repair(packet);
+    }),
+    ("clause: the check sum", |packet, noise| {
+        let place = noise.below(packet.len());
+        packet[place] ^= 1 << noise.below(8);
+    }),
+    ("clause: a secondary header", |packet, _| {
+        set(packet, 2, |one| one | 0x20)
+    }),
+    ("clause: a prefix", |packet, noise| {
+        let length = 1 + noise.below(15) as u8;
+        set(packet, 8, |one| one | length);
+    }),
+    ("clause: a type the base lacks", |packet, noise| {
+        let kind = 4 + noise.below(3) as u8;
+        set(packet, 2, |one| one & !7 | kind);
+    }),
+    ("clause: the version", |packet, _| {
+        set(packet, 2, |one| one ^ 0x80)
+    }),
+    (
+        "clause: flags of another type than Data",
+        |packet, noise| {
+            let flags = noise.below(3) as u8;
+            packet.splice(10..packet.len() - 2, []);
+            packet[3..5].copy_from_slice(&[0, 0]);
+            set(packet, 2, |one| one & !0x1F | flags << 3 | 7);
+        },
+    ),
+    ("clause: reserved bits", |packet, _| {
+        set(packet, 8, |one| one | 0x80)
+    }),
+    ("clause: an Ack with payload", |packet, noise| {
+        packet.splice(10..packet.len() - 2, [noise.octet()]);
+        packet[3..5].copy_from_slice(&[0, 1]);
+        set(packet, 2, |one| one | 0x1F);
+    }),
+    ("clause: the destination", |packet, _| {
+        set(packet, 0, |one| one ^ 1)
+    }),
+    ("clause: the protocol ID", |packet, _| {
+        set(packet, 1, |one| one ^ 1)
+    }),
+    ("clause: channel or source unknown", |packet, noise| {
+        let place = noise.one_of(&[5, 6, 9]);
+        set(packet, place, |one| one ^ 0x10);
+    }),
+];
+
+/// Changes an octet of a packet and makes the check sum fit.
+fn set(packet: &mut [u8], place: usize, change: impl FnOnce(u8) -> u8) {
+    packet[place] = change(packet[place]);
+    repair(packet);
+}

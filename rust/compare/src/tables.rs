@@ -1,0 +1,117 @@
+//! Settings by chance, for the tables of two nodes that talk to each other.
+
+use peer::settings::{Direction, Settings};
+
+use crate::noise::Noise;
+
+/// The addresses of the two nodes.
+pub const ADDRESSES: [u8; 2] = [64, 65];
+
+/// The address of a node that is not there: its packets are made up.
+pub const ABSENT: u8 = 99;
+
+/// How large the channels of a table are.
+#[derive(Clone, Copy, Debug, PartialEq, Eq)]
+pub enum Size {
+    /// 1 to 4 records, small windows, few octets.
+    Small,
+    /// Up to 16 records.
+    Wide,
+    /// Windows up to 64, slots up to 128, payloads up to 1,024 octets.
+    Large,
+}
+
+/// The tables of both nodes: as many records in each, in another order.
+pub fn two_tables(size: Size, noise: &mut Noise) -> [Vec<Settings>; 2] {
+    let records = match size {
+        Size::Small => 1 + noise.below(4),
+        Size::Wide => 5 + noise.below(12),
+        Size::Large => 1 + noise.below(2),
+    };
+    let mut tables = [Vec::new(), Vec::new()];
+    let first_sender = noise.below(2);
+    for place in 0..records {
+        let sender = (first_sender + place) % 2;
+        let absent = noise.one_in(6);
+        let sending = limits(size, noise);
+        let receiving = other_end(sending, noise);
+        for node in [0, 1] {
+            let (direction, settings) = if node == sender {
+                (Direction::Sending, sending)
+            } else {
+                (Direction::Receiving, receiving)
+            };
+            let remote = if absent { ABSENT } else { ADDRESSES[1 - node] };
+            tables[node].push(Settings {
+                direction,
+                // Two in a row share a number, and differ in direction.
+                channel: (place / 2 * 0x0103) as u16,
+                remote,
+                ..settings
+            });
+        }
+    }
+    tables[1].reverse();
+    tables
+}
+
+/// Good settings of this size, for a sender of channel 0.
+pub fn limits(size: Size, noise: &mut Noise) -> Settings {
+    let large = size == Size::Large;
+    let window: u32 = if large {
+        noise.one_of(&[16, 32, 64, 64])
+    } else {
+        noise.one_of(&[1, 2, 4, 4, 8])
+    };
+    let slots = if large {
+        noise.one_of(&[window, 100, 127, 128])
+    } else {
+        window + noise.below(9) as u32
+    };
+    let most_payload = if large {
+        noise.one_of(&[1, 64, 1_023, 1_024])
+    } else {
+        1 + noise.below(6) as u32
+    };
+    Settings {
+        direction: Direction::Sending,
+        channel: 0,
+        remote: ABSENT,
+        window,
+        slots: slots.max(window),
+        most_payload,
+        most_segments: 1 + noise.below(slots.max(window) as usize) as u32,
+        timeout: ticks(noise),
+        close_timeout: ticks(noise),
+        retries: noise.one_of(&[0, 1, 2, 6, 6, 20, 255]),
+    }
+}
+
+/// Mostly a few ticks: where one must wait for the longest, nothing happens.
+fn ticks(noise: &mut Noise) -> u32 {
+    if noise.one_in(40) {
+        65_535
+    } else {
+        noise.one_of(&[1, 2, 3, 5, 8, 8, 20])
+    }
+}
+
+/// The other end's settings: mostly its k, P and M, for its own slots.
+fn other_end(settings: Settings, noise: &mut Noise) -> Settings {
+    let Settings {
+        window,
+        most_segments,
+        most_payload,
+        ..
+    } = settings;
+    let least = window.max(most_segments);
+    let slots = (least + noise.below(6) as u32).min(128);
+    let mut other = Settings { slots, ..settings };
+    match noise.below(16) {
+        0 => other.most_payload = 1 + noise.below(most_payload as usize) as u32,
+        1 => other.most_segments = 1 + noise.below(slots as usize) as u32,
+        2 => other.window = 1,
+        _ => {}
+    }
+    other
+}

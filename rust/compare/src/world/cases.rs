@@ -1,0 +1,108 @@
+//! Which cases a call was, for the table that is printed.
+
+use super::*;
+
+/// Every case that a run must have had, beside those with a list of their own.
+pub const CASES: [&str; 18] = [
+    "inactive: retries",
+    "inactive: late Open",
+    "inactive: Control number",
+    "inactive: Data number",
+    "inactive: flags",
+    "confirmed: no unit by a Data Ack",
+    "confirmed: one unit by a Data Ack",
+    "confirmed: several units by a Data Ack",
+    "wrapped: Data number 0 accepted",
+    "wrapped: the ack of number 0 recorded",
+    "taken: a unit of no octets",
+    "taken: a unit of segments",
+    "reclaimed: a unit of no octets",
+    "reclaimed: a unit of segments",
+    "room: exactly 12 octets for a reply",
+    "13: an overwritten record lacks its condition",
+    "13: an overwritten record has its condition, and keeps it",
+    "13: settings over an overwritten table are accepted",
+];
+
+impl World {
+    /// The line of an arrival, by the packet's kind if it was read.
+    pub(super) fn note_arrival(
+        &mut self,
+        node: usize,
+        packet: &[u8],
+        room: usize,
+        outcome: &Outcome,
+    ) {
+        let said = outcome.said;
+        let own = self.twins[node].node;
+        let reads = match said.number {
+            1 | 2 | 4 | 11 | 13 => false,
+            // Either a field unexpected, or Data that is too long for its channel.
+            3 => peer::packet::read(packet).is_ok_and(|reading| {
+                let fields = reading.fields;
+                fields.destination == own.address && fields.protocol == own.protocol
+            }),
+            _ => true,
+        };
+        let line = match packet.get(2).map(|control| control & 0b111) {
+            _ if !reads => "not read",
+            Some(kind::DATA) => "read Data",
+            Some(kind::DATA_ACK) => "read Data Ack",
+            Some(kind::OPEN) => "read Open",
+            Some(kind::CLOSE) => "read Close",
+            _ => "read Control Ack",
+        };
+        self.tally.answer(line, said.number);
+        if room == 12 {
+            self.tally.case("room: exactly 12 octets for a reply");
+        }
+        match (line, said.number) {
+            (_, 9) => self.tally.case(reason_case(said.reason)),
+            ("read Data", 0) if packet[7] == 0 => {
+                self.tally.case("wrapped: Data number 0 accepted")
+            }
+            ("read Data Ack", 0) => self.note_ack(packet[7], said.confirmed),
+            _ => {}
+        }
+    }
+
+    fn note_ack(&mut self, number: u8, confirmed: usize) {
+        if number == 0 {
+            self.tally.case("wrapped: the ack of number 0 recorded");
+        }
+        self.tally.case(match confirmed {
+            0 => "confirmed: no unit by a Data Ack",
+            1 => "confirmed: one unit by a Data Ack",
+            _ => "confirmed: several units by a Data Ack",
+        });
+    }
+
+    /// A unit that was given away, of so many segments.
+    pub(super) fn note_unit(
+        &mut self,
+        outcome: Outcome,
+        segments: usize,
+        empty: &'static str,
+        several: &'static str,
+    ) {
+        if outcome.said.number != 0 {
+            return;
+        }
+        if outcome.octets.is_empty() {
+            self.tally.case(empty);
+        }
+        if segments > 1 {
+            self.tally.case(several);
+        }
+    }
+}
+
+fn reason_case(reason: u32) -> &'static str {
+    match reason {
+        1 => "inactive: retries",
+        2 => "inactive: late Open",
+        3 => "inactive: Control number",
+        4 => "inactive: Data number",
+        _ => "inactive: flags",
+    }
+}

@@ -1,0 +1,164 @@
+//! What chance does not come to: the last retry, the longest timers, the largest
+//! table and the longest unit. Every call is made of both libraries and compared.
+
+use compare::call::Call;
+use compare::noise::Noise;
+use compare::tables::ADDRESSES;
+use compare::tally::Tally;
+use compare::twin::Twin;
+use peer::settings::{Direction, Settings};
+use peer::state::{Reason, State};
+use proved::record::Node;
+
+/// A sender's settings with these timeouts and retries.
+fn settings(channel: u16, timeout: u32, retries: u32) -> Settings {
+    Settings {
+        direction: Direction::Sending,
+        channel,
+        remote: ADDRESSES[1],
+        window: 4,
+        slots: 8,
+        most_payload: 4,
+        most_segments: 4,
+        timeout,
+        close_timeout: timeout,
+        retries,
+    }
+}
+
+/// The other end's.
+fn other_end(settings: Settings) -> Settings {
+    Settings {
+        direction: Direction::Receiving,
+        remote: ADDRESSES[0],
+        ..settings
+    }
+}
+
+/// Two nodes, kept twice each, that exchange packets without loss.
+struct Nodes {
+    twins: [Twin; 2],
+    tally: Tally,
+    room: usize,
+}
+
+impl Nodes {
+    /// Node 0 sends in all these channels, node 1 receives; all are open.
+    fn open(table: &[Settings]) -> Nodes {
+        let noise = &mut Noise::new(7);
+        let tables = [
+            table.to_vec(),
+            table.iter().copied().map(other_end).collect(),
+        ];
+        let twins = [0, 1].map(|node| {
+            let own = Node {
+                address: ADDRESSES[node],
+                protocol: 5,
+            };
+            Twin::new(own, table.len(), &tables[node], noise)
+        });
+        let payloads = table.iter().map(|one| one.most_payload as usize);
+        let room = 12 + payloads.max().expect("a channel");
+        let tally = Tally::default();
+        let mut nodes = Nodes { twins, tally, room };
+        for node in [0, 1] {
+            assert_eq!(nodes.call(node, Call::Settings(&tables[node]), 0), 0);
+            for index in 0..table.len() {
+                assert_eq!(nodes.call(node, Call::Open(index), 0), 0);
+            }
+        }
+        nodes.exchange();
+        nodes
+    }
+
+    /// A call; gives the answer number.
+    fn call(&mut self, node: usize, call: Call, room: usize) -> u32 {
+        let outcome = self.twins[node].call(call, room, &mut self.tally);
+        outcome.said.number
+    }
+
+    /// A packet of node 0, if one is ready.
+    fn packet(&mut self) -> Option<Vec<u8>> {
+        let outcome = self.twins[0].call(Call::NextPacket, self.room, &mut self.tally);
+        (outcome.said.number == 0).then_some(outcome.octets)
+    }
+
+    /// Every packet that is ready goes over, and its ack comes back.
+    fn exchange(&mut self) {
+        while let Some(packet) = self.packet() {
+            let arrival = Call::Arrival(&packet);
+            let ack = self.twins[1].call(arrival, 12, &mut self.tally).octets;
+            assert_eq!(self.call(0, Call::Arrival(&ack), 12), 0);
+        }
+    }
+}
+
+/// "the retries are the resends allowed to it": 1 and the retries, then 9.
+#[test]
+fn the_last_retry() {
+    for retries in [0, 1, 2, 254, 255] {
+        let mut nodes = Nodes::open(&[settings(1, 1, retries)]);
+        assert_eq!(nodes.call(0, Call::Transfer(0, b"unit"), 0), 0);
+        for _ in 0..retries {
+            assert!(nodes.packet().is_some());
+            assert_eq!(nodes.call(0, Call::Tick, 0), 0);
+        }
+        assert!(nodes.packet().is_some());
+        assert_eq!(nodes.call(0, Call::Tick, 0), 9, "{retries} retries");
+        assert_eq!(nodes.twins[0].peer.reason(0), Some(Reason::Retries));
+        assert_eq!(nodes.call(0, Call::Reclaim(0), 4), 0);
+    }
+}
+
+/// Timers of 65,535 ticks: of a segment, of a Close, and of a receiver in CLOSING.
+#[test]
+fn the_longest_timers() {
+    let mut nodes = Nodes::open(&[settings(1, 65_535, 0), settings(2, 65_535, 0)]);
+    assert_eq!(nodes.call(0, Call::Transfer(0, b"unit"), 0), 0);
+    assert_eq!(nodes.call(0, Call::Close(1), 0), 0);
+    let close = nodes.packet().expect("a Close");
+    assert_eq!(nodes.call(1, Call::Arrival(&close), 12), 0);
+    assert!(nodes.packet().is_some(), "Data");
+    for _ in 1..65_535 {
+        assert_eq!(nodes.call(0, Call::Tick, 0), 0);
+        assert_eq!(nodes.call(1, Call::Tick, 0), 0);
+    }
+    assert_eq!(nodes.twins[1].state(1), State::Closing);
+    assert_eq!(nodes.call(0, Call::Tick, 0), 9);
+    assert_eq!(nodes.call(1, Call::Tick, 0), 0);
+    for index in [0, 1] {
+        assert_eq!(nodes.twins[0].peer.reason(index), Some(Reason::Retries));
+    }
+    assert_eq!(nodes.twins[1].state(1), State::Closed);
+}
+
+/// 16 channels of 128 slots with 1,024 octets each: 2 MiB of memory. A unit has
+/// all slots of its channel, and one octet more is over M.
+#[test]
+fn the_largest_table_and_the_longest_unit() {
+    let largest = |channel| Settings {
+        window: 64,
+        slots: 128,
+        most_payload: 1_024,
+        most_segments: 128,
+        ..settings(channel, 9, 3)
+    };
+    let table: Vec<Settings> = (0..16).map(largest).collect();
+    let mut nodes = Nodes::open(&table);
+    let longest = 128 * 1_024;
+    let unit = Noise::new(8).octets(longest + 1);
+    for index in [15, 0] {
+        assert_eq!(nodes.call(0, Call::Transfer(index, &unit), 0), 6);
+        let unit = &unit[..longest];
+        assert_eq!(nodes.call(0, Call::Transfer(index, unit), 0), 0);
+        assert_eq!(nodes.call(0, Call::Transfer(index, &[]), 0), 7);
+    }
+    nodes.exchange();
+    for index in [15, 0] {
+        assert_eq!(nodes.call(1, Call::Take(index), longest - 1), 11);
+        let tally = &mut nodes.tally;
+        let outcome = nodes.twins[1].call(Call::Take(index), longest, tally);
+        assert_eq!(outcome.said.number, 0);
+        assert!(outcome.octets == unit[..longest]);
+    }
+}

@@ -1,0 +1,141 @@
+//! The proved library's node beside the peer's: the same calls made of both, and
+//! all that can be seen compared after each.
+
+use std::thread;
+
+use compare::bounds::{check_bounds, ACCEPTED, COUNTS, REFUSED, STORAGE};
+use compare::link::Weather;
+use compare::noise::Noise;
+use compare::sizes::WRONGS;
+use compare::strays::CLAUSES;
+use compare::tables::Size;
+use compare::tally::Tally;
+use compare::world::{World, CASES};
+
+/// Calls compared when PEAT_CALLS does not ask for more.
+const LEAST_CALLS: u64 = 1_000_000;
+
+/// Threads that share them, each with seeds of its own.
+const THREADS: u64 = 2;
+
+/// Loses and repeats little, and keeps the order: openings live long, and their
+/// numbers wrap.
+const STEADY: Weather = Weather {
+    loss: 4,
+    repeat: 4,
+    damage: 0,
+    lateness: 0,
+    stray: 12,
+    breaking: 0,
+    closing: 1,
+};
+
+/// Reorders a little, and closes now and then.
+const UNSTEADY: Weather = Weather {
+    loss: 10,
+    repeat: 10,
+    damage: 5,
+    lateness: 3,
+    stray: 15,
+    breaking: 4,
+    closing: 20,
+};
+
+/// Openings die of everything.
+const STORMY: Weather = Weather {
+    loss: 20,
+    repeat: 20,
+    damage: 10,
+    lateness: 8,
+    stray: 25,
+    breaking: 25,
+    closing: 60,
+};
+
+/// The plan of a run: how large, how bad, and how many calls.
+fn plan(seed: u64) -> (Size, Weather, u64) {
+    let weather = [STEADY, UNSTEADY, STORMY][seed as usize / 2 % 3];
+    let long = if weather.breaking == 0 { 6 } else { 1 };
+    match seed / 2 % 32 {
+        3 | 11 | 22 => (Size::Wide, weather, 1_500),
+        7 => (Size::Large, weather, 1_500 * long),
+        _ => (Size::Small, weather, 2_000 * long),
+    }
+}
+
+/// Says which run it was that failed.
+struct Run {
+    seed: u64,
+    calls: u64,
+}
+
+impl Drop for Run {
+    fn drop(&mut self) {
+        if thread::panicking() {
+            let Run { seed, calls } = self;
+            eprintln!("the run of seed {seed} failed after {calls} calls");
+        }
+    }
+}
+
+/// One run.
+fn run(seed: u64) -> Tally {
+    let (size, weather, calls) = plan(seed);
+    let mut run = Run { seed, calls: 0 };
+    let mut world = World::new(seed, size, weather);
+    while world.tally.calls < calls {
+        world.step();
+        run.calls = world.tally.calls;
+    }
+    world.tally.clone()
+}
+
+/// Every THREADS-th seed from this one on, until there are so many calls.
+fn runs(first: u64, calls: u64) -> Tally {
+    let mut tally = Tally::default();
+    let mut seed = first;
+    check_bounds(&mut Noise::new(first), &mut tally);
+    while tally.calls < calls {
+        tally.add(&run(seed));
+        seed += THREADS;
+    }
+    tally
+}
+
+fn calls_wanted() -> u64 {
+    let Ok(asked) = std::env::var("PEAT_CALLS") else {
+        return LEAST_CALLS;
+    };
+    let asked: u64 = asked.parse().expect("PEAT_CALLS is a number");
+    asked.max(LEAST_CALLS)
+}
+
+/// Every case that some list names.
+fn all_cases() -> Vec<&'static str> {
+    let bounds = [&REFUSED[..], &ACCEPTED, &STORAGE].concat();
+    let mut cases = CASES.to_vec();
+    cases.extend(bounds.iter().map(|(name, _)| *name));
+    cases.extend(COUNTS.map(|(name, _, _)| name));
+    cases.extend(CLAUSES.map(|(name, _)| name));
+    cases.extend(WRONGS.map(|(name, _)| name));
+    cases
+}
+
+#[test]
+fn every_call_answers_as_the_peers() {
+    let each = calls_wanted().div_ceil(THREADS);
+    let mut tally = Tally::default();
+    thread::scope(|scope| {
+        let started: Vec<_> = (0..THREADS)
+            .map(|first| scope.spawn(move || runs(first, each)))
+            .collect();
+        for thread in started {
+            tally.add(&thread.join().expect("no difference"));
+        }
+    });
+    let Tally { calls, alone, .. } = tally;
+    println!("{calls} calls compared, and {alone} of the proved library alone");
+    print!("{tally}");
+    assert!(calls >= calls_wanted());
+    tally.assert_complete(&all_cases());
+}

@@ -1,0 +1,42 @@
+//! What a bystander may see of a record beyond its state, so that it can be
+//! held against another implementation. Looking changes nothing.
+
+/// A packet that waits for its ack.
+#[derive(Clone, Copy, Debug, PartialEq, Eq)]
+pub struct CourseSight {
+    /// How often it was handed out.
+    pub hand_outs: u32,
+    /// Ticks to go; none while the packet is ready.
+    pub timer: Option<u32>,
+}
+
+/// A segment that an end holds.
+#[derive(Clone, Copy, Debug, PartialEq, Eq)]
+pub struct SegmentSight {
+    /// The whole number, which is not taken round.
+    pub number: u64,
+    /// The sequence flags.
+    pub flags: u8,
+    /// At a transmit end in OPEN, while it is not acknowledged.
+    pub course: Option<CourseSight>,
+}
+
+/// One record.
+#[derive(Clone, Debug, Default, PartialEq, Eq)]
+pub struct Sight {
+    /// The window start, in OPEN.
+    pub start: Option<u64>,
+    /// The segments held, lowest first.
+    pub held: Vec<SegmentSight>,
+    /// How many of these the start has passed, of a unit that is not
+    /// complete: at a receive end.
+    pub unfinished: usize,
+    /// The Open in ENABLED, the Close in CLOSING, of a transmit end.
+    pub control: Option<CourseSight>,
+    /// A Close directive is kept until the Open is acknowledged.
+    pub close_kept: bool,
+    /// Data was accepted in this opening, which is in OPEN.
+    pub accepted: bool,
+    /// The close timer, of a receive end in CLOSING.
+    pub close_timer: Option<u32>,
+}

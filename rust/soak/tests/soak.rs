@@ -1,0 +1,185 @@
+//! Long runs of two proved nodes over bad links: where is every unit?
+
+use std::thread;
+
+use proved::record::{state, Limits};
+use soak::link::Weather;
+use soak::world::{Counts, World};
+
+/// Runs of each kind when PEAT_SEEDS does not ask for more.
+const LEAST_SEEDS: u64 = 2;
+
+/// Nothing happens to a packet.
+const FAIR: Weather = Weather {
+    loss: 0,
+    repeat: 0,
+    damage: 0,
+    lateness: 0,
+    forgotten: 0,
+};
+
+/// Loses and repeats, but keeps the order: openings live long.
+const ORDERLY: Weather = Weather {
+    loss: 8,
+    repeat: 8,
+    damage: 2,
+    lateness: 0,
+    forgotten: 0,
+};
+
+/// Reorders as well, and brings back what was long forgotten.
+const UNSTEADY: Weather = Weather {
+    lateness: 3,
+    forgotten: 1,
+    ..ORDERLY
+};
+
+/// So bad that many openings die.
+const STORMY: Weather = Weather {
+    loss: 22,
+    repeat: 25,
+    damage: 5,
+    lateness: 12,
+    forgotten: 3,
+};
+
+/// Window, slots, P and M: the least slots, slots that do not divide 256, units
+/// of one segment up to all slots, and the largest window.
+const SHAPES: [[usize; 4]; 9] = [
+    [1, 1, 3, 1],
+    [1, 3, 1, 3],
+    [2, 5, 4, 5],
+    [4, 4, 3, 4],
+    [4, 7, 1, 7],
+    [4, 11, 2, 3],
+    [8, 13, 1, 2],
+    [16, 100, 2, 9],
+    [64, 128, 4, 20],
+];
+
+fn limits([window, slots, payload, segments]: [usize; 4], retries: u16) -> Limits {
+    Limits {
+        window,
+        slots,
+        payload,
+        segments,
+        timeout: 4,
+        closing: 9,
+        retries,
+    }
+}
+
+/// Runs a world, then lets it settle in fair weather: in the end every channel
+/// is open, and all is confirmed and taken.
+fn run(channels: &[(usize, Limits)], weather: Weather, rounds: usize, seed: u64) -> Counts {
+    let mut world = World::new(channels, weather, seed);
+    for round in 0..rounds {
+        world.round();
+        if round % 50 == 0 {
+            world.check();
+        }
+    }
+    world.weather = FAIR;
+    // A few units at first: without them an idle host would not notice that the
+    // other end has closed.
+    for load in [5, 0] {
+        world.load = load;
+        (0..600).for_each(|_| world.round());
+    }
+    world.check();
+    for account in &world.accounts {
+        let opening = account.openings.last().expect("an opening");
+        assert_eq!(world.state(account.host), state::OPEN);
+        assert_eq!(world.state(account.subscriber), state::OPEN);
+        assert_eq!(opening.confirmed, opening.accepted.len());
+        let taken = account.tied.map_or(0, |_| account.taken);
+        assert_eq!(taken, opening.accepted.len());
+        world.counts.wrapped += u64::from(opening.last_sent > 255);
+    }
+    world.counts
+}
+
+/// Every shape of channel alone, from each seed.
+fn run_shapes(weather: Weather, retries: u16, rounds: usize) -> Counts {
+    let mut counts = Counts::default();
+    for seed in 0..seeds() {
+        for (place, shape) in (1..).zip(SHAPES) {
+            let channels = [(0, limits(shape, retries))];
+            counts.add(&run(&channels, weather, rounds, 1_000 * seed + place));
+        }
+    }
+    counts
+}
+
+/// Several channels in both directions, whose records lie in another order at
+/// the other node.
+fn run_several() -> Counts {
+    let shapes = [[4, 7, 3, 4], [8, 11, 1, 6], [1, 5, 2, 5], [2, 3, 4, 1]];
+    let directed = |(place, shape)| (place % 2, limits(shape, 6));
+    let channels: Vec<_> = shapes.into_iter().enumerate().map(directed).collect();
+    let mut counts = Counts::default();
+    for seed in 0..seeds() {
+        for weather in [ORDERLY, UNSTEADY, STORMY] {
+            counts.add(&run(&channels, weather, 1_200, 1_000 * seed + 100));
+        }
+    }
+    counts
+}
+
+fn seeds() -> u64 {
+    let Ok(asked) = std::env::var("PEAT_SEEDS") else {
+        return LEAST_SEEDS;
+    };
+    let asked: u64 = asked.parse().expect("PEAT_SEEDS is a number");
+    asked.max(LEAST_SEEDS)
+}
+
+/// Runs of one kind, and its name.
+type Kind = (&'static str, fn() -> Counts);
+
+#[test]
+fn where_every_unit_is() {
+    let kinds: [Kind; 4] = [
+        ("orderly links", || run_shapes(ORDERLY, 20, 3_000)),
+        ("unsteady links", || run_shapes(UNSTEADY, 20, 1_500)),
+        ("stormy links", || run_shapes(STORMY, 3, 1_500)),
+        ("several channels", run_several),
+    ];
+    let mut all = Counts::default();
+    thread::scope(|scope| {
+        let (left, right) = kinds.split_at(1);
+        let started = [left, right]
+            .map(|half| scope.spawn(|| half.iter().map(|(_, run)| run()).collect::<Vec<_>>()));
+        let counts = started
+            .into_iter()
+            .flat_map(|one| one.join().expect("no claim broken"));
+        for ((name, _), counts) in kinds.iter().zip(counts.collect::<Vec<_>>()) {
+            print!("{name}:\n{counts}");
+            all.add(&counts);
+        }
+    });
+    print!("all:\n{all}");
+    assert!(all.units.iter().all(|&count| count > 1_000));
+    assert!(all.packets.iter().all(|&count| count > 0));
+    assert!(all.closed > 0 && all.wrapped > 0);
+    // The link delivers what was sent: no Control number and no flags are wrong.
+    let [retries, late_open, control, data, flags] = all.inactive;
+    assert!(retries > 0 && late_open > 0 && data > 0);
+    assert_eq!((control, flags), (0, 0));
+}
+
+/// From this seed a copy comes back when the window has started between 193 and
+/// 256 past it. Without the premise it passes as new, and the bystander sees it:
+/// what the other test finds in order is not found so by blindness.
+#[test]
+#[should_panic(expected = "claim 1")]
+fn without_the_premise_a_claim_breaks() {
+    let weather = Weather {
+        forgotten: 1,
+        ..FAIR
+    };
+    let channels = [(0, limits([64, 128, 4, 1], 20))];
+    let mut world = World::new(&channels, weather, 33);
+    world.premise = false;
+    (0..600).for_each(|_| world.round());
+}
