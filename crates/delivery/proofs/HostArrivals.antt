@@ -35,7 +35,7 @@ use Rattle.arriving_look.specs.Finding.{isOurs, lookOf}
 use Rattle.arriving_data.specs.Data.{unfit}
 use Rattle.steps_arriving.proofs.ArriveLaws.{framed, by-data-ack, by-control-ack}
 use Rattle.arriving_look.proofs.FindLaws.{Read-well, found-packet}
-use Rattle.node.specs.Calls.{arrived}
+use Rattle.node_calls.specs.Calls.{arrived}
 use Rattle.node_keeps.specs.Keeping.{Given}
 use Rattle.node_keeps.proofs.StepsKeep.{arrival-keeps}
 use Rattle.node_keeps.proofs.CallsAlone.{shapes}

@@ -33,7 +33,7 @@ use Rattle.steps_handing.specs.Handing.{nextFor}
 use Rattle.steps_handing.proofs.HandLaws.{ready-is}
 use Rattle.steps_arriving.specs.Arriving.{payloadIn}
 use Rattle.arriving_look.specs.Finding.{isOurs}
-use Rattle.node.specs.Calls.{handed}
+use Rattle.node_calls.specs.Calls.{handed}
 use Rattle.node_keeps.proofs.StepsKeep.{next-keeps}
 use Rattle.node_keeps.proofs.CallsAlone.{shapes}
 use Rattle.protocol.specs.Numbers.{numberAt, distance}

@@ -27,7 +27,7 @@ use Rattle.table.specs.declared.looking.Look.the-variants.{Index}
 use Rattle.table.specs.Serving.{Step, alone, serveOne}
 use Rattle.steps.specs.Requests.{openedBy, closedBy, takeFor}
 use Rattle.steps.proofs.RequestLaws.{opened-sends, closed-sends}
-use Rattle.node.specs.Calls.{opened, closed, taken}
+use Rattle.node_calls.specs.Calls.{opened, closed, taken}
 use Rattle.node_keeps.specs.Keeping.{staying}
 use Rattle.node_keeps.proofs.Alone.{Shapes, index-served}
 use Rattle.node_keeps.proofs.StepsKeep.{open-keeps, close-keeps, take-keeps}

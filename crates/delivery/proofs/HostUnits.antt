@@ -25,7 +25,7 @@ use Rattle.sender_units.specs.Transfer.{transferStep, transferMem, transferLens
 use Rattle.sender_units.specs.Reclaiming.{unitAt, sizeAt, dropped, reclaimStep, reclaimOut}
 use Rattle.table.specs.declared.looking.Look.the-variants.{Index}
 use Rattle.steps.specs.Requests.{transferFor, reclaimFor}
-use Rattle.node.specs.Calls.{transferred, reclaimed}
+use Rattle.node_calls.specs.Calls.{transferred, reclaimed}
 use Rattle.node_keeps.proofs.StepsKeep.{reclaim-keeps}
 use Rattle.node_keeps.proofs.CallsAlone.{shapes, transfer-shapes}
 use Rattle.protocol.specs.Units.{DataUnit, Segment, cut}

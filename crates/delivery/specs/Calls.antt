@@ -10,7 +10,7 @@ use Rattle.channel.specs.declared.answer.Answer.{Answer}
 use Rattle.channel.specs.Record as state
 use Rattle.table.specs.Serving.{recordAt, ownMem, ownLens}
 use Rattle.node_ticks.specs.Ticks.{ticked}
-use Rattle.node.specs.Calls.{opened, closed, transferred, taken, reclaimed, handed, arrived}
+use Rattle.node_calls.specs.Calls.{opened, closed, transferred, taken, reclaimed, handed, arrived}
 use Rattle.node_keeps.specs.Keeping.{staying}
 use Rattle.protocol.specs.Numbers.{distance}
 use Rattle.units_held.specs.Held.{unitsHeld}

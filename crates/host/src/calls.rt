@@ -17,7 +17,7 @@ ghost use mathlib.Core.Path.{_≡_};
 ghost use mathlib.Core.List.{[]};
 ghost use Rattle.walks.specs.Serving.{leaves, changes, saying, telling};
 ghost use Rattle.node_ticks.specs.Ticks.{ticked};
-ghost use Rattle.node.specs.Calls.{opened, closed, transferred, taken, reclaimed, handed, arrived};
+ghost use Rattle.node_calls.specs.Calls.{opened, closed, transferred, taken, reclaimed, handed, arrived};
 ghost use Rattle.node_settings.specs.Configuring.{configured};
 ghost use Rattle.host_answers.specs.Said.{saidOf};
 

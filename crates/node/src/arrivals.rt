@@ -12,7 +12,7 @@ ghost use mathlib.Core.Path.{_≡_};
 ghost use Rattle.walks.specs.Serving.{leaves};
 ghost use Rattle.table.specs.Surveying.{begun};
 ghost use Rattle.arriving_look.specs.Finding.{lookOf};
-ghost use Rattle.node.specs.Calls.{arrived};
+ghost use Rattle.node_calls.specs.Calls.{arrived};
 
 // The packet is read before the table is surveyed; what that says counts after the test for 13.
 fn arrival_begin(node: Node, packet: &[u8], room: usize) -> Survey

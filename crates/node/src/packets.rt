@@ -12,7 +12,7 @@ ghost use mathlib.Core.Path.{_≡_};
 ghost use Rattle.walks.specs.Serving.{leaves};
 ghost use Rattle.table.specs.declared.looking.Look.the-variants as look;
 ghost use Rattle.table.specs.Surveying.{begun};
-ghost use Rattle.node.specs.Calls.{handed};
+ghost use Rattle.node_calls.specs.Calls.{handed};
 
 fn next_begin(node: Node, room: usize) -> Survey
     ensures { λ r. ⌜ r ≡ begun look.Ready ⌝ }

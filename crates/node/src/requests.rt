@@ -15,7 +15,7 @@ ghost use mathlib.Core.List.{[]};
 ghost use Rattle.walks.specs.Serving.{leaves, changes};
 ghost use Rattle.table.specs.declared.looking.Look.the-variants as look;
 ghost use Rattle.table.specs.Surveying.{begun};
-ghost use Rattle.node.specs.Calls.{opened, closed, transferred, taken, reclaimed};
+ghost use Rattle.node_calls.specs.Calls.{opened, closed, transferred, taken, reclaimed};
 
 // An Open directive.
 pub fn open(t: &mut [Channel], mem: &[u8], lens: &[u16], index: usize) -> Answer

@@ -36,7 +36,7 @@ use Rattle.arriving_look.specs.Finding.{isOurs, lookBy, lookOf}
 use Rattle.steps_arriving.specs.Arriving.{arrivalFor}
 use Rattle.table.proofs.Parts.{laid-own}
 use Rattle.node_ticks.specs.Ticks.{tickOf, ticked}
-use Rattle.node.specs.Calls.{opened, closed, transferred, taken, reclaimed, handed, arrived}
+use Rattle.node_calls.specs.Calls.{opened, closed, transferred, taken, reclaimed, handed, arrived}
 use Rattle.node_keeps.specs.Keeping.{Keeps, staying, OthersStay, SameFor, OwnChannelAlone}
 use Rattle.node_keeps.proofs.Serving.{servedAt, serve-cases}
 use Rattle.node_keeps.proofs.StepsKeep.{open-keeps, close-keeps, take-keeps, reclaim-keeps, next-keeps, arrival-keeps}

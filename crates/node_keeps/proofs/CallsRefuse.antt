@@ -46,7 +46,7 @@ use Rattle.arriving_reply.specs.Replying.{repliedBy}
 use Rattle.steps_arriving.specs.Arriving.{arriveBy, payloadIn, arrivalFor}
 use Rattle.table.proofs.Parts.{laid-own}
 use Rattle.node_ticks.specs.Ticks.{tickOf, anyInactive, tickAnswer, ticked}
-use Rattle.node.specs.Calls.{opened, closed, transferred, taken, reclaimed, handed, arrived}
+use Rattle.node_calls.specs.Calls.{opened, closed, transferred, taken, reclaimed, handed, arrived}
 use Rattle.node_keeps.specs.Keeping.{MayChange, RefusalsChangeNothing, RefusalsChangeNoRecord, NineWritesNothing}
 use Rattle.node_keeps.proofs.Serving.{servedAt, serve-cases}
 

@@ -51,7 +51,7 @@ use Rattle.steps_ticking.specs.Ticking.{tickedBy}
 use Rattle.arriving_look.specs.Finding.{lookOf}
 use Rattle.steps_arriving.specs.Arriving.{payloadIn, arrivalFor}
 use Rattle.node_ticks.specs.Ticks.{tickOf, anyInactive, tickAnswer, ticked}
-use Rattle.node.specs.Calls.{opened, closed, transferred, taken, reclaimed, handed, arrived}
+use Rattle.node_calls.specs.Calls.{opened, closed, transferred, taken, reclaimed, handed, arrived}
 use Rattle.node_keeps.specs.Keeping.{Wide}
 use Rattle.node_keeps.proofs.Serving.{servedAt, worked, serve-cases}
 use Rattle.node_keeps.proofs.CallsRefuse.{arrive-cases}

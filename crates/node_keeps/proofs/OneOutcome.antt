@@ -8,7 +8,7 @@ use Rattle.channel.specs.declared.record.Node.{Node}
 use Rattle.channel.specs.declared.record.Channel.{Channel}
 use Rattle.channel.specs.declared.answer.Answer.{Answer}
 use Rattle.node_ticks.specs.Ticks.{ticked}
-use Rattle.node.specs.Calls.{opened, closed, transferred, taken, reclaimed, handed, arrived}
+use Rattle.node_calls.specs.Calls.{opened, closed, transferred, taken, reclaimed, handed, arrived}
 use Rattle.node_keeps.specs.Keeping.{OneOutcome, OneChange}
 
 -- a contract `leaves r t m l o ≡ g` admits one outcome

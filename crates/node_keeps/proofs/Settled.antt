@@ -34,7 +34,7 @@ use Rattle.steps_handing.specs.Handing.{nextFor}
 use Rattle.arriving_look.specs.Finding.{lookOf}
 use Rattle.steps_arriving.specs.Arriving.{arrivalFor}
 use Rattle.node_ticks.specs.Ticks.{tickOf, ticked}
-use Rattle.node.specs.Calls.{opened, closed, transferred, taken, reclaimed, handed, arrived}
+use Rattle.node_calls.specs.Calls.{opened, closed, transferred, taken, reclaimed, handed, arrived}
 use Rattle.node_keeps.specs.Keeping.{Given, Keeps, SettingsStay}
 use Rattle.node_keeps.proofs.Serving.{servedAt, worked, serve-cases}
 use Rattle.node_keeps.proofs.StepsKeep.{open-keeps, close-keeps, take-keeps, reclaim-keeps, next-keeps, arrival-keeps, tick-keeps}

@@ -9,7 +9,7 @@ use Rattle.table.specs.Surveying.{begun, surveyed, decided, stepping, Served}
 use Rattle.table.proofs.ServeLaws.{may-serve, look-stays, agreed}
 use Rattle.arriving_look.specs.Finding.{lookOf}
 use Rattle.steps_arriving.specs.Arriving.{arrivalFor}
-use Rattle.node.specs.Calls.{arrived as wanted}
+use Rattle.node_calls.specs.Calls.{arrived as wanted}
 use Rattle.node_survey.proofs.Types.{served, carried, own}
 use Rattle.node.proofs.arrivals.arrival_begin as arrival-begin
 use Rattle.node.proofs.arrivals.arrival_begin.Symbol as arrival-begin-def

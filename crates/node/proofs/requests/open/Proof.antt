@@ -10,7 +10,7 @@ use Rattle.table.specs.declared.looking.Look.the-variants.{Index}
 use Rattle.table.specs.Surveying.{begun, surveyed, decided}
 use Rattle.table.proofs.ServeLaws.{may-serve, agreed-order}
 use Rattle.steps.specs.Requests.{openedBy}
-use Rattle.node.specs.Calls.{opened as wanted}
+use Rattle.node_calls.specs.Calls.{opened as wanted}
 use Rattle.node_survey.proofs.Types.{served, carried}
 use Rattle.node_survey.proofs.surveying.request_begin as request-begin
 use Rattle.node_survey.proofs.surveying.request_begin.Symbol as request-begin-def
