@@ -14,7 +14,7 @@ use Rattle.ring.specs.Ring.{roundOf, backOf, runOf}
 use Rattle.ring.proofs.Laws.{back-lt, run-set, run-is}
 use Rattle.channel.specs.declared.record.Channel.{Channel}
 use Rattle.channel.specs.Record.{sends, heldIn}
-use Rattle.laws.proofs.Choice.{both}
+use Rattle.laws.proofs.Choice.{both, in-turn}
 use Rattle.channel.specs.declared.record.Limits.{Limits}
 use Rattle.channel.specs.declared.record.Window.{Window}
 use Rattle.channel.specs.Standing.{inRing, inFlight, marked, oldestOf, slotFit, slotsFit, standing, Standing, Counted}
@@ -34,6 +34,27 @@ module _ (slot : ℕ → ℕ) (sending : Bool) (most : ℕ) (marks lens : List �
   pub slots-no : (n i : ℕ) → i < n → slotFit sending most (getD marks i 0) (getD lens (slot i) 0) ≡ false → slotsFit slot sending most marks lens (n - i) i ≡ false
   unfolding slotsFit
   slots-no n i l t = let e : n - i ≡ suc (n - (i + 1)) = omega arith in rw (e, t)
+
+-- so many places fit, and those behind them: the first, and then the others
+pub slots-split : (slot : ℕ → ℕ) (sending : Bool) (most : ℕ) (marks lens : List ℕ) (m n i : ℕ)
+    → slotsFit slot sending most marks lens (m + n) i ≡ (slotsFit slot sending most marks lens m i && slotsFit slot sending most marks lens n (i + m))
+unfolding slotsFit
+slots-split slot sending most marks lens zero n i = rw (zero-add n, add-zero i)
+slots-split slot sending most marks lens (suc m) n i =
+    let e : suc m + n ≡ suc (m + n) = omega arith in
+    let p : i + 1 + m ≡ i + suc m = omega (arith, add-suc i m) in
+    let rest = slots-split slot sending most marks lens m n (i + 1) in
+    rw (e, rest, p) (in-turn (slotFit sending most (getD marks i 0) (getD lens (slot i) 0)) (slotsFit slot sending most marks lens m (i + 1)) _)
+
+-- from the i-th place on, up to the j-th, and then up to the n-th
+pub slots-on : (slot : ℕ → ℕ) (sending : Bool) (most : ℕ) (marks lens : List ℕ) (n i j : ℕ) → i ≤ j → j ≤ n
+    → slotsFit slot sending most marks lens (n - i) i ≡ (slotsFit slot sending most marks lens (j - i) i && slotsFit slot sending most marks lens (n - j) j)
+slots-on slot sending most marks lens n i j a b =
+    let e : n - i ≡ j - i + (n - j) = omega arith in
+    let p : i + (j - i) ≡ j = omega arith in
+    ap (λ (k : ℕ). slotsFit slot sending most marks lens k i) e
+    ∙ slots-split slot sending most marks lens (j - i) (n - j) i
+    ∙ ap (λ (k : ℕ). slotsFit slot sending most marks lens (j - i) i && slotsFit slot sending most marks lens (n - j) k) p
 
 -- every slot fits exactly if each does
 pub slots-each : (slot : ℕ → ℕ) (sending : Bool) (most : ℕ) (marks lens : List ℕ) (n i : ℕ)

@@ -7,7 +7,7 @@ use channel::record::OPEN;
 use channel::record::SENDS;
 use channel_settings::settings::fits_limits;
 ghost use mathlib.Core.Path.{_≡_};
-ghost use Prim.Native.Nat.{_≤_, _<_};
+ghost use Prim.Native.Nat.{_-_, _≤_, _<_};
 ghost use lib.ListN.{length};
 ghost use Rattle.slots.specs.Slots.{slotOf};
 ghost use Rattle.channel.specs.Standing.{named, inRing, inFlight, sided, slotFit, slotsFit, marked, standing};
@@ -38,14 +38,14 @@ pub fn stands(c: Channel, lens: &[u16]) -> bool
     if !is_sided(c.addresses.direction, c.state, window) {
         return false;
     }
-    if !is_marked(limits.slots, window, marks) {
+    if !is_marked(limits.slots, window, &marks) {
         return false;
     }
     slots_fit(
         c.addresses.direction == SENDS,
         limits.slots,
         limits.payload,
-        marks,
+        &marks,
         lens,
     )
 }
@@ -121,21 +121,43 @@ fn is_sided(direction: u8, state: u8, w: Window) -> bool
 }
 
 // Each segment held lies in a slot that is marked.
-fn is_marked(slots: usize, w: Window, marks: [u8; 128]) -> bool
+fn is_marked(slots: usize, w: Window, marks: &[u8; 128]) -> bool
     requires { ⌜ (w .place < slots) × (w .behind ≤ slots) × (w .ahead ≤ 128) × (slots ≤ 128) ⌝ }
-    ensures { λ r. ⌜ r ≡ marked slots w marks ⌝ }
+    ensures { λ r. ⌜ r ≡ marked slots w (now (marks .entry)) ⌝ }
 {
     let held = w.behind + w.ahead;
     ring::run(marks, slots, held, ring::back(slots, w.place, w.behind)) == held
 }
 
-// Each slot that is marked has a length that fits. Marks lie by place, lengths by slot.
-fn slots_fit(sending: bool, slots: usize, most: usize, marks: [u8; 128], lens: &[u16]) -> bool
+// Each slot that is marked has a length that fits. It goes by eights, and the compiler lays out the looks at eight in a row.
+fn slots_fit(sending: bool, slots: usize, most: usize, marks: &[u8; 128], lens: &[u16]) -> bool
     requires { ⌜ (slots ≤ 128) × (slots ≤ length (now lens)) ⌝ }
-    ensures { λ r. ⌜ r ≡ slotsFit slotOf sending most marks (now (lens .entry)) slots 0 ⌝ }
+    ensures { λ r. ⌜ r ≡ slotsFit slotOf sending most (now (marks .entry)) (now (lens .entry)) slots 0 ⌝ }
 {
     let mut i: usize = 0;
-    while i < slots {
+    while slots - i >= 8 {
+        if !places_fit(sending, most, marks, lens, i, i + 8) {
+            return false;
+        }
+        i += 8;
+    }
+    places_fit(sending, most, marks, lens, i, slots)
+}
+
+// Those of some places do. Marks lie by place, lengths by slot.
+fn places_fit(
+    sending: bool,
+    most: usize,
+    marks: &[u8; 128],
+    lens: &[u16],
+    from: usize,
+    end: usize,
+) -> bool
+    requires { ⌜ (from ≤ end) × (end ≤ 128) × (end ≤ length (now lens)) ⌝ }
+    ensures { λ r. ⌜ r ≡ slotsFit slotOf sending most (now (marks .entry)) (now (lens .entry)) (end - from) from ⌝ }
+{
+    let mut i = from;
+    while i < end {
         let slot = slots::slot_of(i);
         if !slot_fits(sending, most, marks[i], lens[slot] as usize) {
             return false;

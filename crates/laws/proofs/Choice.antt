@@ -28,3 +28,8 @@ neither true b e = absurd (true≢false e)
 pub both : (a b : Bool) → (a && b) ≡ true → (a ≡ true) × (b ≡ true)
 both true b e = (refl, e)
 both false b e = absurd (false≢true e)
+
+-- three tests, the last two together or the first two
+pub in-turn : (a b c : Bool) → (a && (b && c)) ≡ (a && b && c)
+in-turn true b c = refl
+in-turn false b c = refl

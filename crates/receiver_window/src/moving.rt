@@ -82,7 +82,7 @@ pub fn move_start(l: Limits, marks: [u8; 128], w: Window) -> Moved
 {
     let slots = l.slots;
     let most = l.segments;
-    let n = ring::run(marks, slots, slots - w.behind, w.place);
+    let n = ring::run(&marks, slots, slots - w.behind, w.place);
     let mut at = w;
     let mut i: usize = 0;
     while i < n {

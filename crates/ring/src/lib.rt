@@ -19,9 +19,9 @@ pub fn back(slots: usize, place: usize, n: usize) -> usize
 }
 
 // Of the n marks from a place on, how many are set before the first that is not.
-pub fn run(marks: [u8; 128], slots: usize, n: usize, from: usize) -> usize
+pub fn run(marks: &[u8; 128], slots: usize, n: usize, from: usize) -> usize
     requires { ⌜ (from < slots) × (slots ≤ 128) ⌝ }
-    ensures { λ r. ⌜ r ≡ runOf marks slots n from ⌝ }
+    ensures { λ r. ⌜ r ≡ runOf (now (marks .entry)) slots n from ⌝ }
 {
     let mut count: usize = 0;
     let mut s = from;

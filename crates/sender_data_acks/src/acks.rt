@@ -83,7 +83,7 @@ pub fn data_ack_step(c: Channel, number: u8) -> Stepped
     let noted = note(c, place, d);
     let acked = noted.acked;
     let marks = noted.marks;
-    let n = ring::run(acked, slots, c.window.flight, at);
+    let n = ring::run(&acked, slots, c.window.flight, at);
     let confirmed = store::ends_in(marks, slots, n, at);
     Stepped {
         channel: advance(noted, n),

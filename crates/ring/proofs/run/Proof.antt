@@ -13,25 +13,25 @@ use Rattle.ring.proofs.run.Lts as lts
 use Rattle.ring.proofs.round.Reads as round-reads
 
 abbrev Inv-loop : tie.InvT-loop
-Inv-loop slots n from marks count₀ s₀ count s = (count ≤ n) × (s < slots) × (count + runOf marks slots (n - count) s ≡ runOf marks slots n from)
+Inv-loop marks slots n from count₀ s₀ count s = (count ≤ n) × (s < slots) × (count + runOf marks slots (n - count) s ≡ runOf marks slots n from)
 
 abbrev μ-loop : tie.MeasureT-loop
-μ-loop slots n from marks count₀ s₀ count s = n - count
+μ-loop marks slots n from count₀ s₀ count s = n - count
 
 loop-holds : tie.Need-loop-holds Inv-loop μ-loop
 loop-holds c =
     let a = c .args in
     let e : a .n - 0 ≡ a .n = omega arith in
-    (omega arith, omega arith, zero-add _ ∙ ap (λ (k : ℕ). runOf (a .t1) (a .slots) k (a .from)) e)
+    (omega arith, omega arith, zero-add _ ∙ ap (λ (k : ℕ). runOf (a .marks .now) (a .slots) k (a .from)) e)
 
-array-read-if1 : tie.Need-array-read-if1 Inv-loop μ-loop
-array-read-if1 c = omega arith
+element-copy-out-if1 : tie.Need-element-copy-out-if1 Inv-loop μ-loop
+element-copy-out-if1 c = omega arith
 
 returns : tie.Need-returns Inv-loop μ-loop
 returns c =
-    let at = c .before .before .loop in
-    let a = c .before .before .before .args in
-    omega (arith, run-stop (a .t1) (a .slots) (a .n - at .count) (at .s) (c .if1 .taken))
+    let at = c .before .before .before .loop in
+    let a = c .before .before .before .before .args in
+    omega (arith, run-stop (a .marks .now) (a .slots) (a .n - at .count) (at .s) (c .if1 .taken))
 
 add-count : tie.Need-add-count Inv-loop μ-loop
 add-count c = omega arith
@@ -47,16 +47,16 @@ loop-less c = omega arith
 
 loop-again : tie.Need-loop-again Inv-loop μ-loop
 loop-again c =
-    let at = c .before .before .before .loop in
-    let a = c .before .before .before .before .args in
-    let more = run-more (a .t1) (a .slots) (a .n) (at .count) (at .s) (c .before .before .loop-test .taken) (c .before .if1 .left) in
+    let at = c .before .before .before .before .loop in
+    let a = c .before .before .before .before .before .args in
+    let more = run-more (a .marks .now) (a .slots) (a .n) (at .count) (at .s) (c .before .before .before .loop-test .taken) (c .before .if1 .left) in
     (omega arith, rw (c .round .ensures) (round-lt _ _ (omega arith)), rw (c .round .ensures) (omega arith))
 
 returns-2 : tie.Need-returns-2 Inv-loop μ-loop
 returns-2 c =
     let at = c .before .loop in
     let a = c .before .before .args in
-    omega (arith, run-none (a .t1) (a .slots) (a .n) (at .count) (at .s) (c .loop-test .left))
+    omega (arith, run-none (a .marks .now) (a .slots) (a .n) (at .count) (at .s) (c .loop-test .left))
 
 pub run-spec : {M : Type 1} → statement M
 run-spec =
@@ -65,7 +65,7 @@ run-spec =
     Inv-loop
     μ-loop
     loop-holds
-    array-read-if1
+    element-copy-out-if1
     returns
     add-count
     add-round

@@ -1,65 +1,49 @@
 -- `channel_stands::standing::slots_fit` meets its contract: the invariant: the slots that are left fit exactly if all do.
 -- Assumes nothing.
-use Prim.Native.Nat.{ℕ, _≤_, _-_}
+use Prim.Native.Nat.{ℕ, _≤_, _-_, _+_}
 use mathlib.Core.Path.{_≡_, refl, sym, ap, _∙_}
+use mathlib.Core.Bool.{Bool, _&&_}
 use native.Mathlib.Omega.{arith}
 use borrow.Author.Needs.{needs}
 use borrow.Author.Tests.{not-true, not-false}
-use lib.ListN.{getD}
 use Rattle.slots.specs.Slots.{slotOf}
-use Rattle.slots.proofs.Laws.{slot-bound}
-use Rattle.channel.specs.Standing.{slotFit, slotsFit}
-use Rattle.channel.proofs.StandingLaws.{slots-no, slots-more, slots-none}
+use Rattle.channel.specs.Standing.{slotsFit}
+use Rattle.channel.proofs.StandingLaws.{slots-on}
 use Rattle.channel_stands.proofs.standing.slots_fit.Statement.{statement}
 use Rattle.channel_stands.proofs.standing.slots_fit.Tie as tie
 use Rattle.channel_stands.proofs.standing.slots_fit.Reads as reads
 use Rattle.channel_stands.proofs.standing.slots_fit.Lts as lts
-use Rattle.channel_stands.proofs.standing.slot_fits.Reads as slot-fits-reads
-use Rattle.slots.proofs.slot_of.Reads as slot-of-reads
+use Rattle.channel_stands.proofs.standing.places_fit.Reads as places-fit-reads
 
 abbrev Inv-loop : tie.InvT-loop
-Inv-loop sending slots most lens marks i₀ i = (i ≤ slots) × (slotsFit slotOf sending most marks lens (slots - i) i ≡ slotsFit slotOf sending most marks lens slots 0)
+Inv-loop sending slots most marks lens i₀ i = (i ≤ slots) × (slotsFit slotOf sending most marks lens (slots - i) i ≡ slotsFit slotOf sending most marks lens slots 0)
 
 abbrev μ-loop : tie.MeasureT-loop
-μ-loop sending slots most lens marks i₀ i = slots - i
+μ-loop sending slots most marks lens i₀ i = slots - i
 
 loop-holds : tie.Need-loop-holds Inv-loop μ-loop
 loop-holds c =
     let a = c .before .args in
     let e : a .slots - 0 ≡ a .slots = omega arith in
-    (omega arith, ap (λ (k : ℕ). slotsFit slotOf (a .sending) (a .most) (a .t4) (a .lens .now) k 0) e)
+    (omega arith, ap (λ (k : ℕ). slotsFit slotOf (a .sending) (a .most) (a .marks .now) (a .lens .now) k 0) e)
 
-slot-of-requires : tie.Need-slot-of-requires Inv-loop μ-loop
-slot-of-requires c κs = tt
+sub-loop : tie.Need-sub-loop Inv-loop μ-loop
+sub-loop c = omega arith
 
-array-read-slot-fits : tie.Need-array-read-slot-fits Inv-loop μ-loop
-array-read-slot-fits c = omega arith
+add-places-fit : tie.Need-add-places-fit Inv-loop μ-loop
+add-places-fit c = omega arith
 
-mul-slot-fits : tie.Need-mul-slot-fits Inv-loop μ-loop
-mul-slot-fits c =
-    let at = c .before .before .loop in
-    let a = c .before .before .before .before .args in
-    omega (arith, c .slot-of .ensures, slot-bound (a .slots) (at .i) (c .before .loop-test .taken))
-
-shared-slice-read-slot-fits : tie.Need-shared-slice-read-slot-fits Inv-loop μ-loop
-shared-slice-read-slot-fits c =
-    let at = c .before .before .before .loop in
-    let a = c .before .before .before .before .before .args in
-    omega (arith, c .before .slot-of .ensures, slot-bound (a .slots) (at .i) (c .before .before .loop-test .taken))
-
-cast-slot-fits : tie.Need-cast-slot-fits Inv-loop μ-loop
-cast-slot-fits c = omega (arith, c .shared-slice-known2 .given (c .before .slot-of .result))
-
-slot-fits-requires : tie.Need-slot-fits-requires Inv-loop μ-loop
-slot-fits-requires c κs = tt
+places-fit-requires : tie.Need-places-fit-requires Inv-loop μ-loop
+places-fit-requires c κs = (omega arith, omega arith, omega arith)
 
 returns : tie.Need-returns Inv-loop μ-loop
 returns c =
-    let a = c .before .before .before .before .before .before .before .args in
-    let at = c .before .before .before .before .before .loop in
-    let there = ap (λ (k : ℕ). slotFit (a .sending) (a .most) (getD (a .t4) (at .i) 0) (getD (a .lens .now) k 0)) (c .before .before .before .slot-of .ensures) in
-    let no = sym there ∙ sym (c .before .slot-fits .ensures) ∙ not-true _ (c .if1 .taken) in
-    sym (slots-no slotOf (a .sending) (a .most) (a .t4) (a .lens .now) (a .slots) (at .i) (c .before .before .before .before .loop-test .taken) no) ∙ at .inv .1
+    let a = c .before .before .before .before .before .args in
+    let at = c .before .before .before .loop in
+    let no = sym (c .before .places-fit .ensures) ∙ not-true _ (c .if1 .taken) in
+    let rest = slotsFit slotOf (a .sending) (a .most) (a .marks .now) (a .lens .now) (a .slots - (at .i + 8)) (at .i + 8) in
+    let whole = slots-on slotOf (a .sending) (a .most) (a .marks .now) (a .lens .now) (a .slots) (at .i) (at .i + 8) (omega arith) (omega arith) in
+    sym (sym (at .inv .1) ∙ whole ∙ ap (λ (t : Bool). t && rest) no)
 
 add-i : tie.Need-add-i Inv-loop μ-loop
 add-i c = omega arith
@@ -69,17 +53,18 @@ loop-less c = omega arith
 
 loop-again : tie.Need-loop-again Inv-loop μ-loop
 loop-again c =
-    let a = c .before .before .before .before .before .before .before .args in
-    let at = c .before .before .before .before .before .loop in
-    let there = ap (λ (k : ℕ). slotFit (a .sending) (a .most) (getD (a .t4) (at .i) 0) (getD (a .lens .now) k 0)) (c .before .before .before .slot-of .ensures) in
-    let yes′ = sym there ∙ sym (c .before .slot-fits .ensures) ∙ not-false _ (c .if1 .left) in
-    (omega arith, sym (slots-more slotOf (a .sending) (a .most) (a .t4) (a .lens .now) (a .slots) (at .i) (c .before .before .before .before .loop-test .taken) yes′) ∙ at .inv .1)
+    let a = c .before .before .before .before .before .args in
+    let at = c .before .before .before .loop in
+    let yes′ = sym (c .before .places-fit .ensures) ∙ not-false _ (c .if1 .left) in
+    let rest = slotsFit slotOf (a .sending) (a .most) (a .marks .now) (a .lens .now) (a .slots - (at .i + 8)) (at .i + 8) in
+    let whole = slots-on slotOf (a .sending) (a .most) (a .marks .now) (a .lens .now) (a .slots) (at .i) (at .i + 8) (omega arith) (omega arith) in
+    (omega arith, sym (whole ∙ ap (λ (t : Bool). t && rest) yes′) ∙ at .inv .1)
+
+places-fit-requires-2 : tie.Need-places-fit-requires-2 Inv-loop μ-loop
+places-fit-requires-2 c κs = (omega arith, omega arith, omega arith)
 
 returns-2 : tie.Need-returns-2 Inv-loop μ-loop
-returns-2 c =
-    let a = c .before .before .before .args in
-    let at = c .before .loop in
-    sym (slots-none slotOf (a .sending) (a .most) (a .t4) (a .lens .now) (a .slots) (at .i) (c .loop-test .left)) ∙ at .inv .1
+returns-2 c = c .places-fit2 .ensures ∙ c .before .before .loop .inv .1
 
 pub slots-fit-spec : {M : Type 1} → statement M
 slots-fit-spec =
@@ -88,14 +73,12 @@ slots-fit-spec =
     Inv-loop
     μ-loop
     loop-holds
-    slot-of-requires
-    array-read-slot-fits
-    mul-slot-fits
-    shared-slice-read-slot-fits
-    cast-slot-fits
-    slot-fits-requires
+    sub-loop
+    add-places-fit
+    places-fit-requires
     returns
     add-i
     loop-less
     loop-again
+    places-fit-requires-2
     returns-2)

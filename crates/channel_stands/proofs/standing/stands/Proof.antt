@@ -96,9 +96,9 @@ returns-6 c =
 
 is-marked-requires : tie.Need-is-marked-requires
 is-marked-requires c κs =
-    let a = c .before .before .before .before .before .before .before .before .before .before .before .before .before .before .before .before .args in
-    let f : fitLimits (a .c .limits) ≡ true = sym (c .before .before .before .before .before .before .before .before .before .before .before .fits-limits .ensures) ∙ not-false _ (c .before .before .before .before .before .before .before .before .before .before .if1 .left) in
-    let r : inRing (a .c .limits) (a .c .window) ≡ true = sym (c .before .before .before .before .before .is-in-ring .ensures) ∙ not-false _ (c .before .before .before .before .if4 .left) in
+    let a = c .before .before .before .before .before .before .before .before .before .before .before .before .before .before .before .before .before .args in
+    let f : fitLimits (a .c .limits) ≡ true = sym (c .before .before .before .before .before .before .before .before .before .before .before .before .fits-limits .ensures) ∙ not-false _ (c .before .before .before .before .before .before .before .before .before .before .before .if1 .left) in
+    let r : inRing (a .c .limits) (a .c .window) ≡ true = sym (c .before .before .before .before .before .before .is-in-ring .ensures) ∙ not-false _ (c .before .before .before .before .before .if4 .left) in
     let t = fit-is _ f in
     let q = ring-is _ _ r in
     (q .0, q .1, omega arith, t .most)
@@ -106,34 +106,34 @@ is-marked-requires c κs =
 returns-7 : tie.Need-returns-7
 unfolding standing
 returns-7 c =
-    let a = c .before .before .before .before .before .before .before .before .before .before .before .before .before .before .before .before .before .before .args in
-    let f : fitLimits (a .c .limits) ≡ true = sym (c .before .before .before .before .before .before .before .before .before .before .before .before .before .fits-limits .ensures) ∙ not-false _ (c .before .before .before .before .before .before .before .before .before .before .before .before .if1 .left) in
-    let l = eq-eqb (length (a .lens .now)) (a .c .limits .slots) (c .before .before .before .before .before .before .before .before .before .before .if2 .left) in
-    let n : named (a .c) ≡ true = sym (c .before .before .before .before .before .before .before .before .before .is-named .ensures) ∙ not-false _ (c .before .before .before .before .before .before .before .before .if3 .left) in
-    let r : inRing (a .c .limits) (a .c .window) ≡ true = sym (c .before .before .before .before .before .before .before .is-in-ring .ensures) ∙ not-false _ (c .before .before .before .before .before .before .if4 .left) in
-    let g : inFlight (a .c .limits) (a .c .window) ≡ true = sym (c .before .before .before .before .before .is-in-flight .ensures) ∙ not-false _ (c .before .before .before .before .if5 .left) in
-    let s : sided (a .c .addresses .direction) (a .c .state) (a .c .window) ≡ true = sym (c .before .before .before .is-sided .ensures) ∙ not-false _ (c .before .before .if6 .left) in
+    let a = c .before .before .before .before .before .before .before .before .before .before .before .before .before .before .before .before .before .before .before .args in
+    let f : fitLimits (a .c .limits) ≡ true = sym (c .before .before .before .before .before .before .before .before .before .before .before .before .before .before .fits-limits .ensures) ∙ not-false _ (c .before .before .before .before .before .before .before .before .before .before .before .before .before .if1 .left) in
+    let l = eq-eqb (length (a .lens .now)) (a .c .limits .slots) (c .before .before .before .before .before .before .before .before .before .before .before .if2 .left) in
+    let n : named (a .c) ≡ true = sym (c .before .before .before .before .before .before .before .before .before .before .is-named .ensures) ∙ not-false _ (c .before .before .before .before .before .before .before .before .before .if3 .left) in
+    let r : inRing (a .c .limits) (a .c .window) ≡ true = sym (c .before .before .before .before .before .before .before .before .is-in-ring .ensures) ∙ not-false _ (c .before .before .before .before .before .before .before .if4 .left) in
+    let g : inFlight (a .c .limits) (a .c .window) ≡ true = sym (c .before .before .before .before .before .before .is-in-flight .ensures) ∙ not-false _ (c .before .before .before .before .before .if5 .left) in
+    let s : sided (a .c .addresses .direction) (a .c .state) (a .c .window) ≡ true = sym (c .before .before .before .before .is-sided .ensures) ∙ not-false _ (c .before .before .before .if6 .left) in
     let m : marked (a .c .limits .slots) (a .c .window) (a .c .marks) ≡ false = sym (c .before .is-marked .ensures) ∙ not-true _ (c .if7 .taken) in
     simp (f, l, n, r, g, s, m)
 
 slots-fit-requires : tie.Need-slots-fit-requires
 slots-fit-requires c κs =
-    let a = c .before .before .before .before .before .before .before .before .before .before .before .before .before .before .before .before .before .before .before .args in
-    let f : fitLimits (a .c .limits) ≡ true = sym (c .before .before .before .before .before .before .before .before .before .before .before .before .before .before .fits-limits .ensures) ∙ not-false _ (c .before .before .before .before .before .before .before .before .before .before .before .before .before .if1 .left) in
+    let a = c .before .before .before .before .before .before .before .before .before .before .before .before .before .before .before .before .before .before .before .before .before .args in
+    let f : fitLimits (a .c .limits) ≡ true = sym (c .before .before .before .before .before .before .before .before .before .before .before .before .before .before .before .before .fits-limits .ensures) ∙ not-false _ (c .before .before .before .before .before .before .before .before .before .before .before .before .before .before .before .if1 .left) in
     let t = fit-is _ f in
-    (t .most, omega (arith, c .before .before .before .before .before .before .before .before .before .before .before .if2 .left))
+    (t .most, omega (arith, c .before .before .before .before .before .before .before .before .before .before .before .before .before .if2 .left))
 
 returns-8 : tie.Need-returns-8
 unfolding standing
 returns-8 c =
-    let a = c .before .before .before .before .before .before .before .before .before .before .before .before .before .before .before .before .before .before .before .before .args in
-    let f : fitLimits (a .c .limits) ≡ true = sym (c .before .before .before .before .before .before .before .before .before .before .before .before .before .before .before .fits-limits .ensures) ∙ not-false _ (c .before .before .before .before .before .before .before .before .before .before .before .before .before .before .if1 .left) in
-    let l = eq-eqb (length (a .lens .now)) (a .c .limits .slots) (c .before .before .before .before .before .before .before .before .before .before .before .before .if2 .left) in
-    let n : named (a .c) ≡ true = sym (c .before .before .before .before .before .before .before .before .before .before .before .is-named .ensures) ∙ not-false _ (c .before .before .before .before .before .before .before .before .before .before .if3 .left) in
-    let r : inRing (a .c .limits) (a .c .window) ≡ true = sym (c .before .before .before .before .before .before .before .before .before .is-in-ring .ensures) ∙ not-false _ (c .before .before .before .before .before .before .before .before .if4 .left) in
-    let g : inFlight (a .c .limits) (a .c .window) ≡ true = sym (c .before .before .before .before .before .before .before .is-in-flight .ensures) ∙ not-false _ (c .before .before .before .before .before .before .if5 .left) in
-    let s : sided (a .c .addresses .direction) (a .c .state) (a .c .window) ≡ true = sym (c .before .before .before .before .before .is-sided .ensures) ∙ not-false _ (c .before .before .before .before .if6 .left) in
-    let m : marked (a .c .limits .slots) (a .c .window) (a .c .marks) ≡ true = sym (c .before .before .before .is-marked .ensures) ∙ not-false _ (c .before .before .if7 .left) in
+    let a = c .before .before .before .before .before .before .before .before .before .before .before .before .before .before .before .before .before .before .before .before .before .before .args in
+    let f : fitLimits (a .c .limits) ≡ true = sym (c .before .before .before .before .before .before .before .before .before .before .before .before .before .before .before .before .before .fits-limits .ensures) ∙ not-false _ (c .before .before .before .before .before .before .before .before .before .before .before .before .before .before .before .before .if1 .left) in
+    let l = eq-eqb (length (a .lens .now)) (a .c .limits .slots) (c .before .before .before .before .before .before .before .before .before .before .before .before .before .before .if2 .left) in
+    let n : named (a .c) ≡ true = sym (c .before .before .before .before .before .before .before .before .before .before .before .before .before .is-named .ensures) ∙ not-false _ (c .before .before .before .before .before .before .before .before .before .before .before .before .if3 .left) in
+    let r : inRing (a .c .limits) (a .c .window) ≡ true = sym (c .before .before .before .before .before .before .before .before .before .before .before .is-in-ring .ensures) ∙ not-false _ (c .before .before .before .before .before .before .before .before .before .before .if4 .left) in
+    let g : inFlight (a .c .limits) (a .c .window) ≡ true = sym (c .before .before .before .before .before .before .before .before .before .is-in-flight .ensures) ∙ not-false _ (c .before .before .before .before .before .before .before .before .if5 .left) in
+    let s : sided (a .c .addresses .direction) (a .c .state) (a .c .window) ≡ true = sym (c .before .before .before .before .before .before .before .is-sided .ensures) ∙ not-false _ (c .before .before .before .before .before .before .if6 .left) in
+    let m : marked (a .c .limits .slots) (a .c .window) (a .c .marks) ≡ true = sym (c .before .before .before .before .is-marked .ensures) ∙ not-false _ (c .before .before .before .if7 .left) in
     simp (f, l, n, r, g, s, m) (c .slots-fit .ensures)
 
 pub stands-spec : {M : Type 1} → statement M

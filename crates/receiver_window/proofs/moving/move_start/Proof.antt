@@ -44,7 +44,7 @@ fits-requires c κs = omega arith
 
 returns : tie.Need-returns Inv-loop μ-loop
 returns c =
-    let a = c .before .before .before .before .before .before .args in
+    let a = c .before .before .before .before .before .before .before .args in
     let v = c .before .before .before .loop in
     let n = c .before .before .before .before .run .result in
     let slots = a .l .slots in
@@ -72,7 +72,7 @@ loop-less c = omega arith
 
 loop-again : tie.Need-loop-again Inv-loop μ-loop
 loop-again c =
-    let a = c .before .before .before .before .before .before .before .args in
+    let a = c .before .before .before .before .before .before .before .before .args in
     let v = c .before .before .before .before .loop in
     let n = c .before .before .before .before .before .run .result in
     let slots = a .l .slots in
@@ -99,7 +99,7 @@ loop-again c =
 
 returns-2 : tie.Need-returns-2 Inv-loop μ-loop
 returns-2 c =
-    let a = c .before .before .before .before .args in
+    let a = c .before .before .before .before .before .args in
     let v = c .before .loop in
     let n = c .before .before .run .result in
     let none : n - v .i ≡ 0 = omega (arith, c .loop-test .left) in

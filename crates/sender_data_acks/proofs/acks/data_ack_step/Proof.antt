@@ -68,26 +68,26 @@ note-requires c κs =
     (c .round .ensures, omega (arith, c .round .ensures, p .most))
 
 run-requires : tie.Need-run-requires
-run-requires c κs = (c .before .before .before .before .before .before .before .before .before .pre .place, c .before .before .before .before .before .before .before .before .before .pre .most)
+run-requires c κs = (c .before .before .before .before .before .before .before .before .before .before .pre .place, c .before .before .before .before .before .before .before .before .before .before .pre .most)
 
 ends-in-requires : tie.Need-ends-in-requires
-ends-in-requires c κs = (c .before .before .before .before .before .before .before .before .before .before .pre .place, c .before .before .before .before .before .before .before .before .before .before .pre .most)
+ends-in-requires c κs = (c .before .before .before .before .before .before .before .before .before .before .before .pre .place, c .before .before .before .before .before .before .before .before .before .before .before .pre .most)
 
 advance-requires : tie.Need-advance-requires
 advance-requires c κs = (
-  subst (λ (k : Channel). Ringed (k .limits) (k .window)) (sym (c .before .before .before .before .note .ensures)) (c .before .before .before .before .before .before .before .before .before .before .before .pre),
+  subst (λ (k : Channel). Ringed (k .limits) (k .window)) (sym (c .before .before .before .before .before .note .ensures)) (c .before .before .before .before .before .before .before .before .before .before .before .before .pre),
   c .before .run .ensures
-      ∙ ap (λ (k : Channel). runOf (c .before .before .before .before .note .result .acked) (k .limits .slots) (k .window .flight) (k .window .place)) (sym (c .before .before .before .before .note .ensures)),
+      ∙ ap (λ (k : Channel). runOf (c .before .before .before .before .before .note .result .acked) (k .limits .slots) (k .window .flight) (k .window .place)) (sym (c .before .before .before .before .before .note .ensures)),
 )
 
 returns-3 : tie.Need-returns-3
 returns-3 c =
-    let away = c .before .before .before .before .before .before .before .before .before .away .ensures in
-    let yes′ = sym (c .before .before .before .before .before .before .before .before .is-awaited .ensures) ∙ not-false _ (c .before .before .before .before .before .before .before .if2 .left) in
-    let sent = awaited-sent (c .before .before .before .before .before .before .before .before .before .before .before .before .args .c) _ yes′ in
-    data-ack-is (c .before .before .before .before .before .before .before .before .before .before .before .before .args .c) (c .before .before .before .before .before .before .before .before .before .before .before .before .args .number) (c .before .before .before .before .before .before .before .before .before .away .result) (c .before .before .before .before .before .note .result) (c .before .before .run .result) (c .before .ends-in .result) (c .advance .result) (c .before .before .before .before .before .before .before .before .before .before .if1 .left) yes′
+    let away = c .before .before .before .before .before .before .before .before .before .before .away .ensures in
+    let yes′ = sym (c .before .before .before .before .before .before .before .before .before .is-awaited .ensures) ∙ not-false _ (c .before .before .before .before .before .before .before .before .if2 .left) in
+    let sent = awaited-sent (c .before .before .before .before .before .before .before .before .before .before .before .before .before .args .c) _ yes′ in
+    data-ack-is (c .before .before .before .before .before .before .before .before .before .before .before .before .before .args .c) (c .before .before .before .before .before .before .before .before .before .before .before .before .before .args .number) (c .before .before .before .before .before .before .before .before .before .before .away .result) (c .before .before .before .before .before .before .note .result) (c .before .before .run .result) (c .before .ends-in .result) (c .advance .result) (c .before .before .before .before .before .before .before .before .before .before .before .if1 .left) yes′
     away
-    (c .before .before .before .before .before .note .ensures)
+    (c .before .before .before .before .before .before .note .ensures)
     (c .before .before .run .ensures)
     (c .before .ends-in .ensures)
     (c .advance .ensures)
