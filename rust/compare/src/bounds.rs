@@ -1,11 +1,11 @@
 //! Settings at and past each bound, asked of both libraries.
 
+use link::Noise;
 use peer::settings::{Direction, Settings};
 use peer::state::State;
 use proved::record::Node;
 
 use crate::call::{to_proved, Call};
-use crate::noise::Noise;
 use crate::tables::{limits, Size};
 use crate::tally::Tally;
 use crate::twin::Twin;

@@ -1,7 +1,7 @@
 //! One call made of both libraries; a difference is a panic.
 
-use crate::noise::Noise;
 use crate::packets::Request;
+use link::Noise;
 use peer::answer::Refusal;
 
 /// Octets around a lent buffer that no call may touch.

@@ -3,14 +3,11 @@
 // All are of one type, also those that leave the length as it is.
 #![allow(clippy::ptr_arg)]
 
-use crate::noise::Noise;
+use link::{Damage, Noise};
 use peer::crc::crc;
 
-/// One kind of damage.
-pub type Damage = fn(&mut Vec<u8>, &mut Noise);
-
 /// Every kind of damage.
-pub const DAMAGES: [Damage; 12] = [
+const DAMAGES: [Damage; 12] = [
     flip_bits,
     change_octet,
     change_octet_and_repair,
@@ -24,6 +21,11 @@ pub const DAMAGES: [Damage; 12] = [
     lengthen_and_repair,
     write_crc_another_way,
 ];
+
+/// Any of them.
+pub fn any(packet: &mut Vec<u8>, noise: &mut Noise) {
+    noise.one_of(&DAMAGES)(packet, noise);
+}
 
 /// Makes the last two octets the CRC of those before them.
 pub fn repair(packet: &mut [u8]) {

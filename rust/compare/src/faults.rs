@@ -1,6 +1,6 @@
 //! Headers that break chosen clauses of the tests 4 and 3, and no others.
 
-use crate::noise::Noise;
+use link::Noise;
 use peer::packet::{flags, kind, Fields, VERSION};
 
 /// The clauses of the tests 4 and 3 that a header breaks.

@@ -2,11 +2,11 @@
 //! answer is held against docs/CONDITION.md: 13 exactly if a record lacks its
 //! condition, and then nothing has changed.
 
+use link::Noise;
 use proved::record::Channel;
 
 use crate::call::Call;
 use crate::condition::is_lawful;
-use crate::noise::Noise;
 use crate::strays::from_other_end;
 use crate::tally::Tally;
 use crate::twin::Twin;

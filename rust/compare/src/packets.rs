@@ -1,8 +1,8 @@
 //! Packets to read, and requests to write them.
 
-use crate::damage::{repair, DAMAGES};
+use crate::damage::{self, repair};
 use crate::faults::{Faults, Reach};
-use crate::noise::Noise;
+use link::Noise;
 use peer::packet::Fields;
 
 /// A packet to be written, and the size of the buffer lent for it.
@@ -23,7 +23,7 @@ pub fn any_packet(noise: &mut Noise) -> Vec<u8> {
     }
     let mut packet = faulty_packet(Faults::some(noise), noise);
     if noise.one_in(2) {
-        noise.one_of(&DAMAGES)(&mut packet, noise);
+        damage::any(&mut packet, noise);
     }
     packet
 }

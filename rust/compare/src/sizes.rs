@@ -4,9 +4,9 @@
 //! settings over such storage are asked of both, in `bounds`.
 
 use crate::call::{Call, Lent};
-use crate::noise::Noise;
 use crate::tally::Tally;
 use crate::twin::Twin;
+use link::Noise;
 use proved::record::Channel;
 
 /// What is lent wrongly, and its name.

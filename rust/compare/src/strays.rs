@@ -1,13 +1,13 @@
 //! Packets that no node sent: such as the other end of a record might send
 //! now, and such as break one clause of the tests.
 
+use link::Noise;
 use peer::packet::{flags, kind, Fields, VERSION};
 use peer::settings::{Direction, Settings};
 use peer::sight::Sight;
 use peer::state::State;
 
 use crate::damage::repair;
-use crate::noise::Noise;
 use crate::packets::assemble;
 use crate::twin::Twin;
 

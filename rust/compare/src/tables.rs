@@ -1,8 +1,7 @@
 //! Settings by chance, for the tables of two nodes that talk to each other.
 
+use link::Noise;
 use peer::settings::{Direction, Settings};
-
-use crate::noise::Noise;
 
 /// The addresses of the two nodes.
 pub const ADDRESSES: [u8; 2] = [64, 65];

@@ -1,6 +1,7 @@
 //! A node kept twice, by the proved library and by the peer: each call is made
 //! of both, and all that can be seen afterwards is compared.
 
+use link::Noise;
 use peer::answer::Answer;
 use peer::settings::{storage, Direction, NodeSettings, Settings};
 use peer::state::State;
@@ -8,7 +9,6 @@ use proved::record::{Channel, Node};
 use proved::Said;
 
 use crate::call::{to_proved, Call, Lent};
-use crate::noise::Noise;
 use crate::records::{assert_same, reason_number, state_number};
 use crate::tally::Tally;
 

@@ -1,18 +1,19 @@
 //! Two nodes, each kept twice, and the links between them: one call at a time.
 
+use link::{Link, Noise};
 use peer::packet::kind;
 use peer::settings::{Direction, Settings};
 use peer::state::State;
 use proved::record::Node;
 
 use crate::call::Call;
-use crate::link::{Link, Weather};
-use crate::noise::Noise;
+use crate::damage;
 use crate::overwriting::overwrite_and_call;
 use crate::sizes::lend_wrongly;
 use crate::strays::{from_other_end, CLAUSES};
 use crate::tables::{two_tables, Size, ABSENT, ADDRESSES};
 use crate::tally::Tally;
+use crate::trouble::Trouble;
 use crate::twin::{Outcome, Twin};
 
 mod applications;
@@ -26,7 +27,7 @@ pub struct World {
     pub tally: Tally,
     twins: [Twin; 2],
     links: [Link; 2],
-    weather: Weather,
+    trouble: Trouble,
     noise: Noise,
     /// Any packet fits into so many octets.
     packet_room: usize,
@@ -36,7 +37,7 @@ pub struct World {
 
 impl World {
     /// A world from a seed.
-    pub fn new(seed: u64, size: Size, weather: Weather) -> World {
+    pub fn new(seed: u64, size: Size, trouble: Trouble) -> World {
         let mut noise = Noise::new(seed);
         let mut tally = Tally::default();
         let tables = two_tables(size, &mut noise);
@@ -57,8 +58,8 @@ impl World {
         World {
             tally,
             twins,
-            links: Default::default(),
-            weather,
+            links: [0, 1].map(|_| Link::new(damage::any)),
+            trouble,
             noise,
             packet_room,
             idle: [false; 2],
@@ -68,7 +69,7 @@ impl World {
     /// One call, or none, as chance has it.
     pub fn step(&mut self) {
         let node = self.noise.below(2);
-        if self.noise.percent(self.weather.stray) {
+        if self.noise.percent(self.trouble.stray) {
             return self.stray(node);
         }
         match self.noise.below(100) {
@@ -123,13 +124,15 @@ impl World {
     fn send(&mut self, node: usize, octets: &[u8]) {
         let strange = octets.first() == Some(&ABSENT) && !self.noise.one_in(16);
         if !octets.is_empty() && !strange {
-            self.links[1 - node].send(octets, self.weather, &mut self.noise);
+            let weather = self.trouble.weather;
+            self.links[1 - node].send(octets, None, weather, &mut self.noise);
         }
     }
 
     fn deliver(&mut self, node: usize) {
+        self.links[node].pass();
         match self.links[node].deliver() {
-            Some(packet) => self.arrive(node, &packet),
+            Some(flight) => self.arrive(node, &flight.octets),
             None if self.idle == [true; 2] => self.tick(1 - node),
             None if self.idle[1 - node] => self.sending_application(1 - node),
             None => self.hand_out(1 - node),
@@ -157,17 +160,17 @@ impl World {
         let twin = &self.twins[node];
         let index = self.noise.below(twin.table.len());
         let absent = twin.settings[index].remote == ABSENT;
-        if self.weather.breaking == 0 && !absent {
+        if self.trouble.breaking == 0 && !absent {
             return self.deliver(node);
         }
-        let packet = from_other_end(twin, index, self.weather.breaking, &mut self.noise);
+        let packet = from_other_end(twin, index, self.trouble.breaking, &mut self.noise);
         self.arrive(node, &packet);
     }
 
     fn stray_packet(&mut self, node: usize) -> Vec<u8> {
         let twin = &self.twins[node];
         let index = self.noise.below(twin.table.len());
-        from_other_end(twin, index, self.weather.breaking, &mut self.noise)
+        from_other_end(twin, index, self.trouble.breaking, &mut self.noise)
     }
 
     /// A packet that is good but for one clause.
@@ -187,7 +190,7 @@ impl World {
     /// Settings in the middle of a run: refused ones, or the same again.
     fn settings(&mut self, node: usize) {
         let mut settings = self.twins[node].settings.clone();
-        if self.weather.breaking == 0 || self.noise.percent(70) {
+        if self.trouble.breaking == 0 || self.noise.percent(70) {
             let last = settings.len() - 1;
             settings[last].most_segments = 0;
         }

@@ -2,10 +2,10 @@
 //! table and the longest unit. Every call is made of both libraries and compared.
 
 use compare::call::Call;
-use compare::noise::Noise;
 use compare::tables::ADDRESSES;
 use compare::tally::Tally;
 use compare::twin::Twin;
+use link::Noise;
 use peer::settings::{Direction, Settings};
 use peer::state::{Reason, State};
 use proved::record::Node;

@@ -4,13 +4,13 @@
 use std::thread;
 
 use compare::bounds::{check_bounds, ACCEPTED, COUNTS, REFUSED, STORAGE};
-use compare::link::Weather;
-use compare::noise::Noise;
 use compare::sizes::WRONGS;
 use compare::strays::CLAUSES;
 use compare::tables::Size;
 use compare::tally::Tally;
+use compare::trouble::Trouble;
 use compare::world::{World, CASES};
+use link::{Noise, Weather, FAIR};
 
 /// Calls compared when PEAT_CALLS does not ask for more.
 const LEAST_CALLS: u64 = 1_000_000;
@@ -20,46 +20,53 @@ const THREADS: u64 = 2;
 
 /// Loses and repeats little, and keeps the order: openings live long, and their
 /// numbers wrap.
-const STEADY: Weather = Weather {
-    loss: 4,
-    repeat: 4,
-    damage: 0,
-    lateness: 0,
+const STEADY: Trouble = Trouble {
+    weather: Weather {
+        loss: 4,
+        repeat: 4,
+        ..FAIR
+    },
     stray: 12,
     breaking: 0,
     closing: 1,
 };
 
 /// Reorders a little, and closes now and then.
-const UNSTEADY: Weather = Weather {
-    loss: 10,
-    repeat: 10,
-    damage: 5,
-    lateness: 3,
+const UNSTEADY: Trouble = Trouble {
+    weather: Weather {
+        loss: 10,
+        repeat: 10,
+        damage: 5,
+        lateness: 3,
+        ..FAIR
+    },
     stray: 15,
     breaking: 4,
     closing: 20,
 };
 
 /// Openings die of everything.
-const STORMY: Weather = Weather {
-    loss: 20,
-    repeat: 20,
-    damage: 10,
-    lateness: 8,
+const STORMY: Trouble = Trouble {
+    weather: Weather {
+        loss: 20,
+        repeat: 20,
+        damage: 10,
+        lateness: 8,
+        ..FAIR
+    },
     stray: 25,
     breaking: 25,
     closing: 60,
 };
 
 /// The plan of a run: how large, how bad, and how many calls.
-fn plan(seed: u64) -> (Size, Weather, u64) {
-    let weather = [STEADY, UNSTEADY, STORMY][seed as usize / 2 % 3];
-    let long = if weather.breaking == 0 { 6 } else { 1 };
+fn plan(seed: u64) -> (Size, Trouble, u64) {
+    let trouble = [STEADY, UNSTEADY, STORMY][seed as usize / 2 % 3];
+    let long = if trouble.breaking == 0 { 6 } else { 1 };
     match seed / 2 % 32 {
-        3 | 11 | 22 => (Size::Wide, weather, 1_500),
-        7 => (Size::Large, weather, 1_500 * long),
-        _ => (Size::Small, weather, 2_000 * long),
+        3 | 11 | 22 => (Size::Wide, trouble, 1_500),
+        7 => (Size::Large, trouble, 1_500 * long),
+        _ => (Size::Small, trouble, 2_000 * long),
     }
 }
 
@@ -80,9 +87,9 @@ impl Drop for Run {
 
 /// One run.
 fn run(seed: u64) -> Tally {
-    let (size, weather, calls) = plan(seed);
+    let (size, trouble, calls) = plan(seed);
     let mut run = Run { seed, calls: 0 };
-    let mut world = World::new(seed, size, weather);
+    let mut world = World::new(seed, size, trouble);
     while world.tally.calls < calls {
         world.step();
         run.calls = world.tally.calls;

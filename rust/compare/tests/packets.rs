@@ -3,8 +3,8 @@
 use compare::check;
 use compare::counts::{Counts, OF_READING, OF_WRITING};
 use compare::faults::{Faults, Reach};
-use compare::noise::Noise;
 use compare::packets::{any_packet, any_request, assemble, faulty_packet, faulty_request, Request};
+use link::Noise;
 use peer::packet::{flags, kind, Fields, VERSION};
 
 /// Packets read and packets written when PEAT_PACKETS does not ask for more.

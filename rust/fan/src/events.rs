@@ -18,7 +18,7 @@ const CHAMBER: [&str; 14] = [
 ];
 
 /// The event of this place, from 0 on. No two are equal.
-pub fn event(place: u64) -> String {
-    let name = CHAMBER[(place % CHAMBER.len() as u64) as usize];
+pub fn event(place: usize) -> String {
+    let name = CHAMBER[place % CHAMBER.len()];
     format!("{}: {name}", place + 1)
 }

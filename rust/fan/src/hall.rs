@@ -8,10 +8,10 @@ use crate::options::Options;
 use proved::{Answer, NodeTable, State};
 
 /// Ticks from one publication to the next.
-const PACE: u64 = 5;
+const PACE: usize = 5;
 
 /// Ticks from one time that the station looks for units to the next.
-const LOOKS: u64 = 4;
+const LOOKS: usize = 4;
 
 /// Room for any packet and any unit of these settings.
 const ROOM: usize = 64;
@@ -26,8 +26,8 @@ pub struct Hall<'a> {
     pub back: Link,
     pub seen: Seen,
     /// What happened, by the tick in which it did.
-    pub story: Vec<(u64, String)>,
-    pub now: u64,
+    pub story: Vec<(usize, String)>,
+    pub now: usize,
     pub silent: bool,
 }
 
@@ -53,7 +53,7 @@ impl Hall<'_> {
     }
 
     fn is_published(&self) -> bool {
-        self.seen.published.len() as u64 == self.options.events
+        self.seen.published.len() == self.options.events
     }
 
     fn tell(&mut self, what: String) {
@@ -72,14 +72,14 @@ impl Hall<'_> {
             }
             return;
         }
-        let event = event(self.seen.published.len() as u64);
+        let event = event(self.seen.published.len());
         let answer = self.host.transfer(0, event.as_bytes());
         self.tell(match answer {
             Answer::Refused(why) => format!("refused   {event} ({}, {why})", why.number()),
             _ => format!("published {event}"),
         });
         self.seen.published.push((event, answer));
-        if self.seen.published.len() as u64 == self.options.events.div_ceil(2) {
+        if self.seen.published.len() == self.options.events.div_ceil(2) {
             self.silent = true;
             self.tell("the cooling station falls silent: its answers go out no more".into());
         }

@@ -6,14 +6,13 @@ mod account;
 mod events;
 mod hall;
 mod link;
-mod noise;
 mod options;
 mod report;
 
 pub use options::{Options, USAGE};
 
+use crate::link::Link;
 use hall::Hall;
-use link::Link;
 use proved::record::{direction, PROTOCOL};
 use proved::{storage, Addresses, Channel, Limits, Node, NodeTable, Settings};
 

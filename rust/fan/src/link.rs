@@ -1,21 +1,21 @@
 //! A link in one direction that loses packets, repeats them, and lets later ones
 //! overtake them.
 
-use crate::noise::Noise;
 use crate::options::Options;
+use link::Noise;
 
 /// Ticks that a packet is on its way if nothing befalls it.
-const WAY: u64 = 1;
+const WAY: usize = 1;
 
 /// The most ticks that a packet is late. In these the window moves by far fewer
 /// than 256 - k segments, so that the lateness premise of document 01 is kept.
-const LATEST: u64 = 4;
+const LATEST: usize = 4;
 
 pub struct Link {
     noise: Noise,
     options: Options,
     /// When each arrives, in the order in which they were sent.
-    under_way: Vec<(u64, Vec<u8>)>,
+    under_way: Vec<(usize, Vec<u8>)>,
     pub counts: Counts,
 }
 
@@ -29,16 +29,16 @@ pub struct Counts {
 }
 
 impl Link {
-    pub fn new(seed: u64, options: Options) -> Self {
+    pub fn new(seed: usize, options: Options) -> Self {
         Link {
-            noise: Noise::new(seed),
+            noise: Noise::new(seed as u64),
             options,
             under_way: Vec::new(),
             counts: Counts::default(),
         }
     }
 
-    pub fn send(&mut self, now: u64, packet: &[u8]) {
+    pub fn send(&mut self, now: usize, packet: &[u8]) {
         self.counts.sent += 1;
         if self.noise.percent(self.options.loss) {
             self.counts.lost += 1;
@@ -55,12 +55,12 @@ impl Link {
         }
     }
 
-    fn lateness(&mut self) -> u64 {
+    fn lateness(&mut self) -> usize {
         1 + self.noise.below(LATEST)
     }
 
     /// What arrives by now, the earliest first.
-    pub fn arriving(&mut self, now: u64) -> Vec<Vec<u8>> {
+    pub fn arriving(&mut self, now: usize) -> Vec<Vec<u8>> {
         self.under_way.sort_by_key(|(when, _)| *when);
         let later = self.under_way.partition_point(|(when, _)| *when <= now);
         let due = self.under_way.drain(..later);

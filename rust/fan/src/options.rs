@@ -4,20 +4,20 @@ pub const USAGE: &str =
     "usage: fan [--seed N] [--loss PERCENT] [--repeat PERCENT] [--reorder PERCENT] [--events N]";
 
 /// The most events that are published in a run.
-const MOST_EVENTS: u64 = 10_000;
+const MOST_EVENTS: usize = 10_000;
 
 #[derive(Clone, Copy, Debug, PartialEq, Eq)]
 pub struct Options {
     /// Where the link's chance starts.
-    pub seed: u64,
+    pub seed: usize,
     /// Packets lost, of a hundred.
-    pub loss: u64,
+    pub loss: usize,
     /// Packets that come a second time, of a hundred.
-    pub repeat: u64,
+    pub repeat: usize,
     /// Packets overtaken by later ones, of a hundred.
-    pub reorder: u64,
+    pub reorder: usize,
     /// Events to publish.
-    pub events: u64,
+    pub events: usize,
 }
 
 impl Default for Options {
@@ -39,7 +39,7 @@ impl Options {
         let mut words = words.into_iter();
         while let Some(name) = words.next() {
             let (place, most) = match name.as_str() {
-                "--seed" => (&mut options.seed, u64::MAX),
+                "--seed" => (&mut options.seed, usize::MAX),
                 "--loss" => (&mut options.loss, 100),
                 "--repeat" => (&mut options.repeat, 100),
                 "--reorder" => (&mut options.reorder, 100),
@@ -47,7 +47,7 @@ impl Options {
                 _ => return Err(format!("unknown: {name}")),
             };
             let value = words.next().ok_or(format!("{name} has no number"))?;
-            let number: u64 = value.parse().map_err(|_| format!("{value}: no number"))?;
+            let number: usize = value.parse().map_err(|_| format!("{value}: no number"))?;
             if number > most {
                 return Err(format!("{name} is at most {most}"));
             }

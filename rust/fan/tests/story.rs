@@ -13,7 +13,7 @@ fn the_default_story_is_the_one_in_the_folder() {
 fn every_event_is_accounted_for_whatever_the_link_does() {
     let mut fates = String::new();
     for seed in 0..200 {
-        let part = |times: u64, most: u64| seed * times % most;
+        let part = |times: usize, most: usize| seed * times % most;
         let options = Options {
             seed,
             loss: part(7, 60),

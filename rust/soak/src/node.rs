@@ -1,7 +1,7 @@
 //! A node of the proved library with its storage, which can be copied: what the
 //! copy would give away tells what the node holds.
 
-use compare::noise::Noise;
+use link::Noise;
 use proved::record::{state, Channel, Node as Own, Settings};
 use proved::{calls, Fields, Said};
 

@@ -1,10 +1,9 @@
 //! Two nodes, the links between them, and the accounts of their channels.
 
-use compare::noise::Noise;
+use link::{one_bit, Flight, Link, Noise, Place, Weather};
 use proved::record::{state, Limits};
 
-use crate::account::{Account, Place};
-use crate::link::{Flight, Link, Weather};
+use crate::account::Account;
 use crate::node::Node;
 
 mod applications;
@@ -53,7 +52,7 @@ impl World {
             premise: true,
             accounts: accounts_of(channels),
             nodes,
-            links: Default::default(),
+            links: [0, 1].map(|_| Link::new(one_bit)),
             noise,
         }
     }
@@ -118,7 +117,7 @@ impl World {
         };
         let channel = usize::from(u16::from_be_bytes([packet[5], packet[6]]));
         let is_data = packet[2] & 0b111 == DATA;
-        let segment = is_data.then(|| self.accounts[channel].segment_sent(packet[7]));
+        let segment = is_data.then(|| self.accounts[channel].units.segment_sent(packet[7]));
         self.links[1 - node].send(&packet, segment, self.weather, &mut self.noise);
     }
 
@@ -148,10 +147,9 @@ impl World {
             assert!([1, 2].contains(&said.number), "{said:?}");
             self.counts.packets[1] += 1;
         } else if said.number == 0 && end == 1 && flight.segment.is_some() {
-            let present = account.openings.len() - 1;
-            assert_eq!(*account.tied.get_or_insert(present), present);
+            account.units.tie();
         } else if said.confirmed > 0 {
-            account.opening().confirmed += said.confirmed;
+            account.units.opening().confirmed += said.confirmed;
             account.check_confirmed(&self.nodes);
             self.counts.units[1] += said.confirmed as u64;
         }

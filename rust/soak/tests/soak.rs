@@ -2,29 +2,19 @@
 
 use std::thread;
 
+use link::{Weather, FAIR};
 use proved::record::{state, Limits};
-use soak::link::Weather;
 use soak::world::{Counts, World};
 
 /// Runs of each kind when PEAT_SEEDS does not ask for more.
 const LEAST_SEEDS: u64 = 2;
-
-/// Nothing happens to a packet.
-const FAIR: Weather = Weather {
-    loss: 0,
-    repeat: 0,
-    damage: 0,
-    lateness: 0,
-    forgotten: 0,
-};
 
 /// Loses and repeats, but keeps the order: openings live long.
 const ORDERLY: Weather = Weather {
     loss: 8,
     repeat: 8,
     damage: 2,
-    lateness: 0,
-    forgotten: 0,
+    ..FAIR
 };
 
 /// Reorders as well, and brings back what was long forgotten.
@@ -88,13 +78,10 @@ fn run(channels: &[(usize, Limits)], weather: Weather, rounds: usize, seed: u64)
     }
     world.check();
     for account in &world.accounts {
-        let opening = account.openings.last().expect("an opening");
         assert_eq!(world.state(account.host), state::OPEN);
         assert_eq!(world.state(account.subscriber), state::OPEN);
-        assert_eq!(opening.confirmed, opening.accepted.len());
-        let taken = account.tied.map_or(0, |_| account.taken);
-        assert_eq!(taken, opening.accepted.len());
-        world.counts.wrapped += u64::from(opening.last_sent > 255);
+        account.units.check_settled();
+        world.counts.wrapped += u64::from(account.has_wrapped());
     }
     world.counts
 }

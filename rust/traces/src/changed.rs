@@ -3,7 +3,8 @@
 // All are of one type, also those that leave the length as it is.
 #![allow(clippy::ptr_arg)]
 
-use crate::noise::Noise;
+use link::Noise;
+
 use crate::packet::crc;
 
 /// Where the seeds of these inputs start.

@@ -11,7 +11,6 @@
 #![warn(missing_docs)]
 
 pub mod changed;
-pub mod noise;
 pub mod packet;
 pub mod program;
 pub mod random;

@@ -1,6 +1,7 @@
 //! Inputs made by chance: octets, records, and calls that make sense.
 
-use crate::noise::Noise;
+use link::Noise;
+
 use crate::packet::{Packet, CLOSE, CONTROL_ACK, DATA, DATA_ACK, NUMBERS, OPEN};
 use crate::record::Record;
 

@@ -1,7 +1,8 @@
 //! The proved library.
 
-use peer::settings::{storage, Direction, Settings};
-use proved::record::{direction, Addresses, Channel, Limits};
+use compare::call::to_proved;
+use peer::settings::{storage, Settings};
+use proved::record::Channel;
 
 use super::{Given, Side};
 
@@ -88,27 +89,5 @@ impl Side for Ours {
 
     fn tick(&mut self) -> Given {
         proved::calls::tick(&mut self.table, &self.memory, &self.lengths).into()
-    }
-}
-
-fn to_proved(settings: &Settings) -> proved::record::Settings {
-    proved::record::Settings {
-        addresses: Addresses {
-            channel: settings.channel,
-            remote: settings.remote,
-            direction: match settings.direction {
-                Direction::Sending => direction::SENDS,
-                Direction::Receiving => direction::RECEIVES,
-            },
-        },
-        limits: Limits {
-            window: settings.window as usize,
-            slots: settings.slots as usize,
-            payload: settings.most_payload as usize,
-            segments: settings.most_segments as usize,
-            timeout: settings.timeout as u16,
-            closing: settings.close_timeout as u16,
-            retries: settings.retries as u16,
-        },
     }
 }

@@ -17,7 +17,7 @@ impl World {
         let Some(index) = self.record(node, Direction::Sending) else {
             return self.receiving_application(node);
         };
-        let closes = self.noise.below(1_000) < self.weather.closing;
+        let closes = self.noise.below(1_000) < self.trouble.closing;
         let held = self.twins[node].table[index].window.ahead > 0;
         match self.twins[node].state(index) {
             State::Closed if held == self.noise.one_in(8) => {
@@ -123,7 +123,7 @@ impl World {
         let call = match self.noise.below(8) {
             0 => Call::Open(index),
             // A Close of one that is there ends its opening.
-            1 if self.weather.breaking == 0 => Call::Close(beyond),
+            1 if self.trouble.breaking == 0 => Call::Close(beyond),
             1 => Call::Close(index),
             2 | 3 => Call::Transfer(index, &unit),
             4 | 5 => Call::Take(index),

@@ -1,11 +1,10 @@
 //! Calls that are checked for what document 01 says of all calls.
 
+use link::Noise;
 use peer::answer::Answer;
 use peer::node::Node;
 use peer::packet::{flags, write, Fields, VERSION};
 use peer::settings::{storage, NodeSettings, Settings};
-
-use crate::noise::Noise;
 
 /// The protocol ID of all nodes here.
 pub const PROTOCOL: u8 = 238;

@@ -2,8 +2,6 @@
 
 mod calls;
 mod exchanges;
-mod link;
-mod noise;
 mod pair;
 mod random_calls;
 mod replaying;

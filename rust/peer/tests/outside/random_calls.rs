@@ -2,6 +2,7 @@
 
 use std::collections::BTreeSet;
 
+use link::Noise;
 use peer::crc::crc;
 use peer::node::Node;
 use peer::packet::{flags, kind};
@@ -9,24 +10,23 @@ use peer::settings::{Direction, Settings};
 use peer::state::{Reason, State};
 
 use crate::calls::{checked, data, new_node, ADDRESSES};
-use crate::noise::Noise;
 
 /// A table of four channels with small windows.
 fn table(noise: &mut Noise) -> Vec<Settings> {
     let settings = |noise: &mut Noise, channel: u16, direction: Direction| {
         let window = noise.one_of(&[1, 2, 4, 8]);
-        let slots = window + noise.under(6) as u32;
+        let slots = window + noise.below(6) as u32;
         Settings {
             direction,
             channel,
             remote: ADDRESSES[1],
             window,
             slots,
-            most_payload: 1 + noise.under(5) as u32,
-            most_segments: 1 + noise.under(slots as usize) as u32,
-            timeout: 1 + noise.under(4) as u32,
-            close_timeout: 1 + noise.under(4) as u32,
-            retries: noise.under(3) as u32,
+            most_payload: 1 + noise.below(5) as u32,
+            most_segments: 1 + noise.below(slots as usize) as u32,
+            timeout: 1 + noise.below(4) as u32,
+            close_timeout: 1 + noise.below(4) as u32,
+            retries: noise.below(3) as u32,
         }
     };
     let ends = [
@@ -66,18 +66,18 @@ impl Player {
         let noise = &mut self.noise;
         let kinds = [DATA, DATA, DATA, DATA, DATA_ACK, OPEN, CLOSE, CONTROL_ACK];
         let kind = noise.one_of(&kinds);
-        let channel = noise.under(2);
-        let number = match noise.under(12) {
+        let channel = noise.below(2);
+        let number = match noise.below(12) {
             0 => noise.octet(),
             1 | 2 => 0,
-            3 | 4 => noise.under(9) as u8,
-            _ => self.accepted[channel].wrapping_add(noise.under(3) as u8),
+            3 | 4 => noise.below(9) as u8,
+            _ => self.accepted[channel].wrapping_add(noise.below(3) as u8),
         };
         let channel = channel as u16;
         let mut packet = if kind == DATA {
-            let length = noise.under(6);
+            let length = noise.below(6);
             let all = [flags::WHOLE, flags::FIRST, flags::LAST, flags::CONTINUATION];
-            let flags = all[noise.under(4).min(noise.under(4)).min(noise.under(4))];
+            let flags = all[noise.below(4).min(noise.below(4)).min(noise.below(4))];
             data(0, channel, kind, number, flags, &noise.octets(length))
         } else {
             let named = kind == DATA_ACK || noise.percent(3);
@@ -92,11 +92,11 @@ impl Player {
 
     /// One random call; gives its answer number.
     fn call(&mut self) -> u8 {
-        let index = self.noise.under(4) + usize::from(self.noise.percent(1));
+        let index = self.noise.below(4) + usize::from(self.noise.percent(1));
         let small = self.noise.percent(5);
-        let buffer = if small { self.noise.under(14) } else { 128 };
-        let choice = self.noise.under(20);
-        let length = self.noise.under(40).min(self.noise.under(40));
+        let buffer = if small { self.noise.below(14) } else { 128 };
+        let choice = self.noise.below(20);
+        let length = self.noise.below(40).min(self.noise.below(40));
         let octets = match choice {
             0..=9 => self.packet(),
             _ => self.noise.octets(length),
@@ -138,7 +138,7 @@ impl Player {
 /// Another octet somewhere, and mostly a trailer that fits it.
 fn spoil(packet: &mut [u8], noise: &mut Noise) {
     let body = packet.len() - 2;
-    packet[noise.under(body)] = noise.octet();
+    packet[noise.below(body)] = noise.octet();
     if noise.percent(80) {
         let trailer = crc(&packet[..body]).to_be_bytes();
         packet[body..].copy_from_slice(&trailer);
@@ -155,7 +155,7 @@ fn random_calls() {
         for _ in 0..3_000 {
             seen.insert(player.call());
             player.check();
-            let index = player.noise.under(4);
+            let index = player.noise.below(4);
             let reason = player.node.reason(index).unwrap();
             if !reasons.contains(&reason) {
                 reasons.push(reason);

@@ -3,9 +3,8 @@
 use std::io::Write;
 use std::process::{Command, Stdio};
 
+use link::Noise;
 use peer::replay::replay;
-
-use crate::noise::Noise;
 
 /// What the program prints for a trace.
 fn printed(trace: &[u8]) -> String {
@@ -34,14 +33,14 @@ fn the_program_prints_the_example() {
 /// A trace of small random records, the last one cut off at times.
 fn random_trace(noise: &mut Noise) -> Vec<u8> {
     let mut trace = Vec::new();
-    for _ in 0..noise.under(40) {
-        let length = noise.under(5) as u8;
-        let kind = noise.under(10) as u8;
+    for _ in 0..noise.below(40) {
+        let length = noise.below(5) as u8;
+        let kind = noise.below(10) as u8;
         trace.extend([length, 0, kind, 0]);
-        let body = (0..length).map(|_| noise.under(3) as u8);
+        let body = (0..length).map(|_| noise.below(3) as u8);
         trace.extend(body.collect::<Vec<u8>>());
     }
-    let kept = trace.len() - noise.under(6).min(trace.len());
+    let kept = trace.len() - noise.below(6).min(trace.len());
     trace.truncate(kept);
     trace
 }

@@ -5,15 +5,15 @@ use std::collections::BTreeSet;
 use peer::settings::{Direction, Settings};
 use peer::state::State;
 
-use crate::link::{Weather, FAIR};
 use crate::world::World;
+use link::{Weather, FAIR};
 
 /// Loses and repeats, but keeps the order: openings live long.
 const ORDERLY: Weather = Weather {
     loss: 10,
     repeat: 10,
     damage: 3,
-    lateness: 0,
+    ..FAIR
 };
 
 /// Reorders a little as well.
@@ -28,6 +28,7 @@ const STORMY: Weather = Weather {
     repeat: 25,
     damage: 5,
     lateness: 12,
+    ..FAIR
 };
 
 /// Settings with these window, slots, P and M.
@@ -47,7 +48,7 @@ fn settings(channel: u16, window: u32, slots: u32, payload: u32, segments: u32) 
 }
 
 /// Runs a world, then lets it settle in fair weather; gives it back with the
-/// most segments that an opening had. A few units are sent while it settles:
+/// most segments that an opening sent. A few units are sent while it settles:
 /// without them an idle transmit end would not notice that the other end has
 /// closed.
 fn run(channels: &[(usize, Settings)], weather: Weather, rounds: usize, seed: u64) -> (World, u64) {
@@ -64,8 +65,8 @@ fn run(channels: &[(usize, Settings)], weather: Weather, rounds: usize, seed: u6
         (0..1_000).for_each(|_| world.round());
     }
     world.check();
-    let openings = world.pairs.iter().flat_map(|pair| &pair.openings);
-    let segments = openings.map(|opening| opening.segments).max();
+    let openings = world.pairs.iter().flat_map(|pair| &pair.units.openings);
+    let segments = openings.map(|opening| opening.last_sent).max();
     let segments = segments.unwrap_or(0);
     (world, segments)
 }
@@ -76,10 +77,7 @@ fn check_settled(world: &World) {
     for pair in &world.pairs {
         assert_eq!(world.state(pair.sender), State::Open);
         assert_eq!(world.state(pair.receiver), State::Open);
-        let opening = pair.openings.last().unwrap();
-        assert_eq!(opening.confirmed, opening.accepted.len());
-        let taken = pair.tied.map_or(0, |_| pair.taken);
-        assert_eq!(taken, opening.accepted.len());
+        pair.units.check_settled();
     }
 }
 

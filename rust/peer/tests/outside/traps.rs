@@ -1,12 +1,12 @@
 //! "Traps of this trade", between two nodes.
 
+use link::Noise;
 use peer::node::Node;
 use peer::packet::kind;
 use peer::settings::{Direction, Settings};
 use peer::state::State;
 
 use crate::calls::{new_node, reclaim_all, take_all, ADDRESSES};
-use crate::noise::Noise;
 
 /// Settings of the channel of all traps.
 const SENDING: Settings = Settings {

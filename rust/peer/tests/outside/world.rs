@@ -2,6 +2,7 @@
 
 use std::collections::BTreeSet;
 
+use link::{one_bit, Link, Noise, Place, Units, Weather};
 use peer::answer::Answer;
 use peer::node::Node;
 use peer::packet::kind;
@@ -9,9 +10,7 @@ use peer::settings::{Direction, Settings};
 use peer::state::Reason;
 
 use crate::calls::{checked, new_node, ADDRESSES};
-use crate::link::{Link, Weather};
-use crate::noise::Noise;
-use crate::pair::{Pair, Place};
+use crate::pair::Pair;
 
 mod applications;
 mod shadow;
@@ -53,7 +52,7 @@ impl World {
             load: BUSY,
             nodes,
             shadows,
-            links: Default::default(),
+            links: [0, 1].map(|_| Link::new(one_bit)),
             noise,
         }
     }
@@ -122,7 +121,7 @@ impl World {
         let channel = u16::from_be_bytes([packet[5], packet[6]]);
         let pair = &mut self.pairs[usize::from(channel)];
         let is_data = packet[2] & 0b111 == kind::DATA;
-        let segment = is_data.then(|| pair.segment_sent(packet[7]));
+        let segment = is_data.then(|| pair.units.segment_sent(packet[7]));
         if let Some(segment) = segment {
             let filed = self.shadows[node].read(pair.sender.index, segment);
             assert_eq!(packet[10..packet.len() - 2], *filed);
@@ -145,7 +144,7 @@ impl World {
         } else {
             let pair = &mut self.pairs[usize::from(flight.channel)];
             if answer.confirmed > 0 {
-                pair.opening().confirmed += answer.confirmed;
+                pair.units.opening().confirmed += answer.confirmed;
             }
             let reason = self.nodes[node].reason(pair.receiver.index);
             assert!(pair.receiver.node != node || reason != Some(Reason::Flags));
@@ -156,19 +155,20 @@ impl World {
         }
     }
 
-    /// A unit lies in the slots of its segments until it is given away.
-    fn check_slots(&self, place: Place, first: u64, unit: &[u8], count: usize) {
-        let segments = first..first + count as u64;
-        let shadow = &self.shadows[place.node];
-        let filed = segments.flat_map(|segment| shadow.read(place.index, segment));
+    /// A unit, here by its opening and its place there, lies in the slots of its
+    /// segments at an end until it is given away.
+    fn check_slots(&self, pair: &Pair, end: Place, of: (usize, usize), unit: &[u8]) {
+        let first = pair.first_segment(of.0, of.1);
+        let segments = first..first + pair.count(unit) as u64;
+        let shadow = &self.shadows[end.node];
+        let filed = segments.flat_map(|segment| shadow.read(end.index, segment));
         assert!(filed.eq(unit));
     }
 
     /// A receive end has accepted a segment of the present opening.
     fn accepted(&mut self, pair: usize, segment: u64, payload: &[u8]) {
         let pair = &mut self.pairs[pair];
-        let present = pair.openings.len() - 1;
-        assert_eq!(*pair.tied.get_or_insert(present), present);
+        pair.units.tie();
         let Place { node, index } = pair.receiver;
         self.shadows[node].file(index, segment, payload);
     }
@@ -206,9 +206,7 @@ fn pairs_of(channels: &[(usize, Settings)]) -> Vec<Pair> {
         settings,
         sender: place(sender, channel),
         receiver: place(1 - sender, channel),
-        openings: Vec::new(),
-        tied: None,
-        taken: 0,
+        units: Units::default(),
     };
     channels.iter().enumerate().map(pair).collect()
 }

@@ -1,7 +1,6 @@
 //! What the applications at both ends of a channel do.
 
 use super::*;
-use crate::account::Opening;
 
 impl World {
     /// A round of the host, which publishes.
@@ -27,7 +26,7 @@ impl World {
         let place = self.accounts[channel].subscriber;
         if self.noise.percent(40) {
             if let Some(unit) = self.nodes[place.node].take(place.index) {
-                self.accounts[channel].take(&unit);
+                self.accounts[channel].units.take(&unit);
                 self.counts.units[3] += 1;
             }
         }
@@ -49,7 +48,7 @@ impl World {
         let said = self.nodes[node].transfer(index, &unit);
         assert!([0, 6, 7].contains(&said.number), "{said:?}");
         if said.number == 0 {
-            account.opening().accepted.push(unit);
+            account.units.opening().accepted.push(unit);
             self.counts.units[0] += 1;
         }
     }
@@ -57,7 +56,7 @@ impl World {
     fn reclaim(&mut self, channel: usize) {
         let Place { node, index } = self.accounts[channel].host;
         if let Some(unit) = self.nodes[node].reclaim(index) {
-            self.accounts[channel].reclaim(&unit);
+            self.accounts[channel].units.reclaim(&unit);
             self.counts.units[2] += 1;
         }
     }
@@ -67,17 +66,11 @@ impl World {
         let account = &mut self.accounts[channel];
         let Place { node, index } = account.host;
         let said = self.nodes[node].open(index);
-        let held = |opening: &Opening| {
-            let done = opening.confirmed + opening.reclaimed;
-            done < opening.accepted.len()
-        };
-        let left = account.openings.last().is_some_and(held);
+        let left = !account.units.held().is_empty();
         assert_eq!(said.number, if left { 10 } else { 0 });
         if !left {
-            let last = account.openings.last();
-            let wrapped = last.is_some_and(|opening| opening.last_sent > 255);
-            self.counts.wrapped += u64::from(wrapped);
-            account.openings.push(Opening::default());
+            self.counts.wrapped += u64::from(account.has_wrapped());
+            account.units.open_sender();
             account.starts[0] = 1;
             self.counts.openings += 1;
             self.flush(channel);
@@ -91,10 +84,7 @@ impl World {
         let said = self.nodes[node].open(index);
         assert!([0, 10].contains(&said.number), "{said:?}");
         if said.number == 0 {
-            if let Some(tied) = account.tied.take() {
-                account.openings[tied].delivered = account.taken;
-            }
-            account.taken = 0;
+            account.units.open_receiver();
             account.starts[1] = 1;
             self.flush(channel);
         }

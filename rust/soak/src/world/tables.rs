@@ -1,9 +1,10 @@
 //! The tables of both nodes, and the accounts of their channels.
 
+use link::{Place, Units};
 use proved::record::{direction, Addresses, Limits, Settings};
 
 use super::ADDRESSES;
-use crate::account::{Account, Place};
+use crate::account::Account;
 
 /// The table of a node. In the other's it is the other way round; a channel's
 /// number is its place in the list.
@@ -41,9 +42,7 @@ pub(super) fn accounts_of(channels: &[(usize, Limits)]) -> Vec<Account> {
         channel: channel as u16,
         host: place(sender, channel),
         subscriber: place(1 - sender, channel),
-        openings: Vec::new(),
-        tied: None,
-        taken: 0,
+        units: Units::default(),
         starts: [1; 2],
     };
     channels.iter().enumerate().map(account).collect()

@@ -1,9 +1,9 @@
 //! What the applications at both ends of a channel do.
 
+use link::Place;
 use peer::state::State;
 
 use super::{World, BUSY};
-use crate::pair::{Opening, Place};
 
 impl World {
     /// A round of the sending application.
@@ -15,7 +15,7 @@ impl World {
             State::Enabled if self.load == BUSY && self.noise.percent(1) => {
                 self.call(node, |node, _| node.close(index));
             }
-            State::Open if self.load == BUSY && self.noise.under(10_000) == 0 => {
+            State::Open if self.load == BUSY && self.noise.below(10_000) == 0 => {
                 let (answer, _) = self.call(node, |node, _| node.close(index));
                 assert_eq!(answer.number, 0);
             }
@@ -40,20 +40,19 @@ impl World {
         let settings = self.pairs[pair].settings;
         let most_payload = settings.most_payload as usize;
         let longest = most_payload * settings.most_segments as usize;
-        let length = self.noise.under(longest + 2);
+        let length = self.noise.below(longest + 2);
         let unit = self.noise.octets(length);
         let expected = self.answer_to(pair, &unit);
         let (answer, _) = self.filing_call(node, |node, _| node.transfer(index, &unit));
         assert_eq!(answer.number, expected);
         if expected == 0 {
-            let opening = self.pairs[pair].opening();
+            let first = self.pairs[pair].next_segment();
             let pieces = unit.chunks(most_payload);
             let empty = unit.is_empty().then_some(&[][..]);
-            for piece in pieces.chain(empty) {
-                opening.segments += 1;
-                self.shadows[node].file(index, opening.segments, piece);
+            for (segment, piece) in (first..).zip(pieces.chain(empty)) {
+                self.shadows[node].file(index, segment, piece);
             }
-            opening.accepted.push(unit);
+            self.pairs[pair].units.opening().accepted.push(unit);
         }
         self.shadows[node].check(&self.nodes[node]);
     }
@@ -61,7 +60,7 @@ impl World {
     /// The answer that the transfer of a unit must give in OPEN.
     fn answer_to(&self, pair: usize, unit: &[u8]) -> u8 {
         let pair = &self.pairs[pair];
-        let opening = pair.openings.last().expect("opened before");
+        let opening = pair.units.openings.last().expect("opened before");
         let held = opening.accepted[opening.confirmed..].iter();
         let held: usize = held.map(|unit| pair.count(unit)).sum();
         match pair.count(unit) {
@@ -80,12 +79,9 @@ impl World {
             return;
         }
         assert_eq!(answer.number, 0);
-        let at = &self.pairs[pair];
-        let opening = at.tied.expect("only Data makes units");
-        assert_eq!(unit, at.openings[opening].accepted[at.taken]);
-        let first = at.first_segment(opening, at.taken);
-        self.check_slots(at.receiver, first, &unit, at.count(&unit));
-        self.pairs[pair].taken += 1;
+        let of = self.pairs[pair].units.take(&unit);
+        let pair = &self.pairs[pair];
+        self.check_slots(pair, pair.receiver, of, &unit);
     }
 
     /// Reclaims a unit, if there is one: the oldest that was not confirmed.
@@ -96,27 +92,20 @@ impl World {
             return;
         }
         assert_eq!(answer.number, 0);
-        let at = &self.pairs[pair];
-        let last = at.openings.len() - 1;
-        let opening = &at.openings[last];
-        let place = opening.confirmed + opening.reclaimed;
-        assert_eq!(unit, opening.accepted[place]);
-        let first = at.first_segment(last, place);
-        self.check_slots(at.sender, first, &unit, at.count(&unit));
-        self.pairs[pair].opening().reclaimed += 1;
+        let of = self.pairs[pair].units.reclaim(&unit);
+        let pair = &self.pairs[pair];
+        self.check_slots(pair, pair.sender, of, &unit);
     }
 
     /// Opens the transmit end, unless units are unreclaimed.
     fn open_sender(&mut self, pair: usize) {
         let Place { node, index } = self.pairs[pair].sender;
         let (answer, _) = self.call(node, |node, _| node.open(index));
-        let left = self.pairs[pair]
-            .openings
-            .last()
-            .is_some_and(|opening| opening.confirmed + opening.reclaimed < opening.accepted.len());
+        let units = &mut self.pairs[pair].units;
+        let left = !units.held().is_empty();
         assert_eq!(answer.number, if left { 10 } else { 0 });
         if !left {
-            self.pairs[pair].openings.push(Opening::default());
+            units.open_sender();
             self.flush(pair);
         }
     }
@@ -129,11 +118,7 @@ impl World {
             return;
         }
         assert_eq!(answer.number, 0);
-        let pair_at = &mut self.pairs[pair];
-        if let Some(tied) = pair_at.tied.take() {
-            pair_at.openings[tied].delivered = pair_at.taken;
-        }
-        pair_at.taken = 0;
+        self.pairs[pair].units.open_receiver();
         self.flush(pair);
     }
 
