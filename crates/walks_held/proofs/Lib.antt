@@ -1,4 +1,5 @@
 pub mod Local
 pub mod Held
+pub mod Holding
 pub mod HeldCall
 pub mod HeldSweeping

@@ -1,3 +1,4 @@
+pub mod Lending
 pub mod LentCall
 pub mod LentOrder
 pub mod LentReading
