@@ -4,3 +4,5 @@ pub mod Served
 pub mod Walk
 pub mod Lend
 pub mod Guard
+pub mod ByValue
+pub mod Surveyed

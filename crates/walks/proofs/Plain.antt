@@ -1,5 +1,6 @@
 -- Plain types as the walks take them.
 --     Kind         a plain type: its row, its one MIR type, and what the steps ask of it. `of` is the type itself
+--     Letters      of a kind, its type and what the steps ask of it: a walk opens them under letters of its own
 --     uint, truth  the kinds of an unsigned number and of a bool
 --     Has K L      values of K are MIR structs, and one of their fields is an L: which field, and what it holds
 --     has-at       an operand: that field of the local at entry n of the context
@@ -30,6 +31,13 @@ pub record Kind : Type 2 where
 
 abbrev pub of : Kind → RattleType
 of K = plainly (K .row) (K .ty)
+
+pub record Letters : Type 2 where
+  pub type : RattleType
+  pub elem : Elem type
+
+abbrev pub letters : Kind → Letters
+letters K = record { type = of K; elem = K .elem }
 
 abbrev pub uint : Width → Kind
 uint w = record { row = UInt w; ty = tyInt w; elem = uint-elem w }

@@ -18,52 +18,23 @@
 --     order-meets   its arguments: the types (`Served`), the kinds of P and Y, what is said (`Says`; `Serving.antt` makes it of equations), the
 --                   names of begin, survey, decide and the step; then the model, the tables, and that each of them meets its contract
 -- Assumes nothing.
-use Rattle.walks.proofs.Walk.{_≡_, refl, Bool, List, [], _∷_, ℕ, _*_, _^_, _<_, _≤_, arith, ltb→lt, nltb→le, length, getD, set, length-set, URA, fullShare, named, imm, mut, w8, w16, w64, Ty, tyPtr, tyInt, tyBool, tyRef, Val, vint}
-use Rattle.walks.proofs.Walk.{SProp, ent, emp, via, fst∗, Lft, GName, Share, Fml, ftrue, flft, Heap, WpFn, Tables, Atoms}
-use Rattle.walks.proofs.Walk.{Given, ‵, raw, _⊛_, ⋆, _$_, _∵_, !, qed, by, use0, use1, move, keep, drop, group, split, join, fsplit, fjoin, feqL, suffices, frame, done, agg, whole, sub, look-in, look, look-raw, store-raw, init, stop, hop, fld, from, load, lit, addr, of-opd, bin, and-then, no-more, assigns, first, branches, land, returns, enter, alloc1, alloc0, params1, pass1, pass0, free0}
-use Rattle.walks.proofs.Walk.{fmOf, owns, Is, pointee, uint-makes, u8, u16, usize, sliceVal, sliceTy, MutSlice, ShrSlice, Room, slice-vals, mut-slice-tells, shr-slice-tells, finally, plain, shrSliceOf, nothing, owned, heard, onEntry, Lasts, lasts, tripleOf, Contract, Triple, says, Stays, stay-dropped, gave-slice, walkOf, goes-dropped, goes-gave-slice, ends-at, yes}
-use base.Logic.{sep, id⊢}
-use ghost.Atoms.{sem}
-use package.mir.Syntax.{Fn, Name, Body, erased, local, valueLocal, place, field, deref, copy, int, rvOpd, op2, lt, mul, offset, unsigned, addrOf, aggregate, seq, assign, cond, call, return}
-use native.Mathlib.Nat.{mul-le-mul-right}
-use types.Kit.{use2}
-use contract.Monad.{fact}
-use denote.RattleType.{RattleType}
-use denote.Memory.{mem}
-use denote.Ref.{now}
-use denote.Signature.{mutSliceOf}
-use denote.Slice.{shr-slice-copy}
-use denote.Triple.Clauses.{Clauses, Ended, closing}
-use denote.Triple.Spec.{Meets}
-use Rattle.walks.proofs.Tab.{Elem, xs-at, loc, fld-at, sets, resets, elem-ptr, opens-at, backs-at, closes-at, gives-up, frees0, frees1, assigns-out, calls-plain, meets-by}
-use Rattle.walks.proofs.Lend.{shares-on, unshares}
-use Rattle.walks.proofs.Plain.{Kind, of, has-at}
-use Rattle.walks.proofs.Served.{Served, need, needed}
+use Rattle.walks.proofs.Walk.{_≡_, refl, Bool, List, [], _∷_, ℕ, _*_, _^_, _<_, _≤_, ltb→lt, nltb→le, length, getD, set, length-set, URA, named, imm, mut, w8, w16, w64, Ty, tyPtr, tyInt, tyBool, tyRef, Val}
+use Rattle.walks.proofs.Walk.{SProp, ent, emp, via, fst∗, Lft, GName, Share, ftrue, flft, Heap, WpFn, Tables, Atoms}
+use Rattle.walks.proofs.Walk.{Given, ‵, _⊛_, ⋆, _$_, _∵_, !, qed, by, move, keep, drop, split, join, fsplit, fjoin, suffices, frame, done, agg, whole, sub, look-in, look, look-raw, store-raw, init, stop, hop, fld, from, load, lit, addr, of-opd, bin, and-then, no-more, assigns, first, branches, land, returns, enter, alloc1, alloc0, params1, pass1, pass0, free0}
+use Rattle.walks.proofs.Walk.{fmOf, owns, Is, pointee, u8, u16, sliceVal, sliceTy, MutSlice, ShrSlice, Room, slice-vals, mut-slice-tells, shr-slice-tells, finally, plain, shrSliceOf, nothing, owned, onEntry, Triple, says, Stays, stay-dropped, gave-slice, walkOf, goes-dropped, goes-gave-slice, ends-at, yes}
+use Rattle.walks.proofs.Walk.{Fn, Name, Body, erased, local, valueLocal, place, field, deref, copy, int, rvOpd, op2, lt, mul, offset, unsigned, addrOf, aggregate, seq, assign, cond, call, return}
+use Rattle.walks.proofs.Walk.{fact, RattleType, mem, now, mutSliceOf, Clauses, Ended, closing, Meets}
+use Rattle.walks.proofs.Tab.{xs-at, loc, fld-at, sets, resets, elem-ptr, opens-at, backs-at, closes-at, gives-up, frees0, frees1, assigns-out, meets-by, in-room}
+use Rattle.walks.proofs.Plain.{Kind, of, has-at, Letters, letters}
+use Rattle.walks.proofs.Served.{Served}
+use Rattle.walks.proofs.ByValue.{ByValue, always, Takes, calls-by}
+use Rattle.walks.proofs.Surveyed.{Survey, deciding, surveys-one}
 
 module _ (K : Served) where
-  abbrev C : RattleType
-  C = of (K .channel)
-
-  abbrev N : RattleType
-  N = of (K .answer)
-
-  abbrev D : RattleType
-  D = of (K .decision)
-
-  abbrev S : RattleType
-  S = of (K .outcome)
-
-  abbrev EC : Elem C
-  EC = K .channel .elem
-
-  abbrev EN : Elem N
-  EN = K .answer .elem
-
-  abbrev ED : Elem D
-  ED = K .decision .elem
-
-  abbrev ES : Elem S
-  ES = K .outcome .elem
+  open Letters (letters (K .channel)) using (type as C, elem as EC)
+  open Letters (letters (K .answer)) using (type as N, elem as EN)
+  open Letters (letters (K .decision)) using (type as D, elem as ED)
+  open Letters (letters (K .outcome)) using (type as S, elem as ES)
 
   -- what the functions ensure, and what follows of it
   pub record Says (P Y : RattleType) : Type 1 where
@@ -133,61 +104,29 @@ module _ (K : Served) where
     abbrev stayed : Stays (ended .signature .params) (ended .kept)
     stayed = (gave-slice (0 ∷ []) tt (plain (λ _. C)), (stay-dropped (shrSliceOf (1 ∷ []) tt (plain (λ _. u8))) yes, (stay-dropped (shrSliceOf (2 ∷ []) tt (plain (λ _. u16))) yes, (stay-dropped (plain (λ _. P)) yes, tt))))
 
-    abbrev begins : Ended
-    begins = record { signature = record { lifetimes = 0; outlives = []; params = plain (λ _. P) ∷ []; result = plain (λ _. Y) }; kept = (yes, tt) }
-
-    abbrev surveys : Ended
-    surveys = record { signature = record { lifetimes = 2; outlives = []; params = shrSliceOf (0 ∷ []) tt (plain (λ _. C)) ∷ shrSliceOf (1 ∷ []) tt (plain (λ _. u16)) ∷ plain (λ _. Y) ∷ []; result = plain (λ _. Y) }; kept = (yes, (yes, (yes, tt))) }
-
-    abbrev decides : Ended
-    decides = record { signature = record { lifetimes = 0; outlives = []; params = plain (λ _. Y) ∷ plain (λ _. usize) ∷ plain (λ _. usize) ∷ plain (λ _. usize) ∷ []; result = plain (λ _. D) }; kept = (yes, (yes, (yes, (yes, tt)))) }
-
-    abbrev steps : Ended
-    steps = record {
-      signature = record { lifetimes = 0; outlives = []; params = plain (λ _. C) ∷ plain (λ _. D) ∷ plain (λ _. P) ∷ []; result = plain (λ _. S) };
-      kept = (yes, (yes, (yes, tt)));
-    }
-
     module _ (Z : Says P Y) {M : Type 1} (𝓤 : URA M) where
       abbrev pub clauses : Clauses 𝓤 ended
       clauses κs a = record { ghost = Unit {0}; requires = λ _. emp 𝓤; ensures = λ _ r e. fact 𝓤 (Z .Calls (now (a .0)) (now (a .1 .0)) (now (a .1 .1 .0)) (a .1 .1 .1 .0) r (now (e .0))) }
 
-      abbrev begin-says : Clauses 𝓤 begins
-      begin-says κs a = record { ghost = Unit {0}; requires = λ _. emp 𝓤; ensures = λ _ r e. fact 𝓤 (Z .Begins (a .0) r) }
+  -- begin, decide and the step take plain data alone
+  module _ (KP KY : Kind) (Z : Says (of KP) (of KY)) where
+    abbrev begins : ByValue
+    begins = always (KP ∷ []) KY (λ a r. Z .Begins (a .0) r)
 
-      abbrev survey-says : Clauses 𝓤 surveys
-      survey-says κs a = record { ghost = Unit {0}; requires = λ _. emp 𝓤; ensures = λ _ r e. fact 𝓤 (Z .Surveys (now (a .0)) (now (a .1 .0)) (a .1 .1 .0) r) }
+    abbrev decides : ByValue
+    decides = deciding KY (K .decision) (Z .Decides)
 
-      abbrev decide-says : Clauses 𝓤 decides
-      decide-says κs a = record { ghost = Unit {0}; requires = λ _. emp 𝓤; ensures = λ _ r e. fact 𝓤 (Z .Decides (a .0) (a .1 .0) (a .1 .1 .0) (a .1 .1 .1 .0) r) }
-
-      abbrev step-says : Clauses 𝓤 steps
-      step-says κs a = record { ghost = Unit {0}; requires = λ _. need 𝓤 (Z .asks) (Z .Asks (a .0) (a .1 .0) (a .1 .1 .0)); ensures = λ _ r e. fact 𝓤 (Z .Steps (a .0) (a .1 .0) (a .1 .1 .0) r) }
-
-      module _ (H : Heap 𝓤) (A : Atoms 𝓤) where
-        abbrev pub Begin : Contract 𝓤
-        Begin = tripleOf 𝓤 H A (begins .signature) (closing 𝓤 H A begins begin-says)
-
-        abbrev pub Survey : Contract 𝓤
-        Survey = tripleOf 𝓤 H A (surveys .signature) (closing 𝓤 H A surveys survey-says)
-
-        abbrev pub Decide : Contract 𝓤
-        Decide = tripleOf 𝓤 H A (decides .signature) (closing 𝓤 H A decides decide-says)
-
-        abbrev pub Step : Contract 𝓤
-        Step = tripleOf 𝓤 H A (steps .signature) (closing 𝓤 H A steps step-says)
+    abbrev steps : ByValue
+    steps = record { takes = K .channel ∷ K .decision ∷ KP ∷ []; gives = K .outcome; asked = Z .asks; Asks = λ a. Z .Asks (a .0) (a .1 .0) (a .1 .1 .0); Ensures = λ a r. Z .Steps (a .0) (a .1 .0) (a .1 .1 .0) r }
 
   -- ---- the walk
   module _ (KP KY : Kind) (Z : Says (of KP) (of KY)) (fb fs fd ff : Name) {M : Type 1} (𝓤 : URA M) (H : Heap 𝓤) (A : Atoms 𝓤) (W : Given 𝓤 H A) (𝓣 : Tables 𝓤 H)
-      (begin : Triple 𝓤 (𝓣 .C fb) (Begin (of KP) (of KY) Z 𝓤 H A)) (survey : Triple 𝓤 (𝓣 .C fs) (Survey (of KP) (of KY) Z 𝓤 H A))
-      (decide : Triple 𝓤 (𝓣 .C fd) (Decide (of KP) (of KY) Z 𝓤 H A)) (stepped : Triple 𝓤 (𝓣 .C ff) (Step (of KP) (of KY) Z 𝓤 H A)) where
-    abbrev P : RattleType
-    P = of KP
+      (begin : Triple 𝓤 (𝓣 .C fb) (Takes (begins KP KY Z) 𝓤 H A)) (survey : Triple 𝓤 (𝓣 .C fs) (Survey C KY (Z .Surveys) 𝓤 H A))
+      (decide : Triple 𝓤 (𝓣 .C fd) (Takes (decides KP KY Z) 𝓤 H A)) (stepped : Triple 𝓤 (𝓣 .C ff) (Takes (steps KP KY Z) 𝓤 H A)) where
+    open Letters (letters KP) using (type as P, elem as EP)
+    open Letters (letters KY) using (type as Y, elem as EY)
 
-    abbrev Y : RattleType
-    Y = of KY
-
-    module _ (κ₀ κ₁ κ₂ : Lft) (q₀ q₁ q₂ : Share) (b o b₁ o₁ b₂ o₂ : ℕ) (γ γ₁ γ₂ : GName) (ys : List (C .Denot)) (m ln : List ℕ) (n : P .Denot) (n-is : Is P n (KP .elem .val n ∷ [])) where
+    module _ (κ₀ κ₁ κ₂ : Lft) (q₀ q₁ q₂ : Share) (b o b₁ o₁ b₂ o₂ : ℕ) (γ γ₁ γ₂ : GName) (ys : List (C .Denot)) (m ln : List ℕ) (n : P .Denot) (n-is : Is P n (EP .val n ∷ [])) where
       -- the machine values of the slices
       abbrev s : Val
       s = sliceVal (b, o) (length ys)
@@ -199,7 +138,7 @@ module _ (K : Served) where
       s₂ = sliceVal (b₂, o₂) (length ln)
 
       abbrev y : walkOf 𝓤 H A (ended P Y) (stayed P Y) (clauses P Y Z 𝓤) .Ghost
-      y = (((κ₀, (κ₁, (κ₂, tt))), (q₀, (q₁, (q₂, tt))), tt, (xs-at C b o γ ys, (xs-at u8 b₁ o₁ γ₁ m, (xs-at u16 b₂ o₂ γ₂ ln, (n, tt)))), (s ∷ [], (s₁ ∷ [], (s₂ ∷ [], (KP .elem .val n ∷ [], tt))))), tt)
+      y = (((κ₀, (κ₁, (κ₂, tt))), (q₀, (q₁, (q₂, tt))), tt, (xs-at C b o γ ys, (xs-at u8 b₁ o₁ γ₁ m, (xs-at u16 b₂ o₂ γ₂ ln, (n, tt)))), (s ∷ [], (s₁ ∷ [], (s₂ ∷ [], (EP .val n ∷ [], tt))))), tt)
 
       abbrev Post : Val → SProp 𝓤
       Post = walkOf 𝓤 H A (ended P Y) (stayed P Y) (clauses P Y Z 𝓤) .post y
@@ -211,84 +150,42 @@ module _ (K : Served) where
           qed W (‵ (flft κ₀ q₀) ∷ (‵ (flft κ₁ q₁) ⊛ ‵ (flft κ₂ q₂) ⊛ ‵ ftrue) ∷ ‵ (finally C γ zs) ∷ []) ∵
           suffices ! _ (ends-at 𝓤 H A (ended P Y) (stayed P Y) (clauses P Y Z 𝓤) W y (EN .val r) r (zs, (tt, (tt, (tt, tt)))) (e₀, (tt, (tt, (tt, tt))))) $ says ! e $ join ! $ frame ! $ nothing ! $ nothing ! $ fjoin ! $ nothing ! $ fjoin ! $ nothing ! $ fjoin ! $ move ! (1 ∷ 0 ∷ []) $ fjoin ! $ frame ! $ owned ! N (Is N) (EN .makes 𝓤 H A W) r _ is $ done !
 
-      -- what the slices own
-      abbrev O₁ : Fml
-      O₁ = ShrSlice (named 1) κ₁ u8 .own (xs-at u8 b₁ o₁ γ₁ m) (s₁ ∷ [])
-
-      abbrev O₂ : Fml
-      O₂ = ShrSlice (named 2) κ₂ u16 .own (xs-at u16 b₂ o₂ γ₂ ln) (s₂ ∷ [])
-
-      -- what the four are passed
-      abbrev to-begin : Begin P Y Z 𝓤 H A .Ghost
-      to-begin = ((tt, tt, tt, (n, tt), (KP .elem .val n ∷ [], tt)), tt)
-
-      asks-begin : ent 𝓤 (emp 𝓤) (Begin P Y Z 𝓤 H A .pre to-begin)
-      asks-begin = qed W [] ∵ nothing ! $ owned ! P (Is P) (KP .elem .makes 𝓤 H A W) n _ n-is $ fjoin ! $ nothing ! $ join ! $ frame ! $ done !
-
-      module _ (ν : ℕ) (δ : GName) where
-        abbrev Lent : Fml
-        Lent = ShrSlice (named 0) (ν ∷ []) C .own (xs-at C b o δ ys) (s ∷ [])
-
-        abbrev to-survey : Y .Denot → Survey P Y Z 𝓤 H A .Ghost
-        to-survey a = (((ν ∷ [], (κ₂, tt)), (fullShare, (q₂, tt)), tt, (xs-at C b o δ ys, (xs-at u16 b₂ o₂ γ₂ ln, (a, tt))), (s ∷ [], (s₂ ∷ [], (KY .elem .val a ∷ [], tt)))), tt)
-
-        asks-survey : (a : Y .Denot) → Is Y a (KY .elem .val a ∷ []) → ent 𝓤 (⋆ 𝓤 H A (‵ Lent ∷ ‵ (flft (ν ∷ []) fullShare) ∷ ‵ O₂ ∷ ‵ (flft κ₂ q₂) ∷ [])) (Survey P Y Z 𝓤 H A .pre (to-survey a))
-        asks-survey a is = qed W (‵ Lent ∷ ‵ (flft (ν ∷ []) fullShare) ∷ ‵ O₂ ∷ ‵ (flft κ₂ q₂) ∷ []) ∵ nothing ! $ owned ! Y (Is Y) (KY .elem .makes 𝓤 H A W) a _ is $ fjoin ! $ move ! (3 ∷ 0 ∷ []) $ fjoin ! $ move ! (1 ∷ 0 ∷ []) $ fjoin ! $ nothing ! $ move ! (3 ∷ 0 ∷ []) $ join ! $ move ! (2 ∷ 0 ∷ []) $ join ! $ join ! $ frame ! $ done !
-
-      abbrev to-decide : Y .Denot → Decide P Y Z 𝓤 H A .Ghost
-      to-decide v = ((tt, tt, tt, (v, (length ys, (length m, (length ln, tt)))), (KY .elem .val v ∷ [], (vint w64 (length ys) ∷ [], (vint w64 (length m) ∷ [], (vint w64 (length ln) ∷ [], tt))))), tt)
-
-      asks-decide : (v : Y .Denot) → Is Y v (KY .elem .val v ∷ []) → length ys < 2 ^ 64 → length m < 2 ^ 64 → length ln < 2 ^ 64 → ent 𝓤 (emp 𝓤) (Decide P Y Z 𝓤 H A .pre (to-decide v))
-      asks-decide v is f₀ f₁ f₂ = qed W [] ∵ nothing ! $ owned ! usize (Is usize) (uint-makes 𝓤 H A W w64) (length ln) _ (refl, f₂) $ fjoin ! $ owned ! usize (Is usize) (uint-makes 𝓤 H A W w64) (length m) _ (refl, f₁) $ fjoin ! $ owned ! usize (Is usize) (uint-makes 𝓤 H A W w64) (length ys) _ (refl, f₀) $ fjoin ! $ owned ! Y (Is Y) (KY .elem .makes 𝓤 H A W) v _ is $ fjoin ! $ nothing ! $ join ! $ frame ! $ done !
-
-      abbrev to : C .Denot → D .Denot → Step P Y Z 𝓤 H A .Ghost
-      to c d = ((tt, tt, tt, (c, (d, (n, tt))), (EC .val c ∷ [], (ED .val d ∷ [], (KP .elem .val n ∷ [], tt)))), tt)
-
-      asks : (c : C .Denot) (d : D .Denot) → Is C c (EC .val c ∷ []) → Is D d (ED .val d ∷ []) → Z .Asks c d n → ent 𝓤 (emp 𝓤) (Step P Y Z 𝓤 H A .pre (to c d))
-      asks c d ic id ask = qed W [] ∵ use0 W (raw (need 𝓤 (Z .asks) (Z .Asks c d n))) (needed 𝓤 (Z .asks) (Z .Asks c d n) ask) $ nothing ! $ owned ! P (Is P) (KP .elem .makes 𝓤 H A W) n _ n-is $ fjoin ! $ owned ! D (Is D) (ED .makes 𝓤 H A W) d _ id $ fjoin ! $ owned ! C (Is C) (EC .makes 𝓤 H A W) c _ ic $ fjoin ! $ nothing ! $ join ! $ frame ! $ done !
-
       walk : Room C (length ys) → Room u8 (length m) → Room u16 (length ln)
-          → ent 𝓤 (onEntry 𝓤 H A (ended P Y .signature) (y .0 .0) (y .0 .1) (y .0 .3) (y .0 .4)) (WpFn 𝓤 H (𝓣 .C) (𝓣 .Λ) (function (KP .ty) (KY .ty) fb fs fd ff) (s ∷ s₁ ∷ s₂ ∷ KP .elem .val n ∷ []) Post)
+          → ent 𝓤 (onEntry 𝓤 H A (ended P Y .signature) (y .0 .0) (y .0 .1) (y .0 .3) (y .0 .4)) (WpFn 𝓤 H (𝓣 .C) (𝓣 .Λ) (function (KP .ty) (KY .ty) fb fs fd ff) (s ∷ s₁ ∷ s₂ ∷ EP .val n ∷ []) Post)
       walk room room₁ room₂ =
           qed W ((‵ (flft κ₀ q₀) ⊛ ‵ (flft κ₁ q₁) ⊛ ‵ (flft κ₂ q₂) ⊛ ‵ ftrue) ∷ ‵ (owns (MutSlice (named 0) κ₀ C ∷ ShrSlice (named 1) κ₁ u8 ∷ ShrSlice (named 2) κ₂ u16 ∷ P ∷ []) (y .0 .3) (y .0 .4)) ∷ []) ∵
-          enter ! (𝓣 .C) (𝓣 .Λ) (function (KP .ty) (KY .ty) fb fs fd ff) (s ∷ s₁ ∷ s₂ ∷ KP .elem .val n ∷ []) _ $
+          enter ! (𝓣 .C) (𝓣 .Λ) (function (KP .ty) (KY .ty) fb fs fd ff) (s ∷ s₁ ∷ s₂ ∷ EP .val n ∷ []) _ $
           alloc1 ! (λ l₀. alloc1 ! (λ l₁. alloc1 ! (λ l₂. alloc1 ! (λ l₃. alloc1 ! (λ l₄. alloc1 ! (λ l₅. alloc1 ! (λ l₆. alloc1 ! (λ l₇. alloc1 ! (λ l₈. alloc1 ! (λ l₉. alloc1 ! (λ l₁₀. alloc1 ! (λ l₁₁. alloc1 ! (λ l₁₂. alloc1 ! (λ l₁₃. alloc1 ! (λ l₁₄. alloc1 ! (λ l₁₅. alloc1 ! (λ l₁₆. alloc1 ! (λ l₁₇. alloc1 ! (λ l₁₈. alloc1 ! (λ l₁₉. alloc0 ! $ params1 ! $
-          pass1 ! (init ! 36 refl (tt, (tt, (record { fits = room .0 }, tt)))) $ pass1 ! (init ! 34 refl (tt, (tt, (record { fits = room₁ .0 }, tt)))) $ pass1 ! (init ! 32 refl (tt, (tt, (record { fits = room₂ .0 }, tt)))) $ pass1 ! (init ! 30 refl (KP .elem .typed 𝓤 H A W n n-is .0)) $ pass0 ! $
+          pass1 ! (init ! 36 refl (tt, (tt, (record { fits = room .0 }, tt)))) $ pass1 ! (init ! 34 refl (tt, (tt, (record { fits = room₁ .0 }, tt)))) $ pass1 ! (init ! 32 refl (tt, (tt, (record { fits = room₂ .0 }, tt)))) $ pass1 ! (init ! 30 refl (EP .typed 𝓤 H A W n n-is .0)) $ pass0 ! $
           -- what the parameters own, and the tokens, are taken apart
           move ! (41 ∷ []) $ fsplit ! $ move ! (1 ∷ []) $ fsplit ! $ move ! (1 ∷ []) $ fsplit ! $ move ! (1 ∷ []) $ fsplit ! $ drop ! $ drop ! $ move ! (43 ∷ []) $ split ! $ move ! (1 ∷ []) $ split ! $ move ! (1 ∷ []) $ split ! $ move ! (1 ∷ []) $ drop ! $ move ! (5 ∷ 2 ∷ 4 ∷ 1 ∷ 3 ∷ 0 ∷ []) $
           -- [what t, mem, lens own, each with its token; then the locals, the last first]
-          use0 W (raw (Begin P Y Z 𝓤 H A .pre to-begin)) (asks-begin) $
-          calls-plain ! (fmOf 𝓤 H (W .laws) 𝓣) (begins P Y) (begin-says P Y Z 𝓤) begin to-begin (KY .elem) (and-then ! (loc ! 37 refl) (no-more !)) (λ a ws₁ ia.
-          move ! (2 ∷ []) $ heard ! (Z .Begins n a) (λ ea. land ! (from ! (stop !)) (init ! 36 refl (KY .elem .typed 𝓤 H A W a ia .0)) $ drop ! $ drop ! $
+          calls-by ! (fmOf 𝓤 H (W .laws) 𝓣) (begins KP KY Z) begin (n, tt) (n-is, tt) tt (λ _. and-then ! (loc ! 37 refl) (no-more !)) (λ a ia ea.
+          land ! (from ! (stop !)) (init ! 34 refl (EY .typed 𝓤 H A W a ia .0)) $
           -- the table is lent as a `&`
           sets ! 26 refl (addr ! (from ! (fld ! refl (hop ! (look-in ! 42 (sub ! 0 refl (whole !))) (stop !))))) (tt, tt) $
           sets ! 24 refl (agg ! (and-then ! (loc ! 26 refl) (and-then ! (fld-at ! 42 1 refl refl refl) (no-more !)))) (tt, (tt, (record { fits = room .0 }, tt))) $
-          move ! (4 ∷ []) $ use1 W (‵ O₂ ⊛ ‵ O₂) (shr-slice-copy 𝓤 H A W (named 2) κ₂ u16 .twice (xs-at u16 b₂ o₂ γ₂ ln) (s₂ ∷ [])) $ split ! $ move ! (2 ∷ 3 ∷ []) $ shares-on ! tt C b o ys (s ∷ []) (λ ν δ p₀. move ! (0 ∷ 1 ∷ 3 ∷ 7 ∷ []) $ group ! 4 $ use1 W (raw (Survey P Y Z 𝓤 H A .pre (to-survey ν δ a))) (asks-survey ν δ a ia) $
-          calls-plain ! (fmOf 𝓤 H (W .laws) 𝓣) (surveys P Y) (survey-says P Y Z 𝓤) survey (to-survey ν δ a) (KY .elem) (and-then ! (loc ! 23 refl) (and-then ! (loc ! 37 refl) (and-then ! (loc ! 33 refl) (no-more !)))) (λ v ws₂ iv.
-          move ! (2 ∷ []) $ heard ! (Z .Surveys ys ln a v) (λ ev. land ! (from ! (stop !)) (init ! 32 refl (KY .elem .typed 𝓤 H A W v iv .0)) $ use1 W (‵ (flft (ν ∷ []) fullShare) ⊛ ‵ (flft κ₂ q₂) ⊛ ‵ ftrue) (id⊢ 𝓤 _) $ split ! $ move ! (1 ∷ []) $ split ! $ move ! (2 ∷ 4 ∷ []) $ unshares ! tt C b o ys (s ∷ []) p₀ $ move ! (3 ∷ []) $ drop ! $ move ! (3 ∷ []) $ drop ! $ move ! (0 ∷ 1 ∷ 4 ∷ 5 ∷ 3 ∷ 2 ∷ []) $
+          move ! (0 ∷ 1 ∷ 4 ∷ 5 ∷ []) $ surveys-one ! (fmOf 𝓤 H (W .laws) 𝓣) C KY (Z .Surveys) survey b o b₂ o₂ ys ln a ia (λ _ _ _. and-then ! (loc ! 23 refl) (and-then ! (loc ! 37 refl) (and-then ! (loc ! 33 refl) (no-more !)))) (λ v iv ev.
+          land ! (from ! (stop !)) (init ! 32 refl (EY .typed 𝓤 H A W v iv .0)) $ move ! (0 ∷ 1 ∷ 4 ∷ 5 ∷ []) $
           sets ! 22 refl (of-opd ! (fld-at ! 42 1 refl refl refl)) (tt, record { fits = room .0 }) $
           sets ! 20 refl (of-opd ! (fld-at ! 40 1 refl refl refl)) (tt, record { fits = room₁ .0 }) $
           sets ! 18 refl (of-opd ! (fld-at ! 38 1 refl refl refl)) (tt, record { fits = room₂ .0 }) $
-          use0 W (raw (Decide P Y Z 𝓤 H A .pre (to-decide v))) (asks-decide v iv (room .0) (room₁ .0) (room₂ .0)) $
-          calls-plain ! (fmOf 𝓤 H (W .laws) 𝓣) (decides P Y) (decide-says P Y Z 𝓤) decide (to-decide v) ED (and-then ! (loc ! 33 refl) (and-then ! (loc ! 23 refl) (and-then ! (loc ! 21 refl) (and-then ! (loc ! 19 refl) (no-more !))))) (λ d ws₃ id.
-          move ! (2 ∷ []) $ heard ! (Z .Decides v (length ys) (length m) (length ln) d) (λ ed. drop ! $ drop ! $ land ! (from ! (stop !)) (init ! 30 refl (ED .typed 𝓤 H A W d id .0)) $
+          calls-by ! (fmOf 𝓤 H (W .laws) 𝓣) (decides KP KY Z) decide (v, (length ys, (length m, (length ln, tt)))) (iv, ((refl, room .0), ((refl, room₁ .0), ((refl, room₂ .0), tt)))) tt (λ _. and-then ! (loc ! 33 refl) (and-then ! (loc ! 23 refl) (and-then ! (loc ! 21 refl) (and-then ! (loc ! 19 refl) (no-more !))))) (λ d id ed.
+          land ! (from ! (stop !)) (init ! 30 refl (ED .typed 𝓤 H A W d id .0)) $
           let i : ℕ = K .at .part d in
           resets ! 22 refl (of-opd ! (fld-at ! 42 1 refl refl refl)) (tt, record { fits = room .0 }) $
           sets ! 16 refl (bin ! (has-at ! 30 (K .at) d refl refl) (loc ! 22 refl) tt) (tt, tt) $
           first ! $ branches ! (loc ! 16 refl)
           (λ h.
           let l : i < length ys = ltb→lt i (length ys) h in
-          let l′ : i ≤ length ys = omega (arith, l) in
-          let small : i * mem C .size < 2 ^ 64 = omega (arith, mul-le-mul-right (mem C .size) l′, room .1) in
+          let small : i * mem C .size < 2 ^ 64 = in-room C i (length ys) l room in
           let c : C .Denot = getD ys i (K .blank) in
           sets ! 12 refl (bin ! (has-at ! 30 (K .at) d refl refl) (lit ! (K .fits)) (record { fits = small })) (tt, record { fits = small }) $
           sets ! 10 refl (elem-ptr ! (mem C .size) o i (fld-at ! 42 0 refl refl refl) (loc ! 12 refl)) (tt, tt) $
           opens-at ! tt EC b o ys i (K .blank) l (λ p ic.
           sets ! 8 refl (of-opd ! (load ! (from ! (hop ! (look ! 10 refl) (stop !))) (look-raw ! 0 refl))) (EC .typed 𝓤 H A W c ic .0) $
           backs-at ! tt EC b o ys (s ∷ []) i (K .blank) l p ic $
-          use0 W (raw (Step P Y Z 𝓤 H A .pre (to c d))) (asks c d ic id (Z .may ys m ln n a v d ea ev ed l)) $
-          calls-plain ! (fmOf 𝓤 H (W .laws) 𝓣) (steps P Y) (step-says P Y Z 𝓤) stepped (to c d) ES (and-then ! (loc ! 9 refl) (and-then ! (loc ! 31 refl) (and-then ! (loc ! 37 refl) (no-more !)))) (λ r ws ir.
-          move ! (2 ∷ []) $ heard ! (Z .Steps c d n r) (λ e. drop ! $ drop ! $
+          calls-by ! (fmOf 𝓤 H (W .laws) 𝓣) (steps KP KY Z) stepped (c, (d, (n, tt))) (ic, (id, (n-is, tt))) (Z .may ys m ln n a v d ea ev ed l) (λ _. and-then ! (loc ! 9 refl) (and-then ! (loc ! 31 refl) (and-then ! (loc ! 37 refl) (no-more !)))) (λ r ir e.
           let ir₁ : Is C (K .stored .part r) (EC .val (K .stored .part r) ∷ []) = K .stored .owed r ir in
           let ir₀ : Is N (K .said .part r) (EN .val (K .said .part r) ∷ []) = K .said .owed r ir in
           land ! (from ! (stop !)) (init ! 28 refl (ES .typed 𝓤 H A W r ir .0)) $
@@ -301,19 +198,19 @@ module _ (K : Served) where
           sets ! 44 refl (of-opd ! (loc ! 14 refl)) (EN .typed 𝓤 H A W (K .said .part r) ir₀ .0) $ gives-up ! C b o (set ys i (K .stored .part r)) $
           returns ! (look ! 44 refl) $ frees1 ! 44 refl refl $ frees1 ! 42 refl refl $ frees1 ! 40 refl refl $ frees1 ! 38 refl refl $ frees1 ! 36 refl refl $ frees1 ! 34 refl refl $ frees1 ! 32 refl refl $ frees1 ! 30 refl refl $ frees1 ! 28 refl refl $ frees1 ! 26 refl refl $ frees1 ! 24 refl refl $ frees1 ! 22 refl refl $ frees1 ! 20 refl refl $ frees1 ! 18 refl refl $ frees1 ! 16 refl refl $ frees1 ! 14 refl refl $ frees1 ! 12 refl refl $ frees1 ! 10 refl refl $ frees1 ! 8 refl refl $ frees1 ! 6 refl refl $ free0 ! $
           nothing ! $ move ! (6 ∷ 0 ∷ []) $ join ! $ move ! (4 ∷ 0 ∷ []) $ join ! $ keep ! (2 ∷ 0 ∷ 1 ∷ []) $
-          by ! (exits (K .said .part r) (set ys i (K .stored .part r)) (Z .serves ys m ln n a v d r ea ev ed l e) (length-set ys i (K .stored .part r)) ir₀))))))
+          by ! (exits (K .said .part r) (set ys i (K .stored .part r)) (Z .serves ys m ln n a v d r ea ev ed l e) (length-set ys i (K .stored .part r)) ir₀)))))
           (λ h.
           let ir₀ : Is N (K .unserved .part d) (EN .val (K .unserved .part d) ∷ []) = K .unserved .owed d id in
           assigns-out ! (rest (KP .ty) (KY .ty) fb fs fd ff) Post (of-opd ! (has-at ! 30 (K .unserved) d refl refl)) (from ! (stop !)) (init ! 14 refl (EN .typed 𝓤 H A W (K .unserved .part d) ir₀ .0)) $
           sets ! 44 refl (of-opd ! (loc ! 14 refl)) (EN .typed 𝓤 H A W (K .unserved .part d) ir₀ .0) $ gives-up ! C b o ys $
           returns ! (look ! 44 refl) $ frees1 ! 44 refl refl $ frees1 ! 42 refl refl $ frees1 ! 40 refl refl $ frees1 ! 38 refl refl $ frees1 ! 36 refl refl $ frees1 ! 34 refl refl $ frees1 ! 32 refl refl $ frees1 ! 30 refl refl $ frees0 ! 28 refl refl $ frees1 ! 26 refl refl $ frees1 ! 24 refl refl $ frees1 ! 22 refl refl $ frees1 ! 20 refl refl $ frees1 ! 18 refl refl $ frees1 ! 16 refl refl $ frees1 ! 14 refl refl $ frees0 ! 12 refl refl $ frees0 ! 10 refl refl $ frees0 ! 8 refl refl $ frees0 ! 6 refl refl $ free0 ! $
           nothing ! $ move ! (6 ∷ 0 ∷ []) $ join ! $ move ! (4 ∷ 0 ∷ []) $ join ! $ keep ! (2 ∷ 0 ∷ 1 ∷ []) $
-          by ! (exits (K .unserved .part d) ys (Z .refuses ys m ln n a v d ea ev ed (nltb→le i (length ys) h)) refl ir₀)))))))))))))))))))))))))))))
+          by ! (exits (K .unserved .part d) ys (Z .refuses ys m ln n a v d ea ev ed (nltb→le i (length ys) h)) refl ir₀)))))))))))))))))))))))))
 
     pub order-meets : Meets 𝓤 H A (ended P Y .signature) (WpFn 𝓤 H (𝓣 .C) (𝓣 .Λ) (function (KP .ty) (KY .ty) fb fs fd ff)) (closing 𝓤 H A (ended P Y) (clauses P Y Z 𝓤))
     order-meets =
         meets-by 𝓤 H A W (ended P Y) (stayed P Y) (goes-gave-slice 𝓤 H A W 3 0 tt (plain (λ _. C)), (goes-dropped 𝓤 H A W 3 (shrSliceOf (1 ∷ []) tt (plain (λ _. u8))) yes (λ κs z f. refl), (goes-dropped 𝓤 H A W 3 (shrSliceOf (2 ∷ []) tt (plain (λ _. u16))) yes (λ κs z f. refl), (goes-dropped 𝓤 H A W 3 (plain (λ _. P)) yes (λ κs z f. refl), tt))))
         (clauses P Y Z 𝓤) (function (KP .ty) (KY .ty) fb fs fd ff) 𝓣
-        (λ κs. (slice-vals, (slice-vals, (slice-vals, ((λ z. KP .elem .val z ∷ []), tt)))))
-        (λ κs. (mut-slice-tells (named 0) (κs .0) C, (shr-slice-tells (named 1) (κs .1 .0) u8, (shr-slice-tells (named 2) (κs .1 .1 .0) u16, (KP .elem .tells, tt)))))
+        (λ κs. (slice-vals, (slice-vals, (slice-vals, ((λ z. EP .val z ∷ []), tt)))))
+        (λ κs. (mut-slice-tells (named 0) (κs .0) C, (shr-slice-tells (named 1) (κs .1 .0) u8, (shr-slice-tells (named 2) (κs .1 .1 .0) u16, (EP .tells, tt)))))
         (λ κs qs bounds a g are. via 𝓤 _ (fst∗ 𝓤 _ (emp 𝓤)) (walk (κs .0) (κs .1 .0) (κs .1 .1 .0) (qs .0) (qs .1 .0) (qs .1 .1 .0) (a .0 .ptr .0) (a .0 .ptr .1) (a .1 .0 .ptr .0) (a .1 .0 .ptr .1) (a .1 .1 .0 .ptr .0) (a .1 .1 .0 .ptr .1) (a .0 .name) (a .1 .0 .name) (a .1 .1 .0 .name) (a .0 .now) (a .1 .0 .now) (a .1 .1 .0 .now) (a .1 .1 .1 .0) (are .1 .1 .1 .0) (are .0 .0 .1) (are .1 .0 .0 .1) (are .1 .1 .0 .0 .1)))

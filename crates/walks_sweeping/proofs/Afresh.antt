@@ -16,25 +16,20 @@
 --                  tables, and that f meets its contract
 -- The invariant: after i turns the first i of t are fresh (`tab i`).
 -- Assumes nothing.
-use Rattle.walks.proofs.Walk.{_≡_, refl, sym, ap, _∙_, Bool, List, [], _∷_, ℕ, zero, suc, _+_, _*_, _^_, _<_, _≤_, arith, T, ltb, ltb→lt, nltb→le, lit<, length, getD, set, URA, fullShare, named, imm, mut, w64, Ty, tyPtr, tyInt, tyBool, tyRef, Val, vint}
-use Rattle.walks.proofs.Walk.{SProp, ent, emp, Lft, GName, Share, Fml, ftrue, fat, froom, fdies, flft, Heap, Env, WpFn, Wp, Tables, Atoms, afterBlock, afterSeq, afterTurn, atReturn}
-use Rattle.walks.proofs.Walk.{Given, Item, Sq, runs, anyQ, atRet, ‵, raw, _⊛_, ⋆, _$_, _∵_, !, qed, by, use0, move, keep, drop, split, join, rewrite, fsplit, fjoin, suffices, frame, done, look, look-raw, store, store-raw, init, forget, stop, hop, from, load, lit, of-opd, bin, and-then, no-more, assigns, assigns-last, first, blocks, loops, again, Below, exec, land, returns, enter, alloc1, alloc0, params1, pass1, pass0, free0}
-use Rattle.walks.proofs.Walk.{fmOf, owns, Is, pointee, uint-makes, usize, sliceVal, sliceTy, MutSlice, ShrSlice, Room, slice-vals, mut-slice-tells, shr-slice-tells, finally, plain, shrSliceOf, nothing, owned, heard, onEntry, tripleOf, Contract, Triple, says, needs, Stays, stay-dropped, gave-slice, walkOf, goes-dropped, goes-gave-slice, ends-at, yes}
+use Rattle.walks.proofs.Walk.{_≡_, refl, sym, ap, _∙_, List, [], _∷_, ℕ, zero, suc, _+_, _*_, _^_, _<_, _≤_, arith, T, ltb, ltb→lt, nltb→le, lit<, length, getD, set, URA, fullShare, named, imm, mut, w64, Ty, tyPtr, tyInt, tyBool, tyRef, Val, vint}
+use Rattle.walks.proofs.Walk.{SProp, ent, Lft, GName, Share, Fml, ftrue, fat, froom, fdies, flft, Heap, Env, WpFn, Wp, Tables, Atoms, afterBlock, afterSeq, afterTurn, atReturn}
+use Rattle.walks.proofs.Walk.{Given, Item, Sq, runs, anyQ, atRet, ‵, _⊛_, ⋆, _$_, _∵_, !, qed, by, move, keep, drop, split, join, rewrite, fsplit, fjoin, suffices, frame, done, look, look-raw, store, store-raw, init, forget, stop, hop, from, load, lit, of-opd, bin, and-then, no-more, assigns, assigns-last, first, blocks, loops, again, Below, exec, land, returns, enter, alloc1, alloc0, params1, pass1, pass0, free0}
+use Rattle.walks.proofs.Walk.{fmOf, owns, Is, pointee, uint-makes, usize, sliceVal, sliceTy, MutSlice, ShrSlice, Room, slice-vals, mut-slice-tells, shr-slice-tells, finally, plain, shrSliceOf, nothing, owned, onEntry, Triple, says, needs, Stays, stay-dropped, gave-slice, walkOf, goes-dropped, goes-gave-slice, ends-at, yes}
+use Rattle.walks.proofs.Walk.{Fn, Name, Body, local, valueLocal, place, field, deref, copy, int, rvOpd, op2, lt, mul, add, offset, unsigned, seq, assign, block, loop, skip, exit, cond, call, return}
+use Rattle.walks.proofs.Walk.{fact, RattleType, mem, now, mutSliceOf, Clauses, Ended, closing, Meets}
 use mathlib.Core.Path.{subst}
 use mathlib.Core.List.{map}
-use native.Mathlib.Nat.{not-suc-le-zero, le-of-suc-le-suc, mul-le-mul-right}
+use native.Mathlib.Nat.{not-suc-le-zero, le-of-suc-le-suc}
 use native.Mathlib.Numerals.{add-one}
-use package.mir.Syntax.{Fn, Name, Body, local, valueLocal, place, field, deref, copy, int, rvOpd, op2, lt, mul, add, offset, unsigned, seq, assign, block, loop, skip, exit, cond, call, return}
 use types.Kit as Kit
-use contract.Monad.{fact}
-use denote.RattleType.{RattleType}
-use denote.Memory.{mem}
-use denote.Ref.{now}
-use denote.Signature.{mutSliceOf}
-use denote.Triple.Clauses.{Clauses, Ended, closing}
-use denote.Triple.Spec.{Meets}
-use Rattle.walks.proofs.Plain.{Kind, of}
-use Rattle.walks.proofs.Tab.{plainly, xs-at, loc, fld-at, sets, resets, elem-ptr, peeks-at, shuts-at, opens-at, closes-at, gives-up, frees0, frees1, tests, left-of, left-wf, calls-plain, meets-by}
+use Rattle.walks.proofs.Plain.{Kind, of, Letters, letters}
+use Rattle.walks.proofs.Tab.{plainly, xs-at, loc, fld-at, sets, resets, elem-ptr, peeks-at, shuts-at, opens-at, closes-at, gives-up, frees0, frees1, tests, left-of, left-wf, meets-by, in-room}
+use Rattle.walks.proofs.ByValue.{ByValue, always, Takes, calls-by}
 
 -- ---- the MIR
 module _ (R X : RattleType) (τr τx : Ty) (f : Name) where
@@ -74,9 +69,6 @@ module _ (R X : RattleType) where
   abbrev pub ended : Ended
   ended = record { signature = record { lifetimes = 2; outlives = []; params = mutSliceOf (0 ∷ []) tt (plain (λ _. R)) ∷ shrSliceOf (1 ∷ []) tt (plain (λ _. X)) ∷ []; result = plain (λ _. usize) }; kept = (yes, (yes, tt)) }
 
-  abbrev pub callee : Ended
-  callee = record { signature = record { lifetimes = 0; outlives = []; params = plain (λ _. X) ∷ []; result = plain (λ _. R) }; kept = (yes, tt) }
-
   abbrev stayed : Stays (ended .signature .params) (ended .kept)
   stayed = (gave-slice (0 ∷ []) tt (plain (λ _. R)), (stay-dropped (shrSliceOf (1 ∷ []) tt (plain (λ _. X))) yes, tt))
 
@@ -84,11 +76,10 @@ module _ (R X : RattleType) where
     abbrev pub clauses : Clauses 𝓤 ended
     clauses κs a = record { ghost = Unit {0}; requires = λ _. fact 𝓤 (length (now (a .0)) ≡ length (now (a .1 .0))); ensures = λ _ r e. fact 𝓤 ((r ≡ length (now (a .1 .0))) × (now (e .0) ≡ map F (now (a .1 .0)))) }
 
-    abbrev pub called : Clauses 𝓤 callee
-    called κs a = record { ghost = Unit {0}; requires = λ _. emp 𝓤; ensures = λ _ r _. fact 𝓤 (r ≡ F (a .0)) }
-
-    abbrev pub Callee : (H : Heap 𝓤) (A : Atoms 𝓤) → Contract 𝓤
-    Callee H A = tripleOf 𝓤 H A (callee .signature) (closing 𝓤 H A callee called)
+-- f takes plain data alone
+module _ (KR KX : Kind) (F : KX .row .Denot → KR .row .Denot) where
+  abbrev callee : ByValue
+  callee = always (KX ∷ []) KR (λ a r. r ≡ F (a .0))
 
 -- ---- the table after i turns
 module _ {R X : Type 0} (F : X → R) where
@@ -128,12 +119,9 @@ module _ {R X : Type 0} (F : X → R) where
 
 -- ---- the walk
 module _ (KR : Kind) (dr : KR .row .Denot) (fits-r : T (ltb (mem (of KR) .size) (2 ^ 64))) (KX : Kind) (dx : KX .row .Denot) (fits-x : T (ltb (mem (of KX) .size) (2 ^ 64))) (F : KX .row .Denot → KR .row .Denot) (f : Name)
-    {M : Type 1} (𝓤 : URA M) (H : Heap 𝓤) (A : Atoms 𝓤) (W : Given 𝓤 H A) (𝓣 : Tables 𝓤 H) (known : Triple 𝓤 (𝓣 .C f) (Callee (of KR) (of KX) F 𝓤 H A)) where
-  abbrev R : RattleType
-  R = of KR
-
-  abbrev X : RattleType
-  X = of KX
+    {M : Type 1} (𝓤 : URA M) (H : Heap 𝓤) (A : Atoms 𝓤) (W : Given 𝓤 H A) (𝓣 : Tables 𝓤 H) (known : Triple 𝓤 (𝓣 .C f) (Takes (callee KR KX F) 𝓤 H A)) where
+  open Letters (letters KR) using (type as R, elem as ER)
+  open Letters (letters KX) using (type as X, elem as EX)
 
   module _ (κ κ₁ : Lft) (q q₁ : Share) (b o b₁ o₁ : ℕ) (γ γ₁ : GName) (ys : List (R .Denot)) (xs : List (X .Denot)) (room : Room R (length ys)) (room₁ : Room X (length xs)) where
     abbrev s : List Val
@@ -156,12 +144,6 @@ module _ (KR : Kind) (dr : KR .row .Denot) (fits-r : T (ltb (mem (of KR) .size) 
         qed W (‵ (finally R γ zs) ∷ ‵ (flft κ q) ∷ ‵ (flft κ₁ q₁) ∷ []) ∵
         suffices ! _ (ends-at 𝓤 H A (ended R X) (stayed R X) (clauses R X F 𝓤) W y (vint w64 r) r (zs, (tt, tt)) (l, (tt, tt))) $ says ! e $
         nothing ! $ move ! (3 ∷ 0 ∷ []) $ join ! $ move ! (2 ∷ 0 ∷ []) $ join ! $ frame ! $ nothing ! $ nothing ! $ fjoin ! $ move ! (1 ∷ 0 ∷ []) $ fjoin ! $ frame ! $ owned ! usize (Is usize) (uint-makes 𝓤 H A W w64) r _ (refl, fits) $ done !
-
-    abbrev to : X .Denot → Callee R X F 𝓤 H A .Ghost
-    to x = ((tt, tt, tt, (x, tt), (KX .elem .val x ∷ [], tt)), tt)
-
-    asks : (x : X .Denot) → Is X x (KX .elem .val x ∷ []) → ent 𝓤 (emp 𝓤) (Callee R X F 𝓤 H A .pre (to x))
-    asks x is = qed W [] ∵ nothing ! $ owned ! X (Is X) (KX .elem .makes 𝓤 H A W) x _ is $ fjoin ! $ nothing ! $ join ! $ frame ! $ done !
 
     module _ (same : length ys ≡ length xs) where
       module _ (l₀ l₁ l₂ l₃ l₄ l₅ l₆ l₇ l₈ l₉ : ℕ) where
@@ -192,29 +174,25 @@ module _ (KR : Kind) (dr : KR .row .Denot) (fits-r : T (ltb (mem (of KR) .size) 
             let l : i < length ys = ltb→lt i (length ys) h in
             let l₁′ : i < length xs = subst (λ (m : ℕ). i < m) same l in
             let l′ : i < length zs = subst (λ (m : ℕ). i < m) (sym (as-long F i ys xs)) l in
-            let l″ : i ≤ length ys = omega arith in
-            let l₁″ : i ≤ length xs = omega arith in
-            let small : i * mem R .size < 2 ^ 64 = omega (arith, mul-le-mul-right (mem R .size) l″, room .1) in
-            let small₁ : i * mem X .size < 2 ^ 64 = omega (arith, mul-le-mul-right (mem X .size) l₁″, room₁ .1) in
+            let small : i * mem R .size < 2 ^ 64 = in-room R i (length ys) l room in
+            let small₁ : i * mem X .size < 2 ^ 64 = in-room X i (length xs) l₁′ room₁ in
             let next : i + 1 < 2 ^ 64 = omega (arith, room .0) in
             resets ! 12 refl (bin ! (loc ! 16 refl) (lit ! fits-x) (record { fits = small₁ })) (tt, record { fits = small₁ }) $
             sets ! 8 refl (elem-ptr ! (mem X .size) o₁ i (fld-at ! 18 0 refl refl refl) (loc ! 12 refl)) (tt, tt) $
-            move ! (2 ∷ 3 ∷ []) $ peeks-at ! tt (KX .elem) b₁ o₁ xs i dx l₁′ (λ q′ p ix.
-            sets ! 6 refl (of-opd ! (load ! (from ! (hop ! (look ! 8 refl) (stop !))) (look-raw ! 0 refl))) (KX .elem .typed 𝓤 H A W x ix .0) $
-            shuts-at ! tt (KX .elem) b₁ o₁ xs s₁ q′ i dx l₁′ p $ move ! (2 ∷ 3 ∷ []) $
-            use0 W (raw (Callee R X F 𝓤 H A .pre (to x))) (asks x ix) $
-            calls-plain ! (fmOf 𝓤 H (W .laws) 𝓣) (callee R X) (called R X F 𝓤) known (to x) (KR .elem) (and-then ! (loc ! 7 refl) (no-more !)) (λ r ws ir.
-            move ! (2 ∷ []) $ heard ! (r ≡ F x) (λ e. drop ! $ drop ! $
+            move ! (2 ∷ 3 ∷ []) $ peeks-at ! tt EX b₁ o₁ xs i dx l₁′ (λ q′ p ix.
+            sets ! 6 refl (of-opd ! (load ! (from ! (hop ! (look ! 8 refl) (stop !))) (look-raw ! 0 refl))) (EX .typed 𝓤 H A W x ix .0) $
+            shuts-at ! tt EX b₁ o₁ xs s₁ q′ i dx l₁′ p $ move ! (2 ∷ 3 ∷ []) $
+            calls-by ! (fmOf 𝓤 H (W .laws) 𝓣) (callee KR KX F) known (x, tt) (ix, tt) tt (λ _. and-then ! (loc ! 7 refl) (no-more !)) (λ r ir e.
             let to-tab : set zs i r ≡ tab F (i + 1) ys xs = ap (λ (d : R .Denot). set zs i d) e ∙ next-tab F dx i ys xs l l₁′ ∙ ap (λ (m : ℕ). tab F m ys xs) (sym (add-one i)) in
-            land ! (from ! (stop !)) (init ! 14 refl (KR .elem .typed 𝓤 H A W r ir .0)) $
+            land ! (from ! (stop !)) (init ! 14 refl (ER .typed 𝓤 H A W r ir .0)) $
             resets ! 12 refl (bin ! (loc ! 16 refl) (lit ! fits-r) (record { fits = small })) (tt, record { fits = small }) $
             sets ! 4 refl (elem-ptr ! (mem R .size) o i (fld-at ! 20 0 refl refl refl) (loc ! 12 refl)) (tt, tt) $
-            opens-at ! tt (KR .elem) b o zs i dr l′ (λ p′ _.
-            assigns ! (of-opd ! (loc ! 14 refl)) (from ! (hop ! (look ! 4 refl) (stop !))) (store-raw ! 0 refl (KR .elem .typed 𝓤 H A W r ir .0)) $
-            closes-at ! tt (KR .elem) b o zs s i r l′ p′ ir $
+            opens-at ! tt ER b o zs i dr l′ (λ p′ _.
+            assigns ! (of-opd ! (loc ! 14 refl)) (from ! (hop ! (look ! 4 refl) (stop !))) (store-raw ! 0 refl (ER .typed 𝓤 H A W r ir .0)) $
+            closes-at ! tt ER b o zs s i r l′ p′ ir $
             assigns-last ! (bin ! (loc ! 16 refl) (lit ! tt) (record { fits = next })) (from ! (stop !)) (store ! 16 refl (tt, record { fits = next })) $
             rewrite ! 0 (λ (ws′ : List (R .Denot)). ‵ (MutSlice (named 0) κ R .own (xs-at R b o γ ws′) s)) to-tab refl $
-            forget ! 4 refl $ forget ! 6 refl $ forget ! 8 refl $ forget ! 10 refl $ forget ! 12 refl $ forget ! 14 refl $ again ! (left-of (length ys)) Inv i (i + 1) (omega (arith, l)))))))
+            forget ! 4 refl $ forget ! 6 refl $ forget ! 8 refl $ forget ! 10 refl $ forget ! 12 refl $ forget ! 14 refl $ again ! (left-of (length ys)) Inv i (i + 1) (omega (arith, l))))))
             (λ h.
             let k : length ys ≤ i = nltb→le i (length ys) h in
             exec ! (𝓣 .C) (𝓣 .Λ) E (rest R X (KR .ty) (KX .ty) f) (atRet E Post) $

@@ -17,31 +17,21 @@
 --                  meets its contract
 -- The invariant: after i turns what is carried is `acc i`.
 -- Assumes nothing.
-use Rattle.walks.proofs.Walk.{_≡_, refl, sym, ap, _∙_, Bool, List, [], _∷_, ℕ, zero, suc, _+_, _*_, _^_, _<_, _≤_, arith, T, ltb, ltb→lt, nltb→le, lit<, length, getD, URA, fullShare, named, imm, w64, Ty, tyPtr, tyInt, tyBool, tyRef, Val, vint}
+use Rattle.walks.proofs.Walk.{_≡_, refl, sym, ap, _∙_, List, [], _∷_, ℕ, zero, suc, _+_, _*_, _^_, _<_, _≤_, arith, T, ltb, ltb→lt, nltb→le, lit<, length, getD, URA, fullShare, named, imm, w64, Ty, tyPtr, tyInt, tyBool, tyRef, Val, vint}
 use Rattle.walks.proofs.Walk.{SProp, ent, emp, via, fst∗, Lft, GName, Share, Fml, ftrue, fat, froom, fdies, flft, Heap, Env, WpFn, Wp, Tables, Atoms, afterBlock, afterSeq, afterTurn, atReturn}
 use Rattle.walks.proofs.Walk.{Given, Item, Sq, runs, anyQ, atRet, ‵, raw, _⊛_, ⋆, _$_, _∵_, !, qed, by, use1, move, keep, drop, split, join, rewrite, fsplit, fjoin, suffices, frame, done, look, look-raw, store, init, forget, stop, hop, from, load, lit, of-opd, bin, and-then, no-more, assigns-last, first, blocks, loops, again, Below, exec, land, returns, enter, alloc1, alloc0, params1, pass1, pass0, free0}
 use Rattle.walks.proofs.Walk.{fmOf, owns, Is, pointee, uint-makes, usize, sliceVal, sliceTy, ShrSlice, Room, slice-vals, shr-slice-tells, plain, shrSliceOf, nothing, owned, heard, onEntry, tripleOf, Contract, Triple, says, Stays, stay-dropped, walkOf, goes-dropped, ends-at, yes}
+use Rattle.walks.proofs.Walk.{Fn, Name, Body, local, valueLocal, place, field, deref, copy, int, rvOpd, op2, lt, mul, add, offset, unsigned, seq, assign, block, loop, skip, exit, cond, call, return}
+use Rattle.walks.proofs.Walk.{sep, id⊢, sem, use2, fact, RattleType, mem, now, shr-slice-copy, Clauses, Ended, closing, Meets}
 use mathlib.Core.Path.{subst}
-use base.Logic.{sep, id⊢}
-use ghost.Atoms.{sem}
-use native.Mathlib.Nat.{not-suc-le-zero, le-of-suc-le-suc, mul-le-mul-right}
+use native.Mathlib.Nat.{not-suc-le-zero, le-of-suc-le-suc}
 use native.Mathlib.Numerals.{add-one}
-use package.mir.Syntax.{Fn, Name, Body, local, valueLocal, place, field, deref, copy, int, rvOpd, op2, lt, mul, add, offset, unsigned, seq, assign, block, loop, skip, exit, cond, call, return}
 use types.Kit as Kit
-use types.Kit.{use2}
-use contract.Monad.{fact}
-use denote.RattleType.{RattleType}
-use denote.Exit.{unchanged}
 use denote.Laws.{shows}
-use denote.Memory.{mem}
-use denote.Ref.{now}
-use denote.Slice.{shr-slice-copy}
 use denote.Steps.{facts}
-use denote.Triple.Clauses.{Clauses, Ended, closing}
-use denote.Triple.Spec.{Meets}
 use Rattle.walks.specs.Fold.{foldFrom}
-use Rattle.walks.proofs.Plain.{Kind, of}
-use Rattle.walks.proofs.Tab.{plainly, xs-at, loc, fld-at, sets, resets, elem-ptr, peeks-at, shuts-at, frees0, frees1, tests, left-of, left-wf, calls-plain, meets-by}
+use Rattle.walks.proofs.Plain.{Kind, of, Letters, letters}
+use Rattle.walks.proofs.Tab.{plainly, xs-at, loc, fld-at, sets, resets, elem-ptr, peeks-at, shuts-at, frees0, frees1, tests, left-of, left-wf, calls-plain, meets-by, in-room}
 
 -- ---- the MIR
 module _ (R B : RattleType) (τr τ : Ty) (f : Name) where
@@ -119,13 +109,10 @@ module _ {Y X B : Type 0} (S : Y → X → List B → ℕ → Y) (es : List B) w
 -- ---- the walk
 module _ (KR : Kind) (d : KR .row .Denot) (fits : T (ltb (mem (of KR) .size) (2 ^ 64))) (B : RattleType) (KY : Kind) (S : KY .row .Denot → KR .row .Denot → List (B .Denot) → ℕ → KY .row .Denot) (f : Name)
     {M : Type 1} (𝓤 : URA M) (H : Heap 𝓤) (A : Atoms 𝓤) (W : Given 𝓤 H A) (𝓣 : Tables 𝓤 H) (known : Triple 𝓤 (𝓣 .C f) (Callee (of KR) B (of KY) S 𝓤 H A)) where
-  abbrev R : RattleType
-  R = of KR
+  open Letters (letters KR) using (type as R, elem as ER)
+  open Letters (letters KY) using (type as Y, elem as EY)
 
-  abbrev Y : RattleType
-  Y = of KY
-
-  module _ (κ κ₁ : Lft) (q q₁ : Share) (b o b₁ o₁ : ℕ) (γ γ₁ : GName) (ys : List (R .Denot)) (es : List (B .Denot)) (a : Y .Denot) (room : Room R (length ys)) (room₁ : Room B (length es)) (a-is : Is Y a (KY .elem .val a ∷ [])) where
+  module _ (κ κ₁ : Lft) (q q₁ : Share) (b o b₁ o₁ : ℕ) (γ γ₁ : GName) (ys : List (R .Denot)) (es : List (B .Denot)) (a : Y .Denot) (room : Room R (length ys)) (room₁ : Room B (length es)) (a-is : Is Y a (EY .val a ∷ [])) where
     abbrev s : List Val
     s = sliceVal (b, o) (length ys) ∷ []
 
@@ -133,7 +120,7 @@ module _ (KR : Kind) (d : KR .row .Denot) (fits : T (ltb (mem (of KR) .size) (2 
     s₁ = sliceVal (b₁, o₁) (length es) ∷ []
 
     abbrev y : walkOf 𝓤 H A (ended R B Y) (stayed R B Y) (clauses R B Y S 𝓤) .Ghost
-    y = (((κ, (κ₁, tt)), (q, (q₁, tt)), tt, (xs-at R b o γ ys, (xs-at B b₁ o₁ γ₁ es, (a, tt))), (s, (s₁, (KY .elem .val a ∷ [], tt)))), tt)
+    y = (((κ, (κ₁, tt)), (q, (q₁, tt)), tt, (xs-at R b o γ ys, (xs-at B b₁ o₁ γ₁ es, (a, tt))), (s, (s₁, (EY .val a ∷ [], tt)))), tt)
 
     abbrev Post : Val → SProp 𝓤
     Post = walkOf 𝓤 H A (ended R B Y) (stayed R B Y) (clauses R B Y S 𝓤) .post y
@@ -144,19 +131,19 @@ module _ (KR : Kind) (d : KR .row .Denot) (fits : T (ltb (mem (of KR) .size) (2 
     abbrev Own₁ : Fml
     Own₁ = ShrSlice (named 1) κ₁ B .own (xs-at B b₁ o₁ γ₁ es) s₁
 
-    exits : (r : Y .Denot) → r ≡ foldFrom S es 0 a ys → Is Y r (KY .elem .val r ∷ []) → ent 𝓤 (⋆ 𝓤 H A (‵ (flft κ q) ∷ ‵ (flft κ₁ q₁) ∷ [])) (Post (KY .elem .val r))
+    exits : (r : Y .Denot) → r ≡ foldFrom S es 0 a ys → Is Y r (EY .val r ∷ []) → ent 𝓤 (⋆ 𝓤 H A (‵ (flft κ q) ∷ ‵ (flft κ₁ q₁) ∷ [])) (Post (EY .val r))
     exits r e is =
         qed W (‵ (flft κ q) ∷ ‵ (flft κ₁ q₁) ∷ []) ∵
-        suffices ! _ (ends-at 𝓤 H A (ended R B Y) (stayed R B Y) (clauses R B Y S 𝓤) W y (KY .elem .val r) r (tt, (tt, (tt, tt))) (tt, (tt, (tt, tt)))) $ says ! e $
-        nothing ! $ move ! (2 ∷ 0 ∷ []) $ join ! $ move ! (1 ∷ 0 ∷ []) $ join ! $ frame ! $ nothing ! $ nothing ! $ fjoin ! $ nothing ! $ fjoin ! $ nothing ! $ fjoin ! $ frame ! $ owned ! Y (Is Y) (KY .elem .makes 𝓤 H A W) r _ is $ done !
+        suffices ! _ (ends-at 𝓤 H A (ended R B Y) (stayed R B Y) (clauses R B Y S 𝓤) W y (EY .val r) r (tt, (tt, (tt, tt))) (tt, (tt, (tt, tt)))) $ says ! e $
+        nothing ! $ move ! (2 ∷ 0 ∷ []) $ join ! $ move ! (1 ∷ 0 ∷ []) $ join ! $ frame ! $ nothing ! $ nothing ! $ fjoin ! $ nothing ! $ fjoin ! $ nothing ! $ fjoin ! $ frame ! $ owned ! Y (Is Y) (EY .makes 𝓤 H A W) r _ is $ done !
 
     -- what f is passed
     abbrev to : Y .Denot → R .Denot → ℕ → Callee R B Y S 𝓤 H A .Ghost
-    to v c j = (((κ₁, tt), (q₁, tt), tt, (v, (c, (xs-at B b₁ o₁ γ₁ es, (j, tt)))), (KY .elem .val v ∷ [], (KR .elem .val c ∷ [], (s₁, (vint w64 j ∷ [], tt))))), tt)
+    to v c j = (((κ₁, tt), (q₁, tt), tt, (v, (c, (xs-at B b₁ o₁ γ₁ es, (j, tt)))), (EY .val v ∷ [], (ER .val c ∷ [], (s₁, (vint w64 j ∷ [], tt))))), tt)
 
-    asks : (v : Y .Denot) (c : R .Denot) (j : ℕ) → Is Y v (KY .elem .val v ∷ []) → Is R c (KR .elem .val c ∷ []) → j < 2 ^ 64 → ent 𝓤 (sep 𝓤 (sem 𝓤 H A Own₁) (A .lft κ₁ q₁)) (Callee R B Y S 𝓤 H A .pre (to v c j))
+    asks : (v : Y .Denot) (c : R .Denot) (j : ℕ) → Is Y v (EY .val v ∷ []) → Is R c (ER .val c ∷ []) → j < 2 ^ 64 → ent 𝓤 (sep 𝓤 (sem 𝓤 H A Own₁) (A .lft κ₁ q₁)) (Callee R B Y S 𝓤 H A .pre (to v c j))
     asks v c j iv ic j-fits = qed W (‵ Own₁ ∷ ‵ (flft κ₁ q₁) ∷ []) ∵
-        nothing ! $ owned ! usize (Is usize) (uint-makes 𝓤 H A W w64) j _ (refl, j-fits) $ fjoin ! $ move ! (1 ∷ 0 ∷ []) $ fjoin ! $ owned ! R (Is R) (KR .elem .makes 𝓤 H A W) c _ ic $ fjoin ! $ owned ! Y (Is Y) (KY .elem .makes 𝓤 H A W) v _ iv $ fjoin ! $
+        nothing ! $ owned ! usize (Is usize) (uint-makes 𝓤 H A W w64) j _ (refl, j-fits) $ fjoin ! $ move ! (1 ∷ 0 ∷ []) $ fjoin ! $ owned ! R (Is R) (ER .makes 𝓤 H A W) c _ ic $ fjoin ! $ owned ! Y (Is Y) (EY .makes 𝓤 H A W) v _ iv $ fjoin ! $
         nothing ! $ move ! (2 ∷ 0 ∷ []) $ join ! $ join ! $ frame ! $ done !
 
     module _ (l₀ l₁ l₂ l₃ l₄ l₅ l₆ l₇ l₈ l₉ l₁₀ : ℕ) where
@@ -165,10 +152,10 @@ module _ (KR : Kind) (d : KR .row .Denot) (fits : T (ltb (mem (of KR) .size) (2 
 
       -- the invariant: the two slices with their tokens, and that what is carried is of its type; then the locals, the last first
       abbrev Inv : ℕ → List (Item 𝓤)
-      Inv i = ‵ Own ∷ ‵ (flft κ q) ∷ ‵ Own₁ ∷ ‵ (flft κ₁ q₁) ∷ ‵ (Y .own (acc S es i 0 a ys) (KY .elem .val (acc S es i 0 a ys) ∷ []))
+      Inv i = ‵ Own ∷ ‵ (flft κ q) ∷ ‵ Own₁ ∷ ‵ (flft κ₁ q₁) ∷ ‵ (Y .own (acc S es i 0 a ys) (EY .val (acc S es i 0 a ys) ∷ []))
           ∷ ‵ (froom (KR .ty) l₁₀ 0) ∷ ‵ (fdies (KR .ty) l₁₀) ∷ ‵ (froom tyPtr l₉ 0) ∷ ‵ (fdies tyPtr l₉) ∷ ‵ (froom tyBool l₈ 0) ∷ ‵ (fdies tyBool l₈) ∷ ‵ (froom (tyInt w64) l₇ 0) ∷ ‵ (fdies (tyInt w64) l₇)
           ∷ ‵ (froom (KY .ty) l₆ 0) ∷ ‵ (fdies (KY .ty) l₆) ∷ ‵ (fat fullShare (tyInt w64) l₅ 0 (vint w64 i)) ∷ ‵ (fdies (tyInt w64) l₅)
-          ∷ ‵ (fat fullShare (KY .ty) l₄ 0 (KY .elem .val (acc S es i 0 a ys))) ∷ ‵ (fdies (KY .ty) l₄) ∷ ‵ (fat fullShare (KY .ty) l₃ 0 (KY .elem .val a)) ∷ ‵ (fdies (KY .ty) l₃)
+          ∷ ‵ (fat fullShare (KY .ty) l₄ 0 (EY .val (acc S es i 0 a ys))) ∷ ‵ (fdies (KY .ty) l₄) ∷ ‵ (fat fullShare (KY .ty) l₃ 0 (EY .val a)) ∷ ‵ (fdies (KY .ty) l₃)
           ∷ ‵ (fat fullShare (slice₁ R B (KR .ty) (KY .ty) f) l₂ 0 (sliceVal (b₁, o₁) (length es))) ∷ ‵ (fdies (slice₁ R B (KR .ty) (KY .ty) f) l₂) ∷ ‵ (fat fullShare (slice R B (KR .ty) (KY .ty) f) l₁ 0 (sliceVal (b, o) (length ys))) ∷ ‵ (fdies (slice R B (KR .ty) (KY .ty) f) l₁)
           ∷ ‵ (froom (KY .ty) l₀ 0) ∷ ‵ (fdies (KY .ty) l₀) ∷ []
 
@@ -188,50 +175,49 @@ module _ (KR : Kind) (d : KR .row .Denot) (fits : T (ltb (mem (of KR) .size) (2 
           tests ! (loc ! 8 refl)
           (λ h.
           let l : i < length ys = ltb→lt i (length ys) h in
-          let l′ : i ≤ length ys = omega arith in
-          let small : i * mem R .size < 2 ^ 64 = omega (arith, mul-le-mul-right (mem R .size) l′, room .1) in
+          let small : i * mem R .size < 2 ^ 64 = in-room R i (length ys) l room in
           let next : i + 1 < 2 ^ 64 = omega (arith, room .0) in
           resets ! 10 refl (bin ! (loc ! 14 refl) (lit ! fits) (record { fits = small })) (tt, record { fits = small }) $
           sets ! 6 refl (elem-ptr ! (mem R .size) o i (fld-at ! 22 0 refl refl refl) (loc ! 10 refl)) (tt, tt) $
-          peeks-at ! tt (KR .elem) b o ys i d l (λ q′ p is.
-          sets ! 4 refl (of-opd ! (load ! (from ! (hop ! (look ! 6 refl) (stop !))) (look-raw ! 0 refl))) (KR .elem .typed 𝓤 H A W c is .0) $
-          shuts-at ! tt (KR .elem) b o ys s q′ i d l p $
+          peeks-at ! tt ER b o ys i d l (λ q′ p is.
+          sets ! 4 refl (of-opd ! (load ! (from ! (hop ! (look ! 6 refl) (stop !))) (look-raw ! 0 refl))) (ER .typed 𝓤 H A W c is .0) $
+          shuts-at ! tt ER b o ys s q′ i d l p $
           move ! (2 ∷ []) $ use1 W (‵ Own₁ ⊛ ‵ Own₁) (shr-slice-copy 𝓤 H A W (named 1) κ₁ B .twice (xs-at B b₁ o₁ γ₁ es) s₁) $ split ! $ move ! (0 ∷ 4 ∷ []) $
           use2 W (raw (Callee R B Y S 𝓤 H A .pre (to v c i))) (asks v c i iv is (omega (arith, room .0))) $
-          calls-plain ! (fmOf 𝓤 H (W .laws) 𝓣) (callee R B Y) (called R B Y S 𝓤) known (to v c i) (KY .elem) (and-then ! (loc ! 16 refl) (and-then ! (loc ! 4 refl) (and-then ! (loc ! 20 refl) (and-then ! (loc ! 14 refl) (no-more !))))) (λ r ws ir.
+          calls-plain ! (fmOf 𝓤 H (W .laws) 𝓣) (callee R B Y) (called R B Y S 𝓤) known (to v c i) EY (and-then ! (loc ! 16 refl) (and-then ! (loc ! 4 refl) (and-then ! (loc ! 20 refl) (and-then ! (loc ! 14 refl) (no-more !))))) (λ r ws ir.
           move ! (2 ∷ []) $ heard ! (r ≡ S v c es i) (λ e.
           use1 W (‵ (flft κ₁ q₁) ⊛ ‵ ftrue) (id⊢ 𝓤 _) $ split ! $ move ! (4 ∷ 5 ∷ 3 ∷ 0 ∷ []) $ move ! (4 ∷ []) $ drop ! $ move ! (4 ∷ []) $ drop ! $
           let to-acc : r ≡ acc S es (i + 1) 0 a ys = e ∙ next-acc S es d i 0 i a ys l (omega arith) ∙ ap (λ (m : ℕ). acc S es m 0 a ys) (sym (add-one i)) in
-          land ! (from ! (stop !)) (init ! 12 refl (KY .elem .typed 𝓤 H A W r ir .0)) $
-          resets ! 16 refl (of-opd ! (loc ! 12 refl)) (KY .elem .typed 𝓤 H A W r ir .0) $
+          land ! (from ! (stop !)) (init ! 12 refl (EY .typed 𝓤 H A W r ir .0)) $
+          resets ! 16 refl (of-opd ! (loc ! 12 refl)) (EY .typed 𝓤 H A W r ir .0) $
           assigns-last ! (bin ! (loc ! 14 refl) (lit ! tt) (record { fits = next })) (from ! (stop !)) (store ! 14 refl (tt, record { fits = next })) $
-          rewrite ! 16 (λ (z : Y .Denot). ‵ (fat fullShare (KY .ty) l₄ 0 (KY .elem .val z))) to-acc refl $
-          owned ! Y (Is Y) (KY .elem .makes 𝓤 H A W) (acc S es (i + 1) 0 a ys) _ (subst (λ (z : Y .Denot). Is Y z (KY .elem .val z ∷ [])) to-acc ir) $ move ! (1 ∷ 2 ∷ 3 ∷ 4 ∷ 0 ∷ []) $
+          rewrite ! 16 (λ (z : Y .Denot). ‵ (fat fullShare (KY .ty) l₄ 0 (EY .val z))) to-acc refl $
+          owned ! Y (Is Y) (EY .makes 𝓤 H A W) (acc S es (i + 1) 0 a ys) _ (subst (λ (z : Y .Denot). Is Y z (EY .val z ∷ [])) to-acc ir) $ move ! (1 ∷ 2 ∷ 3 ∷ 4 ∷ 0 ∷ []) $
           forget ! 5 refl $ forget ! 7 refl $ forget ! 9 refl $ forget ! 11 refl $ forget ! 13 refl $ again ! (left-of (length ys)) Inv i (i + 1) (omega (arith, l))))))
           (λ h.
           exec ! (𝓣 .C) (𝓣 .Λ) E (rest R B (KR .ty) (KY .ty) f) (atRet E Post) $
-          sets ! 24 refl (of-opd ! (loc ! 16 refl)) (KY .elem .typed 𝓤 H A W v iv .0) $
+          sets ! 24 refl (of-opd ! (loc ! 16 refl)) (EY .typed 𝓤 H A W v iv .0) $
           returns ! (look ! 24 refl) $ frees1 ! 24 refl refl $ frees1 ! 22 refl refl $ frees1 ! 20 refl refl $ frees1 ! 18 refl refl $ frees1 ! 16 refl refl $ frees1 ! 14 refl refl $ frees0 ! 12 refl refl $ frees1 ! 10 refl refl $ frees1 ! 8 refl refl $ frees0 ! 6 refl refl $ frees0 ! 4 refl refl $ free0 ! $
           keep ! (1 ∷ 3 ∷ []) $ by ! (exits v (all-acc S es i 0 a ys (nltb→le i (length ys) h)) iv)))
 
-    walk : ent 𝓤 (onEntry 𝓤 H A (ended R B Y .signature) (y .0 .0) (y .0 .1) (y .0 .3) (y .0 .4)) (WpFn 𝓤 H (𝓣 .C) (𝓣 .Λ) (function R B (KR .ty) (KY .ty) f) (sliceVal (b, o) (length ys) ∷ sliceVal (b₁, o₁) (length es) ∷ KY .elem .val a ∷ []) Post)
+    walk : ent 𝓤 (onEntry 𝓤 H A (ended R B Y .signature) (y .0 .0) (y .0 .1) (y .0 .3) (y .0 .4)) (WpFn 𝓤 H (𝓣 .C) (𝓣 .Λ) (function R B (KR .ty) (KY .ty) f) (sliceVal (b, o) (length ys) ∷ sliceVal (b₁, o₁) (length es) ∷ EY .val a ∷ []) Post)
     unfolding acc
     walk =
         qed W ((‵ (flft κ q) ⊛ ‵ (flft κ₁ q₁) ⊛ ‵ ftrue) ∷ ‵ (owns (ShrSlice (named 0) κ R ∷ ShrSlice (named 1) κ₁ B ∷ Y ∷ []) (y .0 .3) (y .0 .4)) ∷ []) ∵
-        enter ! (𝓣 .C) (𝓣 .Λ) (function R B (KR .ty) (KY .ty) f) (sliceVal (b, o) (length ys) ∷ sliceVal (b₁, o₁) (length es) ∷ KY .elem .val a ∷ []) _ $
+        enter ! (𝓣 .C) (𝓣 .Λ) (function R B (KR .ty) (KY .ty) f) (sliceVal (b, o) (length ys) ∷ sliceVal (b₁, o₁) (length es) ∷ EY .val a ∷ []) _ $
         alloc1 ! (λ l₀. alloc1 ! (λ l₁. alloc1 ! (λ l₂. alloc1 ! (λ l₃. alloc1 ! (λ l₄. alloc1 ! (λ l₅. alloc1 ! (λ l₆. alloc1 ! (λ l₇. alloc1 ! (λ l₈. alloc1 ! (λ l₉. alloc1 ! (λ l₁₀. alloc0 ! $ params1 ! $
-        pass1 ! (init ! 18 refl (tt, (tt, (record { fits = room .0 }, tt)))) $ pass1 ! (init ! 16 refl (tt, (tt, (record { fits = room₁ .0 }, tt)))) $ pass1 ! (init ! 14 refl (KY .elem .typed 𝓤 H A W a a-is .0)) $ pass0 ! $
+        pass1 ! (init ! 18 refl (tt, (tt, (record { fits = room .0 }, tt)))) $ pass1 ! (init ! 16 refl (tt, (tt, (record { fits = room₁ .0 }, tt)))) $ pass1 ! (init ! 14 refl (EY .typed 𝓤 H A W a a-is .0)) $ pass0 ! $
         move ! (23 ∷ []) $ fsplit ! $ move ! (1 ∷ []) $ fsplit ! $ move ! (1 ∷ []) $ drop ! $
         -- [what the other owns; what t owns; _10 ..; the tokens]
         move ! (24 ∷ []) $ split ! $ move ! (1 ∷ []) $ split ! $ move ! (1 ∷ []) $ drop ! $ move ! (3 ∷ 1 ∷ 2 ∷ 0 ∷ []) $
-        sets ! 16 refl (of-opd ! (loc ! 18 refl)) (KY .elem .typed 𝓤 H A W a a-is .0) $
+        sets ! 16 refl (of-opd ! (loc ! 18 refl)) (EY .typed 𝓤 H A W a a-is .0) $
         sets ! 14 refl (of-opd ! (lit ! tt)) (tt, record { fits = lit< tt }) $
-        owned ! Y (Is Y) (KY .elem .makes 𝓤 H A W) a _ a-is $ move ! (1 ∷ 2 ∷ 3 ∷ 4 ∷ 0 ∷ []) $
+        owned ! Y (Is Y) (EY .makes 𝓤 H A W) a _ a-is $ move ! (1 ∷ 2 ∷ 3 ∷ 4 ∷ 0 ∷ []) $
         first ! $ blocks ! $ loops ! 𝓣 (left-of (length ys)) (left-wf (length ys)) (Inv l₀ l₁ l₂ l₃ l₄ l₅ l₆ l₇ l₈ l₉ l₁₀) (turns l₀ l₁ l₂ l₃ l₄ l₅ l₆ l₇ l₈ l₉ l₁₀) 0)))))))))))
 
   pub fold-meets : Meets 𝓤 H A (ended R B Y .signature) (WpFn 𝓤 H (𝓣 .C) (𝓣 .Λ) (function R B (KR .ty) (KY .ty) f)) (closing 𝓤 H A (ended R B Y) (clauses R B Y S 𝓤))
   fold-meets =
       meets-by 𝓤 H A W (ended R B Y) (stayed R B Y) (goes-dropped 𝓤 H A W 2 (shrSliceOf (0 ∷ []) tt (plain (λ _. R))) yes (λ κs z f. refl), (goes-dropped 𝓤 H A W 2 (shrSliceOf (1 ∷ []) tt (plain (λ _. B))) yes (λ κs z f. refl), (goes-dropped 𝓤 H A W 2 (plain (λ _. Y)) yes (λ κs z f. refl), tt)))
       (clauses R B Y S 𝓤) (function R B (KR .ty) (KY .ty) f) 𝓣
-      (λ κs. (slice-vals, (slice-vals, ((λ z. KY .elem .val z ∷ []), tt)))) (λ κs. (shr-slice-tells (named 0) (κs .0) R, (shr-slice-tells (named 1) (κs .1 .0) B, (KY .elem .tells, tt))))
+      (λ κs. (slice-vals, (slice-vals, ((λ z. EY .val z ∷ []), tt)))) (λ κs. (shr-slice-tells (named 0) (κs .0) R, (shr-slice-tells (named 1) (κs .1 .0) B, (EY .tells, tt))))
       (λ κs qs bounds x g are. via 𝓤 _ (fst∗ 𝓤 _ (emp 𝓤)) (walk (κs .0) (κs .1 .0) (qs .0) (qs .1 .0) (x .0 .ptr .0) (x .0 .ptr .1) (x .1 .0 .ptr .0) (x .1 .0 .ptr .1) (x .0 .name) (x .1 .0 .name) (x .0 .now) (x .1 .0 .now) (x .1 .1 .0) (are .0 .0 .1) (are .1 .0 .0 .1) (are .1 .1 .0)))
