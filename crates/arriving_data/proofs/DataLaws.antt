@@ -1,6 +1,6 @@
 -- Laws of an arrival of Data: what a payload within P has shown, and its step over the whole of what is lent.
 -- Assumes nothing.
-use mathlib.Core.Path.{_≡_, sym, ap, ap₂, _∙_}
+use mathlib.Core.Path.{_≡_, sym, ap, _∙_}
 use mathlib.Core.Bool.{Bool, true, false, _&&_}
 use mathlib.Core.List.{List}
 use Prim.Native.Nat.{ℕ, _≤_}
@@ -19,7 +19,7 @@ use Rattle.receiver_keeps.proofs.Keeps.{data-sized}
 use Rattle.table.specs.declared.deciding.Decision.{Decision}
 use Rattle.table.specs.Lent.{areaOf}
 use Rattle.table.specs.Surveying.{mine, mineLens, stepping, Served}
-use Rattle.table.proofs.Parts.{own-mem, own-lens, filed}
+use Rattle.table.proofs.Parts.{parts-filed}
 use Rattle.arriving_reply.specs.Replying.{repliedBy}
 use Rattle.arriving_data.specs.Data.{unfit, dataFor}
 
@@ -44,10 +44,8 @@ pub data-files : (node : Node) (f : Fields) (p : List ℕ) (c : Channel) (d : De
     → o ≡ repliedBy (r .answer) node (c .addresses) true (f .number) out
     → works r (putMid (d .spot .octet) j mem m) (putMid (d .spot .slot) k lens l) o ≡ stepping (dataFor node f p) c d mem lens out
 data-files node f p c d mem lens out dir s few r m l o j k ej ek er em el eo =
-    let zm : m ≡ dataMem c (f .number) p (mine c d mem) = em ∙ ap (λ (x : List ℕ). dataMem c (f .number) p x) (own-mem c d mem lens j ej) in
-    let zl : l ≡ dataLens c (f .number) p (mineLens c d lens) = el ∙ ap (λ (x : List ℕ). dataLens c (f .number) p x) (own-lens c d mem lens k ek) in
-    let zo : o ≡ repliedBy (dataStep c (f .number) (f .flags) .answer) node (c .addresses) true (f .number) out =
-    eo ∙ ap (λ (x : Stepped). repliedBy (x .answer) node (c .addresses) true (f .number) out) er in
-    let sized = data-sized c (mineLens c d lens) dir (s .standing) (f .number) p (mine c d mem) few (s .sized) in
-    filed (dataFor node f p) c d mem lens out r m l o j k ej ek (ap length zm ∙ sized .exact) (ap length zl ∙ sized .each)
-    (sym (ap₂ (λ (x : Stepped) (y : List ℕ). works x m l y) er zo ∙ ap₂ (λ (x y : List ℕ). works (dataStep c (f .number) (f .flags)) x y (repliedBy (dataStep c (f .number) (f .flags) .answer) node (c .addresses) true (f .number) out)) zm zl))
+    parts-filed (dataFor node f p) c d mem lens out j k ej ek (dataMem c (f .number) p) (dataLens c (f .number) p) r (dataStep c (f .number) (f .flags)) m l o er
+    em el
+    (data-sized c (mineLens c d lens) dir (s .standing) (f .number) p (mine c d mem) few (s .sized))
+    (ap (λ (y : List ℕ). works (dataStep c (f .number) (f .flags)) (dataMem c (f .number) p (mine c d mem)) (dataLens c (f .number) p (mineLens c d lens)) y)
+    (sym (eo ∙ ap (λ (x : Stepped). repliedBy (x .answer) node (c .addresses) true (f .number) out) er)))

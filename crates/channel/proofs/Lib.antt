@@ -2,3 +2,4 @@ pub mod SettingsLaws
 pub mod StandingLaws
 pub mod MadeLaws
 pub mod TableLaws
+pub mod FixedLaws

@@ -1,29 +1,27 @@
 -- A channel that fit settings make stands, and so does one whose opening begins.
 -- Assumes nothing.
-use mathlib.Core.Path.{_≡_, refl, sym, ap, _∙_}
-use mathlib.Core.Bool.{Bool, true, false}
+use mathlib.Core.Path.{_≡_, refl, ap, _∙_}
+use mathlib.Core.Bool.{Bool, true}
 use mathlib.Core.List.{List}
-use Prim.Native.Nat.{ℕ, _≤_, _<_, _+_, _-_, zero-le}
+use Prim.Native.Nat.{ℕ, _≤_, _<_, _-_, zero-le}
 use native.Mathlib.Nat.{not-suc-le-zero}
 use native.Mathlib.Omega.{arith}
-use borrow.Author.Tests.{leb-true, lt-ltb, le-leb}
-use lib.Dec.{leb, ltb, eqb}
-use lib.ListN.{length, getD, replicate, getD-replicate}
-use Rattle.laws.specs.Choice.{if_then_else_}
-use Rattle.laws.proofs.Choice.{both}
+use borrow.Author.Tests.{lt-ltb, le-leb}
+use lib.Dec.{leb, eqb}
+use lib.ListN.{length, getD, getD-replicate}
+use Rattle.laws.proofs.Choice.{both, either}
 use Rattle.channel.specs.declared.record.Settings.{Settings}
-use Rattle.channel.specs.declared.record.Limits.{Limits}
 use Rattle.channel.specs.declared.record.Lone.{Lone}
 use Rattle.channel.specs.declared.record.Channel.{Channel}
-use Rattle.channel.specs.Record.{sends, madeOf, freshWindow, noMarks, noLone}
-use Rattle.channel.specs.Settings.{fit, fitLimits, Fit}
+use Rattle.channel.specs.Record.{sends, madeOf, freshWindow, noMarks}
+use Rattle.channel.specs.Settings.{fit, fitLimits}
 use Rattle.slots.specs.Slots.{slotOf}
 use Rattle.channel.specs.Standing.{named, inRing, inFlight, sided, slotFit, Standing}
 use Rattle.channel.specs.Steps.{enabledOf}
 use Rattle.channel.proofs.SettingsLaws.{fit-is}
 
 -- a free slot fits
-free-fits : (sending : Bool) (most len : ℕ) → slotFit sending most 0 len ≡ true
+pub free-fits : (sending : Bool) (most len : ℕ) → slotFit sending most 0 len ≡ true
 unfolding slotFit
 free-fits sending most len = refl
 
@@ -64,15 +62,10 @@ module _ (c : Channel) (lens : List ℕ) (w : c .window ≡ freshWindow) (m : c 
 -- a fresh window is as it must be at either end, in every state
 fresh-sided : (direction state : ℕ) → sided direction state freshWindow ≡ true
 unfolding sided
-fresh-sided direction state = go (eqb direction sends)
+fresh-sided direction state = either IsTrue (eqb direction sends) _ true (either IsTrue (eqb state 2) true true refl refl) refl
   where
-    in-state : (t : Bool) → (if t then true else true) ≡ true
-    in-state true = refl
-    in-state false = refl
-
-    go : (t : Bool) → (if t then (if eqb state 2 then true else true) else true) ≡ true
-    go true = in-state (eqb state 2)
-    go false = refl
+    IsTrue : Bool → Type 0
+    IsTrue b = b ≡ true
 
 -- settings that are fit make a channel that stands
 pub made-stands : (s : Settings) (lens : List ℕ) → fit s ≡ true → length lens ≡ s .limits .slots → Standing (madeOf s) lens

@@ -1,23 +1,23 @@
 -- Laws of the standing condition: slot by slot, and from the test to the facts and back.
 -- Assumes nothing.
 use mathlib.Core.Path.{_≡_, refl, sym, ap, _∙_}
-use mathlib.Core.Bool.{Bool, true, false, _&&_}
+use mathlib.Core.Bool.{Bool, true, false, _&&_, and-assoc}
 use mathlib.Core.List.{List}
 use Prim.Native.Nat.{ℕ, zero, suc, _+_, _-_, _≤_, _<_, zero-le, suc-le-suc}
 use native.Mathlib.Omega.{arith}
 use lib.ListN.{length, getD}
 use native.Mathlib.Nat.{not-suc-le-zero, le-of-suc-le-suc, add-zero, zero-add, add-suc, lt-irrefl}
-use borrow.Author.Tests.{ltb-true, leb-true, eqb-true, eq-eqb}
+use borrow.Author.Tests.{lt-ltb, le-leb, ltb-true, leb-true, eqb-true, eq-eqb}
 use lib.Dec.{eqb}
 use Rattle.slots.specs.Slots.{slotOf}
-use Rattle.ring.specs.Ring.{roundOf, backOf, runOf}
+use Rattle.ring.specs.Ring.{runOf}
 use Rattle.ring.proofs.Laws.{back-lt, run-set, run-is}
 use Rattle.channel.specs.declared.record.Channel.{Channel}
 use Rattle.channel.specs.Record.{sends, heldIn}
-use Rattle.laws.proofs.Choice.{both, in-turn}
+use Rattle.laws.proofs.Choice.{both}
 use Rattle.channel.specs.declared.record.Limits.{Limits}
 use Rattle.channel.specs.declared.record.Window.{Window}
-use Rattle.channel.specs.Standing.{inRing, inFlight, marked, oldestOf, slotFit, slotsFit, standing, Standing, Counted}
+use Rattle.channel.specs.Standing.{named, inRing, inFlight, marked, oldestOf, slotFit, slotsFit, standing, Standing, Counted}
 use Rattle.channel.specs.Asked.{Ringed}
 use Rattle.channel.proofs.SettingsLaws.{fit-is}
 
@@ -44,7 +44,7 @@ slots-split slot sending most marks lens (suc m) n i =
     let e : suc m + n ≡ suc (m + n) = omega arith in
     let p : i + 1 + m ≡ i + suc m = omega (arith, add-suc i m) in
     let rest = slots-split slot sending most marks lens m n (i + 1) in
-    rw (e, rest, p) (in-turn (slotFit sending most (getD marks i 0) (getD lens (slot i) 0)) (slotsFit slot sending most marks lens m (i + 1)) _)
+    rw (e, rest, p) (sym (and-assoc (slotFit sending most (getD marks i 0) (getD lens (slot i) 0)) (slotsFit slot sending most marks lens m (i + 1)) _))
 
 -- from the i-th place on, up to the j-th, and then up to the n-th
 pub slots-on : (slot : ℕ → ℕ) (sending : Bool) (most : ℕ) (marks lens : List ℕ) (n i j : ℕ) → i ≤ j → j ≤ n
@@ -111,6 +111,64 @@ counted-is l w r f =
       way = leb-true _ _ (p2 .1);
       unit = ltb-true _ _ (p .1);
     }
+
+-- and back
+pub counted-ring : (l : Limits) (w : Window) → Counted l w → inRing l w ≡ true
+unfolding inRing
+counted-ring l w k =
+    simp (
+      lt-ltb (w .place) (l .slots) (k .place),
+      le-leb (w .behind) (l .slots) (omega (arith, k .held)),
+      le-leb (w .ahead) (l .slots - w .behind) (omega (arith, k .held)),
+    )
+
+pub counted-flight : (l : Limits) (w : Window) → Counted l w → inFlight l w ≡ true
+unfolding inFlight
+counted-flight l w k =
+    simp (
+      le-leb (w .flight) (w .ahead) (k .flight),
+      le-leb (w .flight) (l .window) (k .window),
+      le-leb (w .way) (w .behind) (k .way),
+      lt-ltb (w .way) (l .segments) (k .unit),
+    )
+
+-- the small numbers
+pub record Named (c : Channel) : Type 0 where
+  pub direction : c .addresses .direction ≤ 1
+  pub state : c .state ≤ 3
+  pub reason : c .reason ≤ 5
+  pub kept : c .kept ≤ 1
+  pub accepted : c .accepted ≤ 1
+  pub control : c .control .state ≤ 3
+
+pub named-is : (c : Channel) → named c ≡ true → Named c
+unfolding named
+named-is c e =
+    let n5 = both _ _ e in
+    let n4 = both _ _ (n5 .0) in
+    let n3 = both _ _ (n4 .0) in
+    let n2 = both _ _ (n3 .0) in
+    let n1 = both _ _ (n2 .0) in
+    record {
+      direction = leb-true _ _ (n1 .0);
+      state = leb-true _ _ (n1 .1);
+      reason = leb-true _ _ (n2 .1);
+      kept = leb-true _ _ (n3 .1);
+      accepted = leb-true _ _ (n4 .1);
+      control = leb-true _ _ (n5 .1);
+    }
+
+pub is-named : (c : Channel) → Named c → named c ≡ true
+unfolding named
+is-named c n =
+    simp (
+      le-leb _ _ (n .direction),
+      le-leb _ _ (n .state),
+      le-leb _ _ (n .reason),
+      le-leb _ _ (n .kept),
+      le-leb _ _ (n .accepted),
+      le-leb _ _ (n .control),
+    )
 
 -- what the steps ask of the numbers
 pub ringed : (c : Channel) (lens : List ℕ) → Standing c lens → Ringed (c .limits) (c .window)

@@ -1,12 +1,11 @@
 -- The window's start, counted on from its 8 bits.
 -- Assumes nothing.
 use mathlib.Core.Path.{_≡_, refl, sym, ap, _∙_}
-use mathlib.Core.Bool.{Bool, true, false}
-use Prim.Native.Nat.{ℕ, _+_, _-_, _%_, _≤_, _<_}
+use Prim.Native.Nat.{ℕ, _+_, _-_, _≤_, _<_}
 use native.Mathlib.Omega.{arith}
 use lib.Dec.{eqb}
 use borrow.Author.Tests.{eqb-true, eqb-false}
-use Rattle.laws.specs.Choice.{if_then_else_}
+use Rattle.laws.proofs.Choice.{by-test}
 use Rattle.channel.specs.declared.record.Channel.{Channel}
 use Rattle.channel.specs.Record as state
 use Rattle.protocol.specs.Numbers.{numberAt, distance}
@@ -22,22 +21,15 @@ pub distance-on : (a d : ℕ) → d < 256 → distance (numberAt (a + d)) (numbe
 unfolding distance numberAt
 distance-on a d h = omega arith
 
-either-count : (b : Bool) (n m : ℕ) → (b ≡ true → n + m ≡ n) → (if b then n + m else n) ≡ n
-either-count true n m e = e refl
-either-count false n m e = refl
-
 -- a call that leaves the start
 pub counted-same : (n : ℕ) (before c : Channel) → (c .state ≡ state.opened → c .window .start ≡ before .window .start) → countedOn n before c ≡ n
 counted-same n before c e =
-    either-count (eqb (c .state) state.opened) n (distance (c .window .start) (before .window .start))
+    by-test (λ (k : ℕ). k ≡ n) (eqb (c .state) state.opened) _ n
     (λ q.
     let z : distance (c .window .start) (before .window .start) ≡ 0
     = ap (λ (w : ℕ). distance w (before .window .start)) (e (eqb-true (c .state) state.opened q)) ∙ distance-none (before .window .start)
     in omega (arith, z))
-
-on-count : (b : Bool) (n m k : ℕ) → (b ≡ true → n + m ≡ k) → (b ≡ false → n ≡ k) → (if b then n + m else n) ≡ k
-on-count true n m k e f = e refl
-on-count false n m k e f = f refl
+    (λ q. refl)
 
 -- a call that moves it from the a-th to the b-th segment, in OPEN
 pub counted-on : (n a b : ℕ) (before c : Channel) → n ≡ a → a ≤ b → b < a + 256
@@ -46,7 +38,7 @@ pub counted-on : (n a b : ℕ) (before c : Channel) → n ≡ a → a ≤ b → 
     → ((c .state ≡ state.opened → ⊥) → a ≡ b)
     → countedOn n before c ≡ b
 counted-on n a b before c at low high old new still =
-    on-count (eqb (c .state) state.opened) n (distance (c .window .start) (before .window .start)) b
+    by-test (λ (k : ℕ). k ≡ b) (eqb (c .state) state.opened) _ n
     (λ q.
     let is : c .state ≡ state.opened = eqb-true (c .state) state.opened q in
     let sum : a + (b - a) ≡ b = omega arith in

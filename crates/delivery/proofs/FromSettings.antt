@@ -10,6 +10,7 @@ use lib.ListN.{length, getD}
 use borrow.Author.Tests.{eqb-true}
 use lib.Dec.{eqb}
 use Rattle.laws.proofs.Choice.{both}
+use Rattle.laws.proofs.Numbers.{either-side}
 use Rattle.walks.specs.Serving.{Changed}
 use Rattle.channel.specs.declared.answer.Answer.{Answer}
 use Rattle.channel.specs.declared.record.Node.{Node}
@@ -21,7 +22,6 @@ use Rattle.channel.specs.Tables.{fitTable}
 use Rattle.channel.proofs.TableLaws.{table-apart}
 use Rattle.table.specs.Serving.{unset, recordAt}
 use Rattle.node_keeps.specs.Keeping.{Wide}
-use Rattle.node_keeps.proofs.Parts.{either-side}
 use Rattle.node_settings.specs.Configuring.{madeTable, settled, configured}
 use Rattle.node_settings.proofs.Promises.{settings-done, settings-lawful, settings-closed}
 use Rattle.delivery.specs.Delivery.{Fresh}

@@ -2,7 +2,7 @@
 -- channel does not name this one.
 -- Assumes nothing.
 use mathlib.Core.Path.{_≡_, refl, sym, ap, ap₂, _∙_, subst}
-use mathlib.Core.Bool.{Bool, true, false, not, true≢false, _&&_, _||_}
+use mathlib.Core.Bool.{Bool, true, false, true≢false, _&&_, _||_}
 use mathlib.Core.List.{List}
 use Prim.Native.Nat.{ℕ, _+_, _≤_, _<_}
 use native.Mathlib.Omega.{arith}
@@ -10,31 +10,26 @@ use borrow.Author.Tests.{eqb-true, eqb-false, ne-eqb}
 use lib.Dec.{ltb, eqb}
 use lib.ListN.{length}
 use Rattle.laws.specs.Choice.{if_then_else_}
-use Rattle.laws.proofs.Choice.{chosen, passed-by, both}
+use Rattle.laws.proofs.Choice.{either-way, chosen, passed-by}
 use Rattle.packet.specs.declared.fields.Fields.{Fields}
 use Rattle.packet.specs.Layout.{fieldsAt, lengthAt}
-use Rattle.packet_read.specs.declared.reading.Read.{Read}
-use Rattle.packet_read.proofs.ReadLaws.{read-found}
 use Rattle.channel.specs.declared.record.Addresses.{Addresses}
 use Rattle.channel.specs.declared.record.Channel.{Channel}
 use Rattle.channel.specs.declared.answer.Answer.{Answer}
 use Rattle.channel.specs.declared.answer.Answer.the-variants.{Refused}
-use Rattle.channel.specs.declared.answer.Refusal.the-variants as refusal
 use Rattle.channel.specs.declared.step.Stepped.{Stepped}
 use Rattle.channel.specs.Answers.{numberOf, confirmedOf}
 use Rattle.channel.specs.Record.{sends, receives}
-use Rattle.channel.specs.Record as state
-use Rattle.channel.specs.Lone.{isOut}
-use Rattle.channel.specs.Steps.{refusing, doing}
-use Rattle.sender_acks.specs.Acks.{controlAcked, controlAckStep, dataAckStep}
+use Rattle.sender_acks.specs.Acks.{controlAckStep, dataAckStep}
 use Rattle.table.specs.declared.looking.Look.{Look}
 use Rattle.table.specs.Looking.{looksFor, same, graded, chosen as choice}
+use Rattle.table.proofs.OneLaws.{same-direction}
 use Rattle.table.specs.Serving.{recordAt}
 use Rattle.steps_arriving.specs.Arriving.{arriveBy, payloadIn, arrivalFor, Framed}
-use Rattle.arriving_look.specs.Finding.{isOurs, lookOf}
+use Rattle.arriving_look.specs.Finding.{lookOf}
 use Rattle.arriving_data.specs.Data.{unfit}
 use Rattle.steps_arriving.proofs.ArriveLaws.{framed, by-data-ack, by-control-ack}
-use Rattle.arriving_look.proofs.FindLaws.{Read-well, found-packet}
+use Rattle.arriving_look.proofs.FindLaws.{found-packet}
 use Rattle.node_calls.specs.Calls.{arrived}
 use Rattle.node_keeps.specs.Keeping.{Given}
 use Rattle.node_keeps.proofs.StepsKeep.{arrival-keeps}
@@ -45,39 +40,28 @@ use Rattle.protocol.specs.Sending as sending
 use Rattle.protocol.specs.Sending.{Sender, SenderCall, senderStep, acknowledged}
 use Rattle.protocol.specs.Receiving.{Receiver}
 use Rattle.protocol.specs.History as protocol
+use Rattle.sender_keeps.proofs.Cases.{control-ack-cases}
 use Rattle.sender_means.proofs.Sends.{Sends, open-state, state-opened}
 use Rattle.sender_means.proofs.Controls.{control-ack-sends}
 use Rattle.sender_means.proofs.Acks.{ack-sends, ack-near}
 use Rattle.delivery.specs.Calls.{End, arrives, Request, channelOf}
-use Rattle.delivery.specs.History.{Event, namesBy, names, kindOf, Replied, is, confirmed}
+use Rattle.delivery.specs.History.{Event, names, kindOf, Replied, confirmed}
 use Rattle.delivery.specs.Delivery.{NotLate}
 use Rattle.delivery.proofs.Nodes.{endWith}
 use Rattle.delivery.proofs.Known.{limits}
 use Rattle.delivery.proofs.HostFrame.{hostEvent, host-next}
 use Rattle.delivery.proofs.Own.{Seen, Left, own-cases}
-use Rattle.delivery.proofs.Packets.{named-is, same-clash}
+use Rattle.delivery.proofs.Packets.{named-is, names-so, same-clash}
 use Rattle.delivery.proofs.HostNow.{HostAt, asking, own, octets, lengths, own-below, own-addresses, own-sends, own-limits, asked, small, alone-here, Next, waits-on, stays-so, counts, was-open, moves-on}
 
 -- ---- what a packet that is found a channel has shown
 
-names-so : (e : End) (packet : List ℕ) → Read-well packet → isOurs (e .node) (fieldsAt packet) ≡ true → same (channelOf e .addresses) (fieldsAt packet) ≡ true
-    → names e packet ≡ true
-names-so e packet w ours is =
-    ap (λ (r : Read). namesBy r (e .node) (channelOf e .addresses)) (read-found packet (w .short) (w .damaged) (w .lacking) (w .strange))
-    ∙ ap₂ (λ (p q : Bool). p && q) ours is
-
 -- a sender is looked for by Acks alone
-same-direction : (a : Addresses) (f : Fields) → same a f ≡ true → a .direction ≡ looksFor (f .kind)
-unfolding same
-same-direction a f e =
-    eqb-true (a .direction) (looksFor (f .kind)) (both (eqb (a .channel) (f .channel) && eqb (a .remote) (f .source)) (eqb (a .direction) (looksFor (f .kind))) e .1)
-
 ack-kinds : (kind : ℕ) → looksFor kind ≡ sends → eqb kind 1 ≡ false → kind ≡ 7
-ack-kinds kind e one = go (eqb kind 7) refl
-  where
-    go : (b : Bool) → eqb kind 7 ≡ b → kind ≡ 7
-    go true q = eqb-true kind 7 q
-    go false q = absurd (omega (arith, sym e ∙ passed-by (eqb kind 1 || eqb kind 7) sends receives (ap₂ (λ (a b : Bool). a || b) one q)))
+ack-kinds kind e one =
+    either-way (eqb kind 7)
+    (λ q. eqb-true kind 7 q)
+    (λ q. absurd (omega (arith, sym e ∙ passed-by (eqb kind 1 || eqb kind 7) sends receives (ap₂ (λ (a b : Bool). a || b) one q))))
 
 -- no Ack is Data
 fit-ack : (c : Channel) (f : Fields) (x : ℕ) → (f .kind ≡ 0 → ⊥) → unfit c f x ≡ false
@@ -86,21 +70,8 @@ fit-ack c f x e = ap (λ (b : Bool). b && ltb (c .limits .payload) x) (ne-eqb (f
 
 -- a Control Ack confirms nothing
 control-confirms : (c : Channel) (number : ℕ) → confirmedOf (controlAckStep c number .answer) ≡ 0
-unfolding controlAckStep
-control-confirms c number = go (eqb (c .state) state.enabled || eqb (c .state) state.closing) (eqb number 0) (isOut (c .control))
-  where
-    by : Bool → Bool → Bool → Stepped
-    by p q r =
-        if not p then refusing c refusal.State
-        else if not q then refusing c refusal.Ignored
-        else if not r then refusing c refusal.Ignored
-        else doing (controlAcked c) 0
-
-    go : (p q r : Bool) → confirmedOf (by p q r .answer) ≡ 0
-    go false q r = refl
-    go true false r = refl
-    go true true false = refl
-    go true true true = refl
+control-confirms c number =
+    control-ack-cases c (λ (s : Stepped). confirmedOf (s .answer) ≡ 0) number refl refl (λ e. refl) (λ e. refl) (λ e. refl)
 
 -- ---- what the protocol's ack leaves
 

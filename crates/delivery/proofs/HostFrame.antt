@@ -1,32 +1,28 @@
 -- A call at the host, seen at the channel that is watched: what is to be shown of it, and the case where it changes nothing there.
 -- Assumes nothing.
-use mathlib.Core.Path.{_≡_, refl, sym, ap, _∙_, subst}
-use mathlib.Core.Bool.{Bool, true, false, true≢false, _&&_}
-use mathlib.Core.List.{List, [], _∷_}
-use mathlib.Core.Logic.{_⊎_, inl, inr, ⊎-elim}
-use Prim.Native.Nat.{ℕ, _≤_, _+_}
-use native.Mathlib.Omega.{arith}
-use lib.Dec.{eqb}
-use lib.ListN.{length}
+use mathlib.Core.Path.{_≡_, refl, sym, _∙_, subst}
+use mathlib.Core.Bool.{Bool, true, false, true≢false}
+use mathlib.Core.List.{List, _∷_}
+use mathlib.Core.Logic.{_⊎_, inr, ⊎-elim}
+use Prim.Native.Nat.{ℕ, _≤_}
 use Rattle.laws.specs.Choice.{if_then_else_}
 use Rattle.packet.specs.Layout.{fieldsAt}
 use Rattle.channel.specs.declared.record.Channel.{Channel}
 use Rattle.channel.specs.declared.answer.Answer.{Answer}
-use Rattle.channel.specs.Record as state
 use Rattle.steps_arriving.specs.Arriving.{payloadIn}
-use Rattle.protocol.specs.Numbers.{numberAt, distance}
+use Rattle.protocol.specs.Numbers.{numberAt}
 use Rattle.protocol.specs.Units.{DataUnit, Segment}
 use Rattle.protocol.specs.Ends as ends
-use Rattle.protocol.specs.Ends.{Limits, fresh}
+use Rattle.protocol.specs.Ends.{fresh}
 use Rattle.protocol.specs.Sending.{Sender, SenderCall, senderStep}
 use Rattle.protocol.specs.Receiving.{Receiver}
 use Rattle.protocol.specs.History as protocol
 use Rattle.protocol.proofs.Invariant.{Inv}
 use Rattle.units_held.specs.Meaning.{carried}
 use Rattle.sender_means.proofs.Sends.{Sends}
-use Rattle.delivery.specs.Calls.{End, opens, transfers, reclaims, hands, Request, countedOn}
-use Rattle.delivery.specs.History.{host, subscriber, Call, Event, is, granted, written, names, kindOf, segmentOf, HandedOut, Replied, openings, accepted, confirmed, reclaimed, taken}
-use Rattle.delivery.proofs.Known.{Out, Back, limits, InvOf, Numbered, inv-links}
+use Rattle.delivery.specs.Calls.{End, hands, Request, countedOn}
+use Rattle.delivery.specs.History.{host, Call, Event, is, written, names, kindOf, segmentOf, openings, accepted, confirmed, reclaimed, taken}
+use Rattle.delivery.proofs.Known.{Out, Back, back-later, limits, InvOf, Numbered, inv-links}
 use Rattle.delivery.proofs.Counting.{counted-same}
 use Rattle.delivery.proofs.Protocol.{FairAck, sender-keeps}
 
@@ -75,9 +71,6 @@ module _ (h s : End) (past : List Event) (y : Receiver) where
           is-ack = b .is-ack;
         }
 
-    back-up : (i : ℕ) → Back h s past i → Back h s (event ∷ past) i
-    back-up i b = record { packet = b .packet; replied = inr (b .replied); named = b .named; is-ack = b .is-ack }
-
     -- what must be known of a Data packet that it hands out to the other end: its number, and the segment, which the protocol has handed out
     abbrev pub Handing : SenderCall → Type 0
     Handing k =
@@ -120,7 +113,7 @@ module _ (h s : End) (past : List Event) (y : Receiver) where
 
         kept : Inv (limits h s) (protocol.acceptedBy k said (accepted h past)) (protocol.confirmedBy k said (confirmed h past)) (protocol.reclaimedBy k said (reclaimed h past)) (taken s past) (Out h s (event ∷ past)) (Back h s (event ∷ past)) x2 y
         kept =
-            inv-links out-down back-down back-up
+            inv-links out-down back-down (back-later h s past event)
             (sender-keeps (limits h s) small (accepted h past) (confirmed h past) (reclaimed h past) (taken s past) (Out h s past) (Back h s past) x y v k fair)
 
         inv2 : InvOf h s (event ∷ past) x2 y

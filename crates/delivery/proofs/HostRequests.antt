@@ -1,15 +1,14 @@
 -- Requests at the host, by the index of a channel: each keeps what is known of the channel that is watched.
 -- Assumes nothing.
 use mathlib.Core.Path.{_≡_, refl, sym, ap, ap₂, _∙_, subst}
-use mathlib.Core.Bool.{Bool, true, false, not, true≢false, _&&_}
+use mathlib.Core.Bool.{Bool, true, false, true≢false, _&&_}
 use mathlib.Core.List.{List, [], _∷_}
 use Prim.Native.Nat.{ℕ, suc}
 use native.Mathlib.Omega.{arith}
-use borrow.Author.Tests.{eq-eqb, ne-eqb}
+use borrow.Author.Tests.{eqb-false, eq-eqb, ne-eqb}
 use lib.Dec.{ltb, eqb}
 use lib.ListN.{length}
-use Rattle.laws.specs.Choice.{if_then_else_}
-use Rattle.laws.proofs.Choice.{chosen, passed-by}
+use Rattle.laws.proofs.Choice.{chosen, passed-by, last-not}
 use Rattle.walks.specs.Serving.{works}
 use Rattle.channel.specs.declared.record.Channel.{Channel}
 use Rattle.channel.specs.declared.answer.Answer.{Answer}
@@ -17,10 +16,9 @@ use Rattle.channel.specs.declared.answer.Answer.the-variants.{Refused}
 use Rattle.channel.specs.declared.answer.Refusal.the-variants as refusal
 use Rattle.channel.specs.declared.step.Stepped.{Stepped}
 use Rattle.channel.specs.Answers.{numberOf}
-use Rattle.channel.specs.Record.{sends, receives, heldIn}
+use Rattle.channel.specs.Record.{sends, receives}
 use Rattle.channel.specs.Record as state
-use Rattle.channel.specs.Lone.{readyLone}
-use Rattle.channel.specs.Steps.{refusing, doing, enabledOf}
+use Rattle.channel.specs.Steps.{refusing}
 use Rattle.sender.specs.Directives as sender
 use Rattle.receiver_data.specs.Taking.{takeStep, takeOut}
 use Rattle.table.specs.declared.looking.Look.the-variants.{Index}
@@ -35,6 +33,8 @@ use Rattle.node_keeps.proofs.CallsAlone.{shapes, alone-called}
 use Rattle.protocol.specs.Ends.{rank}
 use Rattle.protocol.specs.Sending.{Sender, SenderCall}
 use Rattle.protocol.specs.Receiving.{Receiver}
+use Rattle.sender_keeps.proofs.Cases.{open-cases}
+use Rattle.sender_keeps.proofs.Refusals.{open-unchanged}
 use Rattle.sender_means.proofs.Controls.{close-sends, open-sends}
 use Rattle.delivery.specs.Calls.{End, Kind, opens, closes, transfers, takes, reclaims}
 use Rattle.delivery.specs.History.{host, Event, granted, openings}
@@ -51,10 +51,6 @@ pub data Named : Kind → Type 0 where
   a-transfers : Named transfers
   a-takes : Named takes
   a-reclaims : Named reclaims
-
-pub both-false : (a b : Bool) → b ≡ false → (a && b) ≡ false
-both-false true b e = e
-both-false false b e = refl
 
 module _ {h s : End} {past : List Event} {x : Sender} {y : Receiver} {t : List Channel} {mem lens : List ℕ} {n : ℕ}
     (k : HostAt h s past x y t mem lens n) where
@@ -77,7 +73,7 @@ module _ {h s : End} {past : List Event} {x : Sender} {y : Receiver} {t : List C
       → Seen P (h .index) (serveOne (Index i) step t mem lens out)
   by-index P i step out shaped quiet mine =
       own-cases (Index i) step t mem lens out shaped (h .index) (own-below k) P
-      (λ why. quiet (Refused why) out (both-false (eqb i (h .index)) (eqb (numberOf (Refused why)) 0) (refused-not-done why)))
+      (λ why. quiet (Refused why) out (last-not (eqb i (h .index)) (eqb (numberOf (Refused why)) 0) (refused-not-done why)))
       (λ j there apart at g.
       let w = workedAt (Index i) step t mem lens out shaped (h .index) (own-below k) j in
       quiet (w .made .answer) (w .out)
@@ -86,36 +82,11 @@ module _ {h s : End} {past : List Event} {x : Sender} {y : Receiver} {t : List C
 
 -- ---- the Open directive
 
--- refused it changes nothing, and done it leads to ENABLED
-open-refused : (c : Channel) → eqb (numberOf (sender.openStep c .answer)) 0 ≡ false → sender.openStep c .channel ≡ c
-unfolding sender.openStep
-open-refused c = go (eqb (c .state) state.closed) (eqb (heldIn (c .window)) 0)
-  where
-    by : Bool → Bool → Stepped
-    by p q =
-        if not p then refusing c refusal.State
-        else if not q then refusing c refusal.Untaken
-        else doing (enabledOf c readyLone) 0
-
-    go : (p q : Bool) → eqb (numberOf (by p q .answer)) 0 ≡ false → by p q .channel ≡ c
-    go false q e = refl
-    go true false e = refl
-    go true true e = absurd (true≢false e)
-
+-- done it leads to ENABLED
 open-enables : (c : Channel) → eqb (numberOf (sender.openStep c .answer)) 0 ≡ true → sender.openStep c .channel .state ≡ state.enabled
-unfolding sender.openStep
-open-enables c = go (eqb (c .state) state.closed) (eqb (heldIn (c .window)) 0)
-  where
-    by : Bool → Bool → Stepped
-    by p q =
-        if not p then refusing c refusal.State
-        else if not q then refusing c refusal.Untaken
-        else doing (enabledOf c readyLone) 0
-
-    go : (p q : Bool) → eqb (numberOf (by p q .answer)) 0 ≡ true → by p q .channel .state ≡ state.enabled
-    go false q e = absurd (true≢false (sym e))
-    go true false e = absurd (true≢false (sym e))
-    go true true e = refl
+open-enables c =
+    open-cases c (λ (s : Stepped). eqb (numberOf (s .answer)) 0 ≡ true → s .channel .state ≡ state.enabled)
+    (λ e. absurd (true≢false (sym e))) (λ e. absurd (true≢false (sym e))) (λ e. refl)
 
 module _ {h s : End} {past : List Event} {x : Sender} {y : Receiver} {t : List Channel} {mem lens : List ℕ} {n : ℕ}
     (k : HostAt h s past x y t mem lens n) where
@@ -135,8 +106,8 @@ module _ {h s : End} {past : List Event} {x : Sender} {y : Receiver} {t : List C
 
       go : (q : Bool) → eqb (numberOf a) 0 ≡ q → Next k (asking opens i u b) copy a o c (octets k) (lengths k)
       go false q =
-          subst (λ (c : Channel). Next k (asking opens i u b) copy a o c (octets k) (lengths k)) (sym (open-refused (own k) q))
-          (request-quiet k an-opens copy i u b a o (both-false (eqb i (h .index)) (eqb (numberOf a) 0) q))
+          subst (λ (c : Channel). Next k (asking opens i u b) copy a o c (octets k) (lengths k)) (sym (open-unchanged (own k) (eqb-false _ _ q)))
+          (request-quiet k an-opens copy i u b a o (last-not (eqb i (h .index)) (eqb (numberOf a) 0) q))
       go true q =
           let w = open-sends (own k) (octets k) (lengths k) x (asked k) (own-sends k) (k .now .means) (λ z. k .now .waits (once q)) in
           let on = ltb (rank (x .phase)) (rank (w .phase)) in
@@ -194,4 +165,4 @@ module _ {h s : End} {past : List Event} {x : Sender} {y : Receiver} {t : List C
       (λ at rank.
       subst (Left P) (sym (take-here (own k) rank (octets k) (lengths k) b (own-sends k)))
       (request-quiet k a-takes copy i u b (Refused refusal.State) b
-      (both-false (eqb i (h .index)) (eqb (numberOf (Refused refusal.State)) 0) (refused-not-done refusal.State))))
+      (last-not (eqb i (h .index)) (eqb (numberOf (Refused refusal.State)) 0) (refused-not-done refusal.State))))

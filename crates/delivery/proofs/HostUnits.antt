@@ -1,15 +1,15 @@
 -- A unit handed over to the host, and one given back: each keeps what is known of the channel that is watched.
 -- Assumes nothing.
 use mathlib.Core.Path.{_≡_, refl, sym, ap, ap₂, _∙_, subst}
-use mathlib.Core.Bool.{Bool, true, false, not, true≢false, _&&_}
+use mathlib.Core.Bool.{Bool, true, false, true≢false, _&&_}
 use mathlib.Core.List.{List, [], _∷_, _++_}
 use Prim.Native.Nat.{ℕ, _+_, _-_}
-use borrow.Author.Tests.{eqb-true, eq-eqb}
-use lib.Dec.{ltb, leb, eqb}
+use borrow.Author.Tests.{eqb-false, eqb-true, eq-eqb}
+use lib.Dec.{leb, eqb}
 use lib.ListN.{length, take, drop}
 use lib.Seq.{take-at}
 use Rattle.laws.specs.Choice.{if_then_else_}
-use Rattle.laws.proofs.Choice.{chosen}
+use Rattle.laws.proofs.Choice.{chosen, last-not}
 use Rattle.slots.specs.Slots.{slotOf, laid}
 use Rattle.store.specs.Store.{octetsIn}
 use Rattle.walks.specs.Serving.{works}
@@ -19,10 +19,9 @@ use Rattle.channel.specs.declared.answer.Refusal.the-variants as refusal
 use Rattle.channel.specs.declared.step.Stepped.{Stepped}
 use Rattle.channel.specs.Answers.{numberOf, lengthOf}
 use Rattle.channel.specs.Record.{sends}
-use Rattle.channel.specs.Record as state
-use Rattle.channel.specs.Steps.{refusing, doing}
+use Rattle.channel.specs.Steps.{refusing}
 use Rattle.sender_units.specs.Transfer.{transferStep, transferMem, transferLens}
-use Rattle.sender_units.specs.Reclaiming.{unitAt, sizeAt, dropped, reclaimStep, reclaimOut}
+use Rattle.sender_units.specs.Reclaiming.{unitAt, sizeAt, reclaimStep, reclaimOut}
 use Rattle.table.specs.declared.looking.Look.the-variants.{Index}
 use Rattle.steps.specs.Requests.{transferFor, reclaimFor}
 use Rattle.node_calls.specs.Calls.{transferred, reclaimed}
@@ -34,6 +33,8 @@ use Rattle.protocol.specs.Ends.{Limits, Phase, fresh, enabled, rank, isOpen}
 use Rattle.protocol.specs.Sending as sending
 use Rattle.protocol.specs.Sending.{Sender, SenderCall, senderStep}
 use Rattle.protocol.specs.Receiving.{Receiver}
+use Rattle.sender_keeps.proofs.Cases.{reclaim-out-cases}
+use Rattle.sender_keeps.proofs.Refusals.{reclaim-unchanged}
 use Rattle.sender_means.proofs.Sends.{Sends}
 use Rattle.sender_means.proofs.Transfers.{transfer-sends}
 use Rattle.sender_means.proofs.Reclaims.{reclaim-sends}
@@ -43,7 +44,7 @@ use Rattle.delivery.specs.History.{Event, accepted}
 use Rattle.delivery.proofs.Known.{limits}
 use Rattle.delivery.proofs.HostFrame.{hostEvent, host-next}
 use Rattle.delivery.proofs.Own.{Seen, Left}
-use Rattle.delivery.proofs.HostRequests.{a-transfers, a-reclaims, both-false, request-quiet, by-index}
+use Rattle.delivery.proofs.HostRequests.{a-transfers, a-reclaims, request-quiet, by-index}
 use Rattle.delivery.proofs.HostNow.{HostAt, asking, own, octets, lengths, own-sends, own-limits, asked, small, Next, waits-on, counts-same, was-open}
 
 -- ---- a unit is handed over
@@ -111,49 +112,16 @@ module _ {h s : End} {past : List Event} {x : Sender} {y : Receiver} {t : List C
 
 -- ---- a unit is given back
 
--- refused it changes nothing
-reclaim-refused : (c : Channel) (lens : List ℕ) (n : ℕ) → eqb (numberOf (reclaimStep c lens n .answer)) 0 ≡ false → reclaimStep c lens n .channel ≡ c
-unfolding reclaimStep
-reclaim-refused c lens n = go (eqb (c .state) state.closed) (eqb (c .window .ahead) 0) (ltb n (sizeAt c lens))
-  where
-    by : Bool → Bool → Bool → Stepped
-    by p q r =
-        if not p then refusing c refusal.State
-        else if q then refusing c refusal.Nothing
-        else if r then refusing c refusal.Small
-        else doing (dropped c (unitAt c)) (sizeAt c lens)
-
-    go : (p q r : Bool) → eqb (numberOf (by p q r .answer)) 0 ≡ false → by p q r .channel ≡ c
-    go false q r e = refl
-    go true true r e = refl
-    go true false true e = refl
-    go true false false e = absurd (true≢false e)
-
 -- done it writes the unit
 reclaim-writes : (c : Channel) (mem lens out : List ℕ) → eqb (numberOf (reclaimStep c lens (length out) .answer)) 0 ≡ true
     → (lengthOf (reclaimStep c lens (length out) .answer) ≡ sizeAt c lens)
     × (reclaimOut c lens mem out ≡ laid out 0 (octetsIn slotOf (c .limits .payload) mem lens (c .limits .slots) (unitAt c) (c .window .place)))
-unfolding reclaimStep reclaimOut
-reclaim-writes c mem lens out = go (eqb (c .state) state.closed) (eqb (c .window .ahead) 0) (ltb (length out) (sizeAt c lens))
-  where
-    unit : List ℕ
-    unit = octetsIn slotOf (c .limits .payload) mem lens (c .limits .slots) (unitAt c) (c .window .place)
-
-    by : Bool → Bool → Bool → Stepped
-    by p q r =
-        if not p then refusing c refusal.State
-        else if q then refusing c refusal.Nothing
-        else if r then refusing c refusal.Small
-        else doing (dropped c (unitAt c)) (sizeAt c lens)
-
-    out-by : Bool → Bool → Bool → List ℕ
-    out-by p q r = if not p then out else if q then out else if r then out else laid out 0 unit
-
-    go : (p q r : Bool) → eqb (numberOf (by p q r .answer)) 0 ≡ true → (lengthOf (by p q r .answer) ≡ sizeAt c lens) × (out-by p q r ≡ laid out 0 unit)
-    go false q r e = absurd (true≢false (sym e))
-    go true true r e = absurd (true≢false (sym e))
-    go true false true e = absurd (true≢false (sym e))
-    go true false false e = (refl, refl)
+reclaim-writes c mem lens out =
+    reclaim-out-cases c lens mem out
+    (λ (s : Stepped) (o : List ℕ). eqb (numberOf (s .answer)) 0 ≡ true
+    → (lengthOf (s .answer) ≡ sizeAt c lens)
+    × (o ≡ laid out 0 (octetsIn slotOf (c .limits .payload) mem lens (c .limits .slots) (unitAt c) (c .window .place))))
+    (λ e. absurd (true≢false (sym e))) (λ e. absurd (true≢false (sym e))) (λ e. absurd (true≢false (sym e))) (λ e. (refl, refl))
 
 laid-first : (out u : List ℕ) → take (length u) (laid out 0 u) ≡ u
 unfolding laid
@@ -203,8 +171,8 @@ module _ {h s : End} {past : List Event} {x : Sender} {y : Receiver} {t : List C
 
       go : (q : Bool) → eqb (numberOf a) 0 ≡ q → Next k (asking reclaims i u b) copy a o c (octets k) (lengths k)
       go false q =
-          subst (λ (c : Channel). Next k (asking reclaims i u b) copy a o c (octets k) (lengths k)) (sym (reclaim-refused (own k) (lengths k) (length b) q))
-          (request-quiet k a-reclaims copy i u b a o (both-false (eqb i (h .index)) (eqb (numberOf a) 0) q))
+          subst (λ (c : Channel). Next k (asking reclaims i u b) copy a o c (octets k) (lengths k)) (sym (reclaim-unchanged (own k) (lengths k) (octets k) b (eqb-false _ _ q) .0))
+          (request-quiet k a-reclaims copy i u b a o (last-not (eqb i (h .index)) (eqb (numberOf a) 0) q))
       go true q =
           let w : Given (limits h s)
           = subst Given (own-limits k)

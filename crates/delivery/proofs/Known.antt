@@ -1,12 +1,11 @@
 -- The invariant of a run: two ends of the protocol that the two records mean, the protocol's invariant over the readings of the real history, and
 -- what the packets in it carry.
 -- Assumes nothing.
-use mathlib.Core.Path.{_≡_, refl, sym, ap, _∙_, subst}
-use mathlib.Core.Bool.{Bool, true, false}
-use mathlib.Core.List.{List, [], _∷_}
-use mathlib.Core.Logic.{_⊎_, inl, inr, ⊎-elim}
+use mathlib.Core.Path.{_≡_}
+use mathlib.Core.Bool.{true}
+use mathlib.Core.List.{List, _∷_}
+use mathlib.Core.Logic.{inr}
 use Prim.Native.Nat.{ℕ, _≤_}
-use lib.ListN.{length}
 use Rattle.packet.specs.Layout.{fieldsAt}
 use Rattle.channel.specs.declared.record.Channel.{Channel}
 use Rattle.table.specs.Serving.{recordAt, ownMem, ownLens}
@@ -41,6 +40,10 @@ module _ (h s : End) where
     pub replied : Replied past i packet
     pub named : names h packet ≡ true
     pub is-ack : kindOf packet ≡ 1
+
+  -- what was replied stays so
+  pub back-later : (past : List Event) (e : Event) (i : ℕ) → Back past i → Back (e ∷ past) i
+  back-later past e i b = record { packet = b .packet; replied = inr (b .replied); named = b .named; is-ack = b .is-ack }
 
   abbrev pub limits : Limits
   limits = limitsOf (channelOf h .limits)

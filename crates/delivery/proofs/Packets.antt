@@ -1,12 +1,11 @@
 -- Packets as the two ends see them: what is known of one that names a channel, and that no two channels of a table are named by one.
 -- Assumes nothing.
-use mathlib.Core.Path.{_≡_, refl, sym, ap, _∙_, subst}
+use mathlib.Core.Path.{_≡_, refl, sym, ap, ap₂, _∙_}
 use mathlib.Core.Bool.{Bool, true, false, true≢false, _&&_}
 use mathlib.Core.List.{List, []}
-use Prim.Native.Nat.{ℕ, _<_}
+use Prim.Native.Nat.{ℕ}
 use borrow.Author.Tests.{eqb-true, eq-eqb}
 use lib.Dec.{eqb}
-use lib.ListN.{length}
 use Rattle.laws.specs.Choice.{if_then_else_}
 use Rattle.laws.proofs.Choice.{both}
 use Rattle.packet.specs.declared.fields.Fields.{Fields}
@@ -15,13 +14,13 @@ use Rattle.packet.specs.Tests.{short, damaged, lacking, strange}
 use Rattle.packet_read.specs.declared.reading.Read.{Read}
 use Rattle.packet_read.specs.declared.reading.Read.the-variants.{Found, Short, Damaged, Strange, Lacking}
 use Rattle.packet_read.specs.Reading.{readOf}
+use Rattle.packet_read.proofs.ReadLaws.{read-found}
 use Rattle.channel.specs.declared.record.Node.{Node}
 use Rattle.channel.specs.declared.record.Addresses.{Addresses}
-use Rattle.channel.specs.declared.answer.Answer.{Answer}
 use Rattle.channel.specs.declared.answer.Answer.the-variants.{Refused}
 use Rattle.channel.specs.declared.answer.Refusal.{Refusal}
 use Rattle.channel.specs.declared.answer.Refusal.the-variants as refusal
-use Rattle.channel.specs.Answers.{numberOf, refusalNumber}
+use Rattle.channel.specs.Answers.{numberOf}
 use Rattle.channel.specs.Settings.{clash}
 use Rattle.table.specs.Looking.{looksFor, same}
 use Rattle.arriving_look.specs.Finding.{isOurs}
@@ -55,6 +54,13 @@ pub named-is : (e : End) (packet : List ℕ) → names e packet ≡ true → Nam
 unfolding readOf
 named-is e packet n =
     named-by (e .node) (channelOf e .addresses) packet (short packet) (damaged packet) (lacking (fieldsAt packet)) (strange (fieldsAt packet) (lengthAt packet)) refl refl refl refl n
+
+-- and back
+pub names-so : (e : End) (packet : List ℕ) → Read-well packet → isOurs (e .node) (fieldsAt packet) ≡ true → same (channelOf e .addresses) (fieldsAt packet) ≡ true
+    → names e packet ≡ true
+names-so e packet w ours is =
+    ap (λ (r : Read). namesBy r (e .node) (channelOf e .addresses)) (read-found packet (w .short) (w .damaged) (w .lacking) (w .strange))
+    ∙ ap₂ (λ (p q : Bool). p && q) ours is
 
 pub names-nothing : (e : End) → names e [] ≡ false
 unfolding readOf short

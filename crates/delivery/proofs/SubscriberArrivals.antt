@@ -2,7 +2,7 @@
 -- to a later phase, or nothing; and what is for another channel changes nothing here, and has no Data Ack for the host.
 -- Assumes nothing.
 use mathlib.Core.Path.{_≡_, refl, sym, ap, _∙_, subst}
-use mathlib.Core.Bool.{Bool, true, false, true≢false, _&&_, _||_}
+use mathlib.Core.Bool.{Bool, true, false, true≢false, _||_}
 use mathlib.Core.List.{List, []}
 use mathlib.Core.Logic.{_⊎_, ⊎-elim}
 use Prim.Native.Nat.{ℕ, _≤_, _<_}
@@ -10,11 +10,9 @@ use native.Mathlib.Omega.{arith}
 use borrow.Author.Tests.{eqb-true, eqb-false}
 use lib.Dec.{eqb}
 use lib.ListN.{length, take, drop, length-take}
-use Rattle.laws.proofs.Choice.{both, neither, chosen}
+use Rattle.laws.proofs.Choice.{neither}
 use Rattle.packet.specs.declared.fields.Fields.{Fields}
 use Rattle.packet.specs.Layout.{fieldsAt, lengthAt, payloadAt}
-use Rattle.packet_read.specs.declared.reading.Read.{Read}
-use Rattle.packet_read.proofs.ReadLaws.{read-found}
 use Rattle.walks.specs.Serving.{Worked}
 use Rattle.channel.specs.declared.record.Addresses.{Addresses}
 use Rattle.channel.specs.declared.record.Channel.{Channel}
@@ -22,19 +20,20 @@ use Rattle.channel.specs.declared.answer.Answer.{Answer}
 use Rattle.channel.specs.declared.answer.Answer.the-variants.{Refused}
 use Rattle.channel.specs.declared.answer.Refusal.the-variants as refusal
 use Rattle.channel.specs.declared.step.Stepped.{Stepped}
-use Rattle.channel.specs.Record.{sends, receives}
+use Rattle.channel.specs.Record.{receives}
 use Rattle.channel.specs.Answers.{lengthOf}
 use Rattle.channel.specs.Settings.{clash}
 use Rattle.receiver.specs.Receiving.{controlStep}
 use Rattle.table.specs.declared.looking.Look.{Look}
-use Rattle.table.specs.Looking.{looksFor, same, chosen as choice}
+use Rattle.table.specs.Looking.{same, chosen as choice}
+use Rattle.table.proofs.OneLaws.{acks-find}
 use Rattle.table.specs.Serving.{recordAt, ownMem, ownLens}
 use Rattle.steps_arriving.specs.Arriving.{arriveBy, payloadIn, arrivalFor, Framed}
 use Rattle.arriving_look.specs.Finding.{isOurs, lookOf}
 use Rattle.arriving_data.specs.Data.{unfit}
 use Rattle.arriving_reply.specs.Replying.{repliedBy}
 use Rattle.steps_arriving.proofs.ArriveLaws.{by-unfit, by-data, by-control}
-use Rattle.arriving_look.proofs.FindLaws.{Read-well, found-packet}
+use Rattle.arriving_look.proofs.FindLaws.{found-packet}
 use Rattle.arriving_data.proofs.DataLaws.{fit-payload}
 use Rattle.node_keeps.specs.Keeping.{Given}
 use Rattle.node_keeps.proofs.StepsKeep.{arrival-keeps}
@@ -43,26 +42,14 @@ use Rattle.protocol.specs.Sending.{Sender}
 use Rattle.protocol.specs.Receiving.{Receiver}
 use Rattle.receiver_means.proofs.Control.{control-receives}
 use Rattle.delivery.specs.Calls.{End, arrives, Request, channelOf, calledBy}
-use Rattle.delivery.specs.History.{Event, namesBy, names, kindOf, HandedOut}
+use Rattle.delivery.specs.History.{Event, names, kindOf, HandedOut}
 use Rattle.delivery.specs.Delivery.{NotLate}
 use Rattle.delivery.proofs.Own.{Seen, Left, own-cases}
 use Rattle.delivery.proofs.Nodes.{endWith, same-length, same-addresses}
-use Rattle.delivery.proofs.Packets.{named-is, equal-clash}
+use Rattle.delivery.proofs.Packets.{named-is, names-so, equal-clash}
 use Rattle.delivery.proofs.Replies.{control-twelve, Acks, reply-written, ack-named, arrival-framed, arrival-wrote}
 use Rattle.delivery.proofs.SubscriberData.{data-next}
 use Rattle.delivery.proofs.SubscriberEnd.{Stage, below, addresses-are, receiving, not-sending, asked, Next, Unreplied, unwritten, quiet, moves-next}
-
--- ---- small facts
-
-both-true : (a b : Bool) → a ≡ true → b ≡ true → (a && b) ≡ true
-both-true a b p q = simp (p, q)
-
--- Acks look for a sender
-ack-sends : (a : Addresses) (f : Fields) → same a f ≡ true → (eqb (f .kind) 1 || eqb (f .kind) 7) ≡ true → a .direction ≡ sends
-unfolding same
-ack-sends a f e k =
-    eqb-true (a .direction) (looksFor (f .kind)) (both (eqb (a .channel) (f .channel) && eqb (a .remote) (f .source)) (eqb (a .direction) (looksFor (f .kind))) e .1)
-    ∙ chosen (eqb (f .kind) 1 || eqb (f .kind) 7) sends receives k
 
 -- ---- the arrival
 
@@ -151,9 +138,7 @@ module _ {h s : End} {past : List Event} {x : Sender} {y : Receiver} {t : List C
     for-us : names s packet ≡ true
     for-us =
         let q = found-packet (s .node) packet (length buffer) i c (subst (λ (k : ℕ). k < 3) (g .suits) (g .found)) in
-        let r : Read-well packet = q .1 in
-        ap (λ (k : Read). namesBy k (s .node) (channelOf s .addresses)) (read-found packet (r .short) (r .damaged) (r .lacking) (r .strange))
-        ∙ both-true (isOurs (s .node) f) (same (channelOf s .addresses) f) (q .2) (ap (λ (a : Addresses). same a f) (sym (addresses-are w)) ∙ told .ours)
+        names-so s packet (q .1) (q .2) (ap (λ (a : Addresses). same a f) (sym (addresses-are w)) ∙ told .ours)
 
     short-payload : unfit c f count ≡ false → f .kind ≡ 0 → length p ≤ c .limits .payload
     short-payload fit kind = omega (arith, fit-payload c f count fit kind, length-take count (drop (payloadAt f) packet))
@@ -168,7 +153,7 @@ module _ {h s : End} {past : List Event} {x : Sender} {y : Receiver} {t : List C
         let q = fair for-us in
         subst Made (sym (by-data (s .node) f count p c rank m l buffer fit kind))
         (data-next w channel packet buffer copy for-us kind (q .0) (q .1 kind) (told .room) (told .flags) (short-payload fit kind))
-    by-kind fit false k true k17 = absurd (not-sending w (ack-sends (c .addresses) f (told .ours) k17))
+    by-kind fit false k true k17 = absurd (not-sending w (acks-find (c .addresses) f (told .ours) k17))
     by-kind fit false k false k17 =
         let other = neither (eqb (f .kind) 1) (eqb (f .kind) 7) k17 in
         let opens : Bool = eqb (f .kind) 2 in

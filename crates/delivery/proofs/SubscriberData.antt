@@ -46,8 +46,8 @@ use Rattle.delivery.specs.History.{Event, namesBy, names, HandedOut}
 use Rattle.delivery.specs.Delivery.{NotLate}
 use Rattle.delivery.proofs.Own.{Left}
 use Rattle.delivery.proofs.Nodes.{endWith}
-use Rattle.delivery.proofs.Known.{Out, Back, limits}
-use Rattle.delivery.proofs.SubscriberFrame.{Replying, back-up, subscriber-next, no-reply}
+use Rattle.delivery.proofs.Known.{back-later, Out, Back, limits}
+use Rattle.delivery.proofs.SubscriberFrame.{Replying, subscriber-next, no-reply}
 use Rattle.delivery.proofs.Replies.{Twelve, data-twelve, Acks, ack-written, ack-names}
 use Rattle.delivery.proofs.SubscriberEnd.{opened-rank, Stage, addresses-are, receiving, asked, limits-are, small, Next, unwritten, counted-next, quiet}
 
@@ -172,7 +172,7 @@ module _ {h s : End} {past : List Event} {x : Sender} {y : Receiver} {t : List C
                 named = ack-for-host (take (lengthOf a) (outOf a)) k;
                 is-ack = ap (λ (g : Fields). g .kind) (k .fields);
               })
-              (λ q. back-up h s past x y (w .inv) (w .numbered) (small w) request copy n a (outOf a) j q)
+              (λ q. back-later h s past _ j q)
               (subst (Acked j) e b);
         }
 

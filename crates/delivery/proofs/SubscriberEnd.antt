@@ -9,7 +9,7 @@ use native.Mathlib.Omega.{arith}
 use borrow.Author.Tests.{eq-eqb, ltb-true}
 use lib.Dec.{eqb, ltb}
 use lib.ListN.{length}
-use Rattle.laws.proofs.Choice.{passed-by}
+use Rattle.laws.proofs.Choice.{passed-by, first-not, last-not}
 use Rattle.channel.specs.declared.record.Addresses.{Addresses}
 use Rattle.channel.specs.declared.record.Channel.{Channel}
 use Rattle.channel.specs.declared.answer.Answer.{Answer}
@@ -35,14 +35,6 @@ use Rattle.delivery.proofs.Packets.{names-nothing}
 use Rattle.delivery.proofs.SubscriberFrame.{subscriberCall, subscriberEvent, SubscriberNext, subscriber-next, no-reply, subscriber-quiet}
 
 -- ---- which calls are granted
-
-last-not : (a b : Bool) → b ≡ false → (a && b) ≡ false
-last-not true b e = e
-last-not false b e = refl
-
-first-not : (a b : Bool) → a ≡ false → (a && b) ≡ false
-first-not true b e = ap (λ (z : Bool). z && b) e
-first-not false b e = refl
 
 -- none that is not answered 0
 pub unanswered : (side : Side) (kind : Kind) (index : ℕ) (e : Event) → eqb (numberOf (e .answer)) 0 ≡ false → granted side kind index e ≡ false

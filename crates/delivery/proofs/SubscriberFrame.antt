@@ -20,7 +20,7 @@ use Rattle.protocol.proofs.Invariant.{Inv}
 use Rattle.receiver_means.proofs.Receives.{Receives}
 use Rattle.delivery.specs.Calls.{End, arrives, Request, countedOn}
 use Rattle.delivery.specs.History.{subscriber, Call, Event, is, written, names, kindOf, openings, accepted, confirmed, reclaimed, taken}
-use Rattle.delivery.proofs.Known.{Out, Back, limits, InvOf, Numbered, inv-links}
+use Rattle.delivery.proofs.Known.{Out, Back, back-later, limits, InvOf, Numbered, inv-links}
 use Rattle.delivery.proofs.Counting.{counted-same}
 use Rattle.delivery.proofs.Protocol.{FairData, receiver-keeps}
 
@@ -88,9 +88,6 @@ module _ (h s : End) (past : List Event) (x : Sender) where
           → protocol.ackedBy k (receiverStep (limits h s) y k .1) j (Back h s past j)
       pub up : (j : ℕ) → protocol.ackedBy k (receiverStep (limits h s) y k .1) j (Back h s past j) → Back h s (event ∷ past) j
 
-    pub back-up : (i : ℕ) → Back h s past i → Back h s (event ∷ past) i
-    back-up i b = record { packet = b .packet; replied = inr (b .replied); named = b .named; is-ack = b .is-ack }
-
     pub subscriber-next : (k : ReceiverCall)
         → FairData (limits h s) small (accepted h past) (confirmed h past) (reclaimed h past) (taken s past) (Out h s past) (Back h s past) x y v k
         → taken s (event ∷ past) ≡ protocol.takenBy k (receiverStep (limits h s) y k .1) (taken s past)
@@ -143,7 +140,7 @@ module _ (h s : End) (past : List Event) (x : Sender) where
         record {
           number = λ j packet is wrote at named ack. absurd (none-written packet is wrote named ack);
           down = λ j packet is wrote at named ack. absurd (none-written packet is wrote named ack);
-          up = λ j b. back-up j (same j b);
+          up = λ j b. back-later h s past event j (same j b);
         }
 
     -- a call that leaves the channel and every account as they were

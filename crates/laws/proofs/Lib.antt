@@ -1,3 +1,4 @@
 pub mod Settle
 pub mod Choice
 pub mod Lists
+pub mod Numbers

@@ -13,8 +13,9 @@ use lib.ListN.{length}
 use lib.Seq.{getD-set-same, getD-set-other}
 use Rattle.laws.specs.Choice.{if_then_else_}
 use Rattle.laws.proofs.Choice.{passed-by}
+use Rattle.laws.proofs.Numbers.{either-side}
 use Rattle.slots.specs.Slots.{Sized, laid}
-use Rattle.slots.proofs.Laws.{laid-here, laid-before, laid-after}
+use Rattle.slots.proofs.Laws.{laid-here, laid-before, laid-after, laid-elsewhere}
 use Rattle.packet.specs.declared.fields.Fields.{Fields}
 use Rattle.walks.specs.Serving.{Worked, Called, leaves}
 use Rattle.channel.specs.declared.record.Addresses.{Addresses}
@@ -33,7 +34,7 @@ use Rattle.table.proofs.ServeLaws.{Lawful, lawful-is, found-below}
 use Rattle.node_keeps.specs.Keeping.{Given, Kept, OthersStay, SameOwn, SameFor, addressesOf, OwnChannelAlone}
 use Rattle.node_keeps.proofs.Storing.{slots-before, octets-before}
 use Rattle.node_keeps.proofs.Serving.{slots-inside, octets-inside, worked, serve-missing, serve-found, given, serve-cases}
-use Rattle.node_keeps.proofs.Parts.{slots-order, octets-order, part-elsewhere, either-side}
+use Rattle.node_keeps.proofs.Parts.{slots-order, octets-order}
 
 -- what a step must keep for this: the limits, and the size of memory and lengths
 pub record Shaped (c : Channel) (w : Worked Stepped) : Type 0 where
@@ -64,11 +65,11 @@ module _ (t : List Channel) (mem lens : List ℕ) (h : Lawful t mem lens) (i : �
         records = λ j other. getD-set-other t i j (w .made .channel) blank other;
         octets = λ j less other.
             ap₂ (λ (at : ℕ) (c : Channel). partOf at (areaOf (c .limits)) (laid mem (octetAt t i) (w .mem))) (octets-before (w .made .channel) t i j (k .limits)) (getD-set-other t i j (w .made .channel) blank other)
-            ∙ part-elsewhere mem (octetAt t i) (w .mem) in-mem (octetAt t j) (areaOf (recordAt t j .limits))
+            ∙ laid-elsewhere mem (octetAt t i) (w .mem) in-mem (octetAt t j) (areaOf (recordAt t j .limits))
             (⊎-elim (λ b. inl (octets-order t j i b less)) (λ a. inr (omega (arith, octets-order t i j a below, k .sized .exact))) (either-side j i other));
         lengths = λ j less other.
             ap₂ (λ (at : ℕ) (c : Channel). partOf at (c .limits .slots) (laid lens (slotAt t i) (w .lens))) (slots-before (w .made .channel) t i j (k .limits)) (getD-set-other t i j (w .made .channel) blank other)
-            ∙ part-elsewhere lens (slotAt t i) (w .lens) in-lens (slotAt t j) (recordAt t j .limits .slots)
+            ∙ laid-elsewhere lens (slotAt t i) (w .lens) in-lens (slotAt t j) (recordAt t j .limits .slots)
             (⊎-elim (λ b. inl (slots-order t j i b less)) (λ a. inr (omega (arith, slots-order t i j a below, k .sized .each))) (either-side j i other));
         mem-before = laid-before mem (octetAt t i) (w .mem) in-mem (octetAt t i) (omega arith);
         mem-behind = laid-after mem (octetAt t i) (w .mem) in-mem (octetAt t i + areaOf (recordAt t i .limits)) (omega (arith, k .sized .exact));

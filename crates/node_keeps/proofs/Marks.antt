@@ -2,7 +2,7 @@
 -- what a transfer asks holds again after every call.
 -- Assumes nothing.
 use mathlib.Core.Path.{_≡_, refl, sym, ap, _∙_, subst}
-use mathlib.Core.Bool.{Bool, true, false, not, _||_}
+use mathlib.Core.Bool.{Bool, true, false}
 use mathlib.Core.List.{List, [], map}
 use Prim.Native.Nat.{ℕ, _+_, _<_}
 use borrow.Author.Tests.{eqb-true, eqb-false}
@@ -10,6 +10,7 @@ use lib.Dec.{ltb, eqb}
 use lib.ListN.{length, set, length-set, length-map}
 use lib.Seq.{getD-set-same, getD-set-other}
 use Rattle.laws.specs.Choice.{if_then_else_}
+use Rattle.laws.proofs.Choice.{either}
 use Rattle.ring.proofs.Laws.{cleared-length}
 use Rattle.store.proofs.Laws.{filed-marks-length}
 use Rattle.slots.specs.Marks.{markOf}
@@ -23,22 +24,22 @@ use Rattle.channel.specs.declared.answer.Answer.{Answer}
 use Rattle.channel.specs.declared.answer.Answer.the-variants.{Refused}
 use Rattle.channel.specs.declared.answer.Refusal.the-variants as refusal
 use Rattle.channel.specs.declared.step.Stepped.{Stepped}
-use Rattle.channel.specs.Record.{sends, receives, closed as closedState, enabled, opened as openedState, closing, noLone, noMarks, heldIn}
-use Rattle.channel.specs.Lone.{readyLone, isOut, fallen}
+use Rattle.channel.specs.Record.{sends, receives, closed as closedState, closing, noLone, noMarks}
+use Rattle.channel.specs.Lone.{readyLone}
 use Rattle.channel.specs.Standing.{oldestOf}
-use Rattle.sender.specs.declared.ticking.Ticked.{Ticked}
 use Rattle.sender.specs.Directives as sender
-use Rattle.sender.specs.Ticking.{anySpent, tickStep as senderTick}
+use Rattle.sender.specs.Ticking.{tickStep as senderTick}
 use Rattle.sender_units.specs.Transfer.{isAccepted, freeAt, transferStep}
-use Rattle.sender_units.specs.Reclaiming.{unitAt, sizeAt, reclaimStep}
+use Rattle.sender_units.specs.Reclaiming.{unitAt, reclaimStep}
 use Rattle.sender_units.proofs.UnitLaws.{would-same}
 use Rattle.sender_packets.specs.HandingOut.{controlOut, againOut, newOut, nextOut, nextLength, handStep}
-use Rattle.sender_acks.specs.Acks.{controlAcked, controlAckStep, awayOf, isAwaited, recorded, wholeAt, advanced, dataAckStep}
+use Rattle.sender_acks.specs.Acks.{controlAckStep, awayOf, recorded, wholeAt, advanced, dataAckStep}
 use Rattle.receiver.specs.Receiving as receiver
 use Rattle.receiver_sorting.specs.Sorting.{placeAt}
 use Rattle.receiver_data.specs.Data as received
 use Rattle.receiver_data.specs.Taking as taking
-use Rattle.receiver_keeps.proofs.Cases.{either, open-cases, control-cases, take-cases, tick-cases, data-cases, accept-cases}
+use Rattle.sender_keeps.proofs.Cases as sent
+use Rattle.receiver_keeps.proofs.Cases.{open-cases, control-cases, take-cases, tick-cases, data-cases, accept-cases}
 use Rattle.table.specs.declared.looking.Look.{Look}
 use Rattle.table.specs.declared.looking.Look.the-variants.{Index, Ready}
 use Rattle.table.specs.Looking.{chosen as choice}
@@ -74,14 +75,10 @@ module _ (c : Channel) (w : Full c) where
   parked-full state control = w
 
   open-full : Fills (sender.openStep c)
-  unfolding sender.openStep
-  open-full = either Fills (not (eqb (c .state) closedState)) _ _ w (either Fills (not (eqb (heldIn (c .window)) 0)) _ _ w fresh-full)
+  open-full = sent.open-cases c Fills w w fresh-full
 
   close-full : Fills (sender.closeStep c)
-  unfolding sender.closeStep
-  close-full =
-      either Fills (eqb (c .state) openedState) _ _ (parked-full closing readyLone)
-      (either Fills (not (eqb (c .state) enabled)) _ _ w (either Fills (eqb (c .kept) 0) _ _ w w))
+  close-full = sent.close-cases c Fills w (λ e. parked-full closing readyLone) w
 
   transfer-full : (n : ℕ) → Fills (transferStep c n)
   unfolding transferStep
@@ -91,11 +88,8 @@ module _ (c : Channel) (w : Full c) where
       (subst Full (sym (would-same c n)) w)
 
   reclaim-full : (lens : List ℕ) (n : ℕ) → Fills (reclaimStep c lens n)
-  unfolding reclaimStep
   reclaim-full lens n =
-      either Fills (not (eqb (c .state) closedState)) _ _ w
-      (either Fills (eqb (c .window .ahead) 0) _ _ w
-      (either Fills (ltb n (sizeAt c lens)) _ _ w (cleared-length (c .marks) (c .limits .slots) (unitAt c) (c .window .place) ∙ w)))
+      sent.reclaim-cases c Fills lens n w w w (λ is some. cleared-length (c .marks) (c .limits .slots) (unitAt c) (c .window .place) ∙ w)
 
   next-full : (rank : ℕ) → Full (nextOut c rank)
   unfolding nextOut
@@ -105,15 +99,9 @@ module _ (c : Channel) (w : Full c) where
   unfolding handStep
   hand-full lens rank n = either Fills (ltb n (nextLength c lens rank)) _ _ w (next-full rank)
 
-  acked-full : Full (controlAcked c)
-  acked-full =
-      either Full (eqb (c .state) closing) _ _ (parked-full closedState noLone) (either Full (eqb (c .kept) 0) _ _ w (parked-full closing readyLone))
-
   control-ack-full : (number : ℕ) → Fills (controlAckStep c number)
-  unfolding controlAckStep
   control-ack-full number =
-      either Fills (not (eqb (c .state) enabled || eqb (c .state) closing)) _ _ w
-      (either Fills (not (eqb number 0)) _ _ w (either Fills (not (isOut (c .control))) _ _ w acked-full))
+      sent.control-ack-cases c Fills number w w (λ e. parked-full closedState noLone) (λ e. w) (λ e. parked-full closing readyLone)
 
   advanced-full : Full (advanced c)
   unfolding advanced
@@ -123,20 +111,10 @@ module _ (c : Channel) (w : Full c) where
       (cleared-length (c .marks) (c .limits .slots) (c .window .behind + done) (oldestOf (c .limits .slots) (c .window)) ∙ w)
 
   sender-tick-full : Full (senderTick c .channel)
-  unfolding senderTick
-  sender-tick-full =
-      either Ticks (eqb (c .state) openedState) _ _
-      (either Ticks (anySpent (c .timers .left) (c .timers .tries)) _ _ (parked-full closedState noLone) w)
-      (either Ticks (eqb (c .state) enabled || eqb (c .state) closing) _ _ (either Ticks (fallen (c .control) .spent) _ _ (parked-full closedState noLone) w) w)
-    where
-      Ticks : Ticked → Type 0
-      Ticks s = Full (s .channel)
+  sender-tick-full = let shut = parked-full closedState noLone in sent.tick-cases c Full (λ e. shut) (λ e. shut) (λ e. shut) w w w
 
 data-ack-full : (c : Channel) → Full c → (number : ℕ) → Fills (dataAckStep c number)
-unfolding dataAckStep
-data-ack-full c w number =
-    either Fills (not (eqb (c .state) openedState)) _ _ w
-    (either Fills (not (isAwaited c (awayOf c number))) _ _ w (advanced-full (recorded c (awayOf c number)) w))
+data-ack-full c w number = sent.data-ack-cases c Fills number w w (λ e. advanced-full (recorded c (awayOf c number)) w)
 
 -- ---- each step of a receiver
 

@@ -1,20 +1,19 @@
 -- Every step of a channel keeps what the test for 13 asks: the record stands with the lengths left, and nothing that the settings fixed has changed.
 -- Assumes nothing.
 use mathlib.Core.Path.{_≡_, refl, sym, ap, _∙_, subst}
-use mathlib.Core.Bool.{Bool, true, false, _&&_, _||_}
+use mathlib.Core.Bool.{Bool, true, false, _||_}
 use mathlib.Core.List.{List}
 use Prim.Native.Nat.{ℕ, _≤_, _<_}
 use native.Mathlib.Omega.{arith}
 use borrow.Author.Tests.{eqb-true, eqb-false, eq-eqb, ne-eqb}
 use lib.Dec.{eqb}
 use lib.ListN.{length, drop, length-take}
-use Rattle.laws.proofs.Choice.{both, chosen, passed-by}
+use Rattle.laws.proofs.Choice.{either-way, chosen, passed-by}
 use Rattle.slots.specs.Slots.{Sized}
 use Rattle.packet.specs.declared.fields.Fields.{Fields}
 use Rattle.packet.specs.Layout.{fieldsAt, lengthAt, payloadAt}
 use Rattle.walks.specs.Serving.{works}
 use Rattle.channel.specs.declared.record.Node.{Node}
-use Rattle.channel.specs.declared.record.Addresses.{Addresses}
 use Rattle.channel.specs.declared.record.Channel.{Channel}
 use Rattle.channel.specs.declared.answer.Refusal.{Refusal}
 use Rattle.channel.specs.declared.answer.Refusal.the-variants as refusal
@@ -22,11 +21,12 @@ use Rattle.channel.specs.declared.step.Stepped.{Stepped}
 use Rattle.channel.specs.Record.{sends, receives}
 use Rattle.channel.specs.Standing.{Standing}
 use Rattle.channel.specs.Steps.{refusing}
+use Rattle.channel.proofs.FixedLaws.{SameSettings}
+use Rattle.channel.proofs.StandingLaws.{named-is}
 use Rattle.sender.specs.Directives as sender
 use Rattle.sender_units.specs.Reclaiming.{reclaimStep, reclaimOut}
 use Rattle.sender_packets.specs.HandingOut.{handStep, handOut}
 use Rattle.sender_acks.specs.Acks.{controlAckStep, dataAckStep}
-use Rattle.sender_keeps.proofs.Keeps.{named-is}
 use Rattle.sender_keeps.proofs.KeepsDirectives.{open-stands, close-stands, control-ack-stands, tick-stands}
 use Rattle.sender_keeps.proofs.KeepsHandingOut.{hand-stands}
 use Rattle.sender_keeps.proofs.KeepsReclaiming.{reclaim-stands}
@@ -39,7 +39,7 @@ use Rattle.receiver_keeps.proofs.Keeps as received
 use Rattle.receiver_keeps.proofs.Fixed as fixed
 use Rattle.table.specs.declared.looking.Look.{Look}
 use Rattle.table.specs.declared.looking.Look.the-variants.{Ready}
-use Rattle.table.specs.Looking.{looksFor, same, graded}
+use Rattle.table.specs.Looking.{graded}
 use Rattle.table.specs.Serving.{alone}
 use Rattle.steps_ticking.specs.declared.ticking.Ticked.{Ticked}
 use Rattle.steps.specs.Requests.{openedBy, closedBy, transferFor, takeFor, reclaimFor}
@@ -48,6 +48,7 @@ use Rattle.arriving_look.specs.Finding.{lookOf}
 use Rattle.arriving_data.specs.Data.{unfit}
 use Rattle.arriving_reply.specs.Replying.{repliedBy}
 use Rattle.steps_arriving.specs.Arriving.{arriveBy, payloadIn, arrivalFor, Framed}
+use Rattle.table.proofs.OneLaws.{acks-find, others-find}
 use Rattle.steps_handing.proofs.HandLaws.{ready-is}
 use Rattle.steps_ticking.proofs.TickLaws.{tick-sends, tick-receives}
 use Rattle.steps.proofs.RequestLaws.{opened-sends, opened-receives, closed-sends, closed-receives}
@@ -64,19 +65,15 @@ not-sends a e e2 = omega (arith, e, e2)
 
 pub by-direction : {P : Type 0} (c : Channel) (lens : List ℕ) → Standing c lens
     → (c .addresses .direction ≡ sends → P) → (c .addresses .direction ≡ receives → P) → P
-by-direction {P = P} c lens h s r = go (eqb (c .addresses .direction) sends) refl
-  where
-    go : (b : Bool) → eqb (c .addresses .direction) sends ≡ b → P
-    go true e = s (eqb-true (c .addresses .direction) sends e)
-    go false e =
-        let n = eqb-false (c .addresses .direction) sends e in
-        let small = named-is c (h .named) .direction in
-        r (omega (arith, n, small))
+by-direction c lens h s r =
+    either-way (eqb (c .addresses .direction) sends)
+    (λ e. s (eqb-true (c .addresses .direction) sends e))
+    (λ e. r (omega (arith, eqb-false (c .addresses .direction) sends e, named-is c (h .named) .direction)))
 
 -- ---- a step that leaves memory and lengths, and one that writes them
 
 module _ (c : Channel) (mem lens out : List ℕ) (sized : Sized (c .limits .slots) (c .limits .payload) mem lens) where
-  quiet-kept : (s : Stepped) → fixed.SameSettings c (s .channel) → Standing (s .channel) lens → Kept c (works s mem lens out)
+  quiet-kept : (s : Stepped) → SameSettings c (s .channel) → Standing (s .channel) lens → Kept c (works s mem lens out)
   quiet-kept s f h = record { addresses = f .0; limits = f .1; standing = h; sized = sized }
 
   refused-kept : (why : Refusal) → Standing c lens → Kept c (works (refusing c why) mem lens out)
@@ -157,18 +154,6 @@ next-keeps node out at rank c mem lens g =
 
 -- ---- an arrival
 
--- Data and Control look for a receiver, Acks for a sender
-same-direction : (a : Addresses) (f : Fields) → same a f ≡ true → a .direction ≡ looksFor (f .kind)
-unfolding same
-same-direction a f e =
-    eqb-true (a .direction) (looksFor (f .kind)) (both (eqb (a .channel) (f .channel) && eqb (a .remote) (f .source)) (eqb (a .direction) (looksFor (f .kind))) e .1)
-
-ack-sends : (a : Addresses) (f : Fields) → same a f ≡ true → (eqb (f .kind) 1 || eqb (f .kind) 7) ≡ true → a .direction ≡ sends
-ack-sends a f e k = same-direction a f e ∙ chosen (eqb (f .kind) 1 || eqb (f .kind) 7) sends receives k
-
-other-receives : (a : Addresses) (f : Fields) → same a f ≡ true → (eqb (f .kind) 1 || eqb (f .kind) 7) ≡ false → a .direction ≡ receives
-other-receives a f e k = same-direction a f e ∙ passed-by (eqb (f .kind) 1 || eqb (f .kind) 7) sends receives k
-
 -- the payload of Data that is fit has at most P octets
 payload-short : (c : Channel) (s : List ℕ) → unfit c (fieldsAt s) (lengthAt s) ≡ false → fieldsAt s .kind ≡ 0 → length (payloadIn s) ≤ c .limits .payload
 payload-short c s fit k =
@@ -212,15 +197,15 @@ arrival-keeps node packet out at rank c mem lens g = by-fit (unfit c f x) refl
           sized = received.data-sized c lens dir (g .standing) n p mem short (g .sized);
         })
     by-kind fit false k true k1 d k7 =
-        let dir = ack-sends (c .addresses) f (told .ours) (ap (λ (y : Bool). y || eqb (f .kind) 7) k1) in
+        let dir = acks-find (c .addresses) f (told .ours) (ap (λ (y : Bool). y || eqb (f .kind) 7) k1) in
         subst (Kept c) (sym (by-data-ack node f x p c rank mem lens out fit (eqb-false (f .kind) 0 k) (eqb-true (f .kind) 1 k1)))
         (quiet-kept c mem lens out (g .sized) (dataAckStep c n) (sent.data-ack-fixed c n) (data-ack-stands c lens n (g .standing) dir))
     by-kind fit false k false k1 true k7 =
-        let dir = ack-sends (c .addresses) f (told .ours) (ap (λ (y : Bool). y || eqb (f .kind) 7) k1 ∙ k7) in
+        let dir = acks-find (c .addresses) f (told .ours) (ap (λ (y : Bool). y || eqb (f .kind) 7) k1 ∙ k7) in
         subst (Kept c) (sym (by-control-ack node f x p c rank mem lens out fit (eqb-false (f .kind) 0 k) (eqb-false (f .kind) 1 k1) (eqb-true (f .kind) 7 k7)))
         (quiet-kept c mem lens out (g .sized) (controlAckStep c n) (sent.control-ack-fixed c n) (control-ack-stands c lens n (g .standing) dir))
     by-kind fit false k false k1 false k7 =
-        let dir = other-receives (c .addresses) f (told .ours) (ap (λ (y : Bool). y || eqb (f .kind) 7) k1 ∙ k7) in
+        let dir = others-find (c .addresses) f (told .ours) (ap (λ (y : Bool). y || eqb (f .kind) 7) k1 ∙ k7) in
         let opens = eqb (f .kind) 2 in
         subst (Kept c) (sym (by-control node f x p c rank mem lens out fit (eqb-false (f .kind) 0 k) (eqb-false (f .kind) 1 k1) (eqb-false (f .kind) 7 k7)))
         (quiet-kept c mem lens (repliedBy (receiver.controlStep c opens n .answer) node (c .addresses) false n out) (g .sized) (receiver.controlStep c opens n) (fixed.control-fixed c opens n) (received.control-stands c lens dir (g .standing) opens n))
@@ -232,12 +217,12 @@ arrival-keeps node packet out at rank c mem lens g = by-fit (unfit c f x) refl
 
 -- ---- a tick of one channel
 
-pub tick-keeps : (c : Channel) (lens : List ℕ) → Standing c lens → fixed.SameSettings c (tickOf c) × Standing (tickOf c) lens
+pub tick-keeps : (c : Channel) (lens : List ℕ) → Standing c lens → SameSettings c (tickOf c) × Standing (tickOf c) lens
 tick-keeps c lens h =
     by-direction c lens h
     (λ d.
     let e = ap (λ (x : Ticked). x .channel) (tick-sends c false d) in
-    subst (λ (k : Channel). fixed.SameSettings c k × Standing k lens) (sym e) (sent.tick-fixed c, tick-stands c lens h d))
+    subst (λ (k : Channel). SameSettings c k × Standing k lens) (sym e) (sent.tick-fixed c, tick-stands c lens h d))
     (λ d.
     let e = ap (λ (x : Ticked). x .channel) (tick-receives c false (not-sends (c .addresses .direction) d)) in
-    subst (λ (k : Channel). fixed.SameSettings c k × Standing k lens) (sym e) (fixed.tick-fixed c, received.tick-stands c lens d h))
+    subst (λ (k : Channel). SameSettings c k × Standing k lens) (sym e) (fixed.tick-fixed c, received.tick-stands c lens d h))

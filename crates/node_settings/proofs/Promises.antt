@@ -25,15 +25,11 @@ use Rattle.channel.proofs.MadeLaws.{made-stands}
 use Rattle.table.specs.Lent.{slotsOf, eachStands, lawful}
 use Rattle.table.specs.Serving.{unset, recordAt}
 use Rattle.table.proofs.ServeLaws.{is-lawful}
-use Rattle.table.proofs.SurveyLaws.{stands-both}
+use Rattle.table.proofs.SurveyLaws.{stands-none, stands-both}
 use Rattle.node_settings.specs.Configuring.{madeTable, settled, configured}
 use Rattle.node_settings.proofs.AgreeLaws.{settled-is}
 
 -- ---- each record that fit settings make stands with its own lengths
-
-stand-none : (lens : List ℕ) → eachStands [] lens ≡ true
-unfolding eachStands
-stand-none lens = refl
 
 slots-first : (s : Settings) (l : List Settings) → slotsOf (madeTable (s ∷ l)) ≡ s .limits .slots + slotsOf (madeTable l)
 unfolding slotsOf
@@ -46,7 +42,7 @@ fit-first s l e =
     (both (fit s) (not (clashes (s .addresses) l)) (p .0) .0, p .1)
 
 made-each : (s : List Settings) (lens : List ℕ) → eachFit s ≡ true → length lens ≡ slotsOf (madeTable s) → eachStands (madeTable s) lens ≡ true
-made-each [] lens f e = stand-none lens
+made-each [] lens f e = stands-none lens
 made-each (s ∷ l) lens f e =
     let p = fit-first s l f in
     let n = e ∙ slots-first s l in

@@ -2,7 +2,7 @@
 -- those before it, and `eachFit` holds it beside those behind it: as two clash in either order, it is the same.
 -- Assumes nothing.
 use mathlib.Core.Path.{_≡_, refl, sym, ap, ap₂, _∙_}
-use mathlib.Core.Bool.{Bool, true, false, not, _&&_, _||_, true≢false, false≢true}
+use mathlib.Core.Bool.{Bool, true, false, not, _&&_, _||_, true≢false, false≢true, or-false, or-assoc}
 use mathlib.Core.List.{List, [], _∷_}
 use Prim.Native.Nat.{ℕ, zero, suc, _+_, _*_, _≤_, _<_}
 use native.Mathlib.Nat.{add-zero, add-suc, add-assoc, mul-le-mul-right}
@@ -42,14 +42,6 @@ clash-swap a b =
 
 -- ---- the addresses seen
 
-or-assoc : (x y z : Bool) → (x || (y || z)) ≡ ((x || y) || z)
-or-assoc true y z = refl
-or-assoc false y z = refl
-
-or-false : (x : Bool) → (x || false) ≡ x
-or-false true = refl
-or-false false = refl
-
 -- the last of them, apart
 taken-last : (v : Seen) (a : Addresses) (n i : ℕ) → taken v a (suc n) i ≡ (taken v a n i || clash a (addressesAt v (i + n)))
 unfolding taken
@@ -57,7 +49,7 @@ taken-last v a zero i = or-false (clash a (addressesAt v i)) ∙ ap (λ (k : ℕ
 taken-last v a (suc n) i =
     let e : i + 1 + n ≡ i + suc n = omega (arith, add-suc i n) in
     ap (λ (z : Bool). clash a (addressesAt v i) || z) (taken-last v a n (i + 1))
-    ∙ or-assoc (clash a (addressesAt v i)) (taken v a n (i + 1)) (clash a (addressesAt v (i + 1 + n)))
+    ∙ sym (or-assoc (clash a (addressesAt v i)) (taken v a n (i + 1)) (clash a (addressesAt v (i + 1 + n))))
     ∙ ap (λ (k : ℕ). (clash a (addressesAt v i) || taken v a n (i + 1)) || clash a (addressesAt v k)) e
 
 -- every array has 16 places

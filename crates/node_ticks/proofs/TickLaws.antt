@@ -1,17 +1,15 @@
 -- The tick of a table: the sweep amounts to each channel ticked alone, and a table that passes the test for 13 may be swept.
 -- Assumes nothing.
-use mathlib.Core.Path.{_≡_, refl, sym, ap, ap₂, _∙_, subst}
-use mathlib.Core.Bool.{Bool, true, false, _||_, true≢false}
+use mathlib.Core.Path.{_≡_, refl, sym, ap, ap₂, _∙_}
+use mathlib.Core.Bool.{Bool, true, false, _||_, or-false, or-assoc, or-comm}
 use mathlib.Core.List.{List, [], _∷_, map}
-use Prim.Native.Nat.{ℕ, _<_}
+use Prim.Native.Nat.{ℕ}
 use borrow.Author.Tests.{eqb-true, eqb-false}
 use lib.Dec.{eqb}
 use lib.ListN.{length, getD}
-use Rattle.laws.specs.Choice.{if_then_else_}
 use Rattle.walks.specs.Sweep.{sweepT, sweepA, Every}
-use Rattle.walks.specs.Serving.{Changed, changes, doneBy}
+use Rattle.walks.specs.Serving.{changes, doneBy}
 use Rattle.channel.specs.declared.record.Channel.{Channel}
-use Rattle.channel.specs.declared.answer.Answer.{Answer}
 use Rattle.channel.specs.declared.answer.Answer.the-variants.{Refused}
 use Rattle.channel.specs.declared.answer.Refusal.the-variants as refusal
 use Rattle.channel.specs.Record.{sends}
@@ -19,19 +17,14 @@ use Rattle.channel.proofs.StandingLaws.{stands-is, ringed}
 use Rattle.table.specs.declared.looking.Look.the-variants.{Nobody}
 use Rattle.table.specs.Lent.{lawful}
 use Rattle.table.specs.Serving.{blank}
-use Rattle.table.specs.Surveying.{begun, surveyed, isSound, judged}
+use Rattle.table.specs.Surveying.{begun, surveyed, isSound}
 use Rattle.table.proofs.SurveyLaws.{each-stands}
 use Rattle.table.proofs.ServeLaws.{sound-lawful, lawful-is}
 use Rattle.sender.specs.Ticking.{tickStep as senderTick}
-use Rattle.receiver.specs.Receiving.{tickStep as receiverTick}
 use Rattle.steps_ticking.specs.declared.ticking.Ticked.{Ticked}
 use Rattle.steps_ticking.specs.Ticking.{tickedBy}
 use Rattle.steps_ticking.proofs.TickLaws.{tick-sends, tick-receives}
 use Rattle.node_ticks.specs.Ticks.{tickOf, anyInactive, tickAnswer, ticked, ticks, sweptTable, sweptAny}
-
-or-false : (a : Bool) → a || false ≡ a
-or-false true = refl
-or-false false = refl
 
 -- one channel's tick does not look at what went before, and tells it on
 one-tick : (c : Channel) (before : Bool) → (tickedBy c before .channel ≡ tickOf c) × (tickedBy c before .inactive ≡ tickedBy c false .inactive || before)
@@ -55,16 +48,6 @@ one-tick c before = go (eqb (c .addresses .direction) sends) refl
           ap (λ (x : Ticked). x .inactive) now ∙ sym (ap (λ (x : Ticked). x .inactive || before) alone),
         )
 
-or-assoc : (a b c : Bool) → a || (b || c) ≡ (a || b) || c
-or-assoc true b c = refl
-or-assoc false b c = refl
-
-or-swap : (a b : Bool) → a || b ≡ b || a
-or-swap true true = refl
-or-swap true false = refl
-or-swap false true = refl
-or-swap false false = refl
-
 pub swept-table : (t : List Channel) (before : Bool) → sweptTable t before ≡ map tickOf t
 unfolding sweepT
 swept-table [] before = refl
@@ -76,8 +59,8 @@ swept-any [] before = refl
 swept-any (c ∷ t) before =
     swept-any t (tickedBy c before .inactive)
     ∙ ap (λ (x : Bool). anyInactive t || x) (one-tick c before .1)
-    ∙ or-assoc (anyInactive t) (tickedBy c false .inactive) before
-    ∙ ap (λ (x : Bool). x || before) (or-swap (anyInactive t) (tickedBy c false .inactive))
+    ∙ sym (or-assoc (anyInactive t) (tickedBy c false .inactive) before)
+    ∙ ap (λ (x : Bool). x || before) (or-comm (anyInactive t) (tickedBy c false .inactive))
 
 pub may-tick : (t : List Channel) (mem lens : List ℕ)
     → isSound (surveyed t lens (begun (Nobody refusal.NoChannel))) (length t) (length mem) (length lens) ≡ true → Every blank ticks t

@@ -7,16 +7,14 @@ use mathlib.Core.Option.{Option, none, some}
 use Prim.Native.Nat.{ℕ, zero, suc, _+_, _≤_, _<_}
 use native.Mathlib.Nat.{le-refl}
 use native.Mathlib.Omega.{arith}
-use lib.ListN.{length, take, getD, length-append}
+use lib.ListN.{length, take, getD}
 use lib.Seq.{take-suc, take-append-le}
 use Rattle.laws.specs.Choice.{if_then_else_}
+use Rattle.laws.proofs.Lists.{length-snoc}
 use Rattle.protocol.specs.Units.{Segment, blank, onWay, fitting}
 use Rattle.protocol.specs.Ends.{Limits}
 use Rattle.protocol.specs.Receiving.{movedPast, moved}
 use Rattle.protocol.proofs.Small.{yes-no}
-
-length-snoc : (l : List Segment) (g : Segment) → length (l ++ (g ∷ [])) ≡ suc (length l)
-length-snoc l g = omega (arith, length-append l (g ∷ []))
 
 module _ (c : Limits) (line : List Segment) (next : ℕ) where
   pub record Moved (l r : List Segment) : Type 0 where

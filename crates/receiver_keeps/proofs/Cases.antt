@@ -7,7 +7,7 @@ use Prim.Native.Nat.{ℕ, _+_, _-_, _*_, _<_}
 use borrow.Author.Tests.{eqb-true, eqb-false, leb-true, leb-false}
 use lib.Dec.{eqb, leb, ltb}
 use lib.ListN.{length, set}
-use Rattle.laws.specs.Choice.{if_then_else_}
+use Rattle.laws.proofs.Choice.{either, by-test}
 use Rattle.slots.specs.Slots.{slotOf, laid}
 use Rattle.channel.specs.declared.record.Channel.{Channel}
 use Rattle.channel.specs.declared.step.Stepped.{Stepped}
@@ -22,16 +22,6 @@ use Rattle.receiver.specs.Receiving.{ackLength, leaving, shutFor, withClosing, 
 use Rattle.receiver_data.specs.Data.{marking, acceptStep, dataBy, awayOf, sortOf, dataStep, memBy, lensBy, dataMem, dataLens}
 use Rattle.receiver_data.specs.Taking.{completeIn, unitAt, sizeAt, dropped, takeStep}
 use Rattle.receiver_data.proofs.DataLaws.{new-full, full-mem, full-lens, new-accepted, new-mem, new-lens, data-state, state-mem, state-lens, data-by, mem-by, lens-by}
-
--- both answers of a choice
-pub either : {A : Type 0} (P : A → Type 0) (t : Bool) (a b : A) → P a → P b → P (if t then a else b)
-either P true a b p q = p
-either P false a b p q = q
-
--- and where the test counts
-pub by-test : {A : Type 0} (P : A → Type 0) (t : Bool) (a b : A) → (t ≡ true → P a) → (t ≡ false → P b) → P (if t then a else b)
-by-test P true a b p q = p refl
-by-test P false a b p q = q refl
 
 -- ---- the Open directive, a Control packet, taking, and a tick
 

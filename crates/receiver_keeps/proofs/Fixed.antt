@@ -1,16 +1,14 @@
 -- No step changes what the settings fixed, so what the steps ask holds again after each.
 -- Assumes nothing.
-use mathlib.Core.Path.{_≡_, refl, sym, subst}
+use mathlib.Core.Path.{_≡_, refl}
 use mathlib.Core.Bool.{Bool}
 use mathlib.Core.List.{List, []}
 use Prim.Native.Nat.{ℕ}
-use Rattle.slots.specs.Slots.{Sized}
-use Rattle.channel.specs.declared.record.Limits.{Limits}
 use Rattle.channel.specs.declared.record.Channel.{Channel}
 use Rattle.channel.specs.declared.step.Stepped.{Stepped}
 use Rattle.channel.specs.Record.{receives, withWindow}
-use Rattle.channel.specs.Standing.{Standing}
 use Rattle.channel.specs.Asked.{Asked}
+use Rattle.channel.proofs.FixedLaws.{SameSettings, asked-again}
 use Rattle.receiver.specs.Asked.{DataAsked}
 use Rattle.receiver_sorting.specs.Sorting.{placeAt}
 use Rattle.receiver_window.specs.Moving.{movedOf}
@@ -19,10 +17,6 @@ use Rattle.receiver_data.specs.Data.{marking, acceptStep, awayOf, dataStep, dat
 use Rattle.receiver_data.specs.Taking.{takeStep}
 use Rattle.receiver_keeps.proofs.Cases.{open-cases, control-cases, take-cases, tick-cases, data-cases, accept-cases}
 use Rattle.receiver_keeps.proofs.Keeps.{data-stands, data-sized}
-
--- the addresses and the limits of c
-abbrev pub SameSettings : Channel → Channel → Type 0
-SameSettings c k = (k .addresses ≡ c .addresses) × (k .limits ≡ c .limits)
 
 leaving-fixed : (c : Channel) (state ticks : ℕ) → SameSettings c (leaving c state ticks)
 unfolding leaving
@@ -58,13 +52,7 @@ take-fixed c lens n = take-cases c lens n (λ (s : Stepped). SameSettings c (s .
 pub tick-fixed : (c : Channel) → SameSettings c (tickStep c)
 tick-fixed c = tick-cases c (SameSettings c) (refl, refl) (refl, refl) (refl, refl)
 
--- a step that keeps the settings and the condition keeps what is asked
-pub asked-again : (c k : Channel) (mem lens : List ℕ) → SameSettings c k → Standing k lens
-    → Sized (c .limits .slots) (c .limits .payload) mem lens → Asked k mem lens
-asked-again c k mem lens same h z =
-    record { standing = h; sized = subst (λ (l : Limits). Sized (l .slots) (l .payload) mem lens) (sym (same .1)) z }
-
--- and so does Data that arrives, with the memory and the lengths that it leaves
+-- Data that arrives keeps what is asked, with the memory and the lengths that it leaves
 pub data-asked : (c : Channel) (number flags : ℕ) (p mem lens : List ℕ)
     → c .addresses .direction ≡ receives
     → DataAsked c flags p mem lens

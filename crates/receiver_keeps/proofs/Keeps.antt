@@ -1,19 +1,21 @@
 -- Each step keeps the standing condition, and an arrival keeps the memory's size.
 -- Assumes nothing.
 use mathlib.Core.Path.{_≡_, refl, sym, ap, _∙_}
-use mathlib.Core.Logic.{_⊎_, inl, inr, ⊎-elim}
+use mathlib.Core.Logic.{⊎-elim}
 use mathlib.Core.Bool.{Bool, true, false, not, _||_}
 use mathlib.Core.List.{List}
-use Prim.Native.Nat.{ℕ, zero, suc, _+_, _-_, _*_, _≤_, _<_}
+use Prim.Native.Nat.{ℕ, _+_, _-_, _*_, _≤_, _<_}
+use native.Mathlib.Nat.{pos-of-ne-zero}
 use native.Mathlib.Omega.{arith}
-use borrow.Author.Tests.{le-leb, le-ltb, ltb-true, ltb-false, eqb-true, eqb-false, ne-eqb}
+use borrow.Author.Tests.{le-leb, le-ltb, ltb-true, eqb-true, eqb-false, ne-eqb}
 use lib.Dec.{ltb, eqb}
 use lib.ListN.{length, getD, set, take, drop, length-set}
 use lib.Seq.{getD-set-same, getD-set-other}
 use Rattle.laws.specs.Choice.{if_then_else_}
 use Rattle.laws.proofs.Choice.{both}
+use Rattle.laws.proofs.Numbers.{lt-cases}
 use Rattle.ring.specs.Ring.{roundOf, backOf, cleared}
-use Rattle.ring.proofs.Laws.{round-lt, round-add, back-lt, back-forth, cleared-out}
+use Rattle.ring.proofs.Laws.{round-lt, round-add, back-lt, back-forth, set-here, cleared-either, cleared-out}
 use Rattle.slots.specs.Marks.{markOf, begins, ends}
 use Rattle.slots.specs.Slots.{Sized, slotOf}
 use Rattle.slots.proofs.Laws.{slot-bound, slot-apart, filed-sized, slot-other}
@@ -26,7 +28,7 @@ use Rattle.channel.specs.declared.step.Stepped.{Stepped}
 use Rattle.channel.specs.Record.{receives, noLone, withState, withWindow, withTimers}
 use Rattle.channel.specs.Standing.{slotFit, Standing, oldestOf}
 use Rattle.channel.proofs.SettingsLaws.{fit-is}
-use Rattle.channel.proofs.MadeLaws.{enabled-stands}
+use Rattle.channel.proofs.MadeLaws.{free-fits, enabled-stands}
 use Rattle.receiver_sorting.specs.Sorting.{placeAt}
 use Rattle.receiver_window.specs.Moving.{fitting, wayAfter, passed, movedOf}
 use Rattle.receiver.specs.Receiving.{leaving, shutFor, withClosing, openStep, controlStep, tickStep}
@@ -34,15 +36,11 @@ use Rattle.receiver_data.specs.Data.{marking, acceptStep, awayOf, placeOf, data
 use Rattle.receiver_data.specs.Taking.{completeIn, unitAt, dropped, takeStep}
 use Rattle.receiver_window.proofs.MoveLaws.{move-keeps, way-le}
 use Rattle.receiver_data.proofs.TakeLaws.{unit-behind}
-use Rattle.receiver_keeps.proofs.Rings.{back-back, back-next, back-on, back-then, set-here, set-some, cleared-either}
+use Rattle.receiver_keeps.proofs.Rings.{back-back, back-next, back-on, back-then, set-some}
 use Rattle.receiver_keeps.proofs.Receivers.{Kept, Marked, Fitting, Receives, receives-is, receives-stands}
 use Rattle.receiver_keeps.proofs.Cases.{open-cases, control-cases, take-cases, tick-cases, data-cases, accept-cases}
 
--- ---- slots: a free one fits, and one with few octets
-
-free-fits : (most len : ℕ) → slotFit false most 0 len ≡ true
-unfolding slotFit
-free-fits most len = refl
+-- ---- slots: one with few octets fits
 
 few-fit : (most flags len : ℕ) → flags < 4 → len ≤ most → slotFit false most (markOf flags) len ≡ true
 unfolding slotFit
@@ -51,7 +49,7 @@ few-fit most flags len f l = simp (ne-eqb (flags + 1) 0 (λ z. omega arith), le-
 cleared-fits : (l : Limits) (marks lens : List ℕ) (n from : ℕ) → Fitting l marks lens → Fitting l (cleared marks (l .slots) n from) lens
 cleared-fits l marks lens n from f i less =
     ⊎-elim
-    (λ z. ap (λ (k : ℕ). slotFit false (l .payload) k (getD lens (slotOf i) 0)) z ∙ free-fits (l .payload) (getD lens (slotOf i) 0))
+    (λ z. ap (λ (k : ℕ). slotFit false (l .payload) k (getD lens (slotOf i) 0)) z ∙ free-fits false (l .payload) (getD lens (slotOf i) 0))
     (λ e. ap (λ (k : ℕ). slotFit false (l .payload) k (getD lens (slotOf i) 0)) e ∙ f i less)
     (cleared-either marks (l .slots) n from i)
 
@@ -65,7 +63,7 @@ filed-fits l marks lens place flags n count on small few f i less = at (eqb i pl
         (getD-set-same lens (slotOf place) n 0 (omega (arith, slot-bound (l .slots) place on)))
         ∙ ⊎-elim
         (λ v. ap (λ (k : ℕ). slotFit false (l .payload) k n) v ∙ few-fit (l .payload) flags n small few)
-        (λ z. ap (λ (k : ℕ). slotFit false (l .payload) k n) z ∙ free-fits (l .payload) n)
+        (λ z. ap (λ (k : ℕ). slotFit false (l .payload) k n) z ∙ free-fits false (l .payload) n)
         (set-here marks place (markOf flags))
 
     at : (t : Bool) → eqb i place ≡ t
@@ -96,6 +94,7 @@ leaving-receives c lens state ticks small r =
     record {
       fit = r .fit;
       count = r .count;
+      direction = r .direction;
       small = record { direction = r .small .direction; state = small; reason = r .small .reason; kept = r .small .kept; accepted = r .small .accepted; control = r .small .control };
       window = record { place = on; behind = omega arith; ahead = k .ahead; flight = k .flight; way = omega arith; unit = omega arith };
       held = λ i less e.
@@ -116,6 +115,7 @@ shut-receives c lens why small r =
     record {
       fit = q .fit;
       count = q .count;
+      direction = q .direction;
       small = record { direction = s .direction; state = s .state; reason = small; kept = s .kept; accepted = s .accepted; control = s .control };
       window = q .window;
       held = q .held;
@@ -128,6 +128,7 @@ state-receives c lens state small r =
     record {
       fit = r .fit;
       count = r .count;
+      direction = r .direction;
       small = record { direction = s .direction; state = small; reason = s .reason; kept = s .kept; accepted = s .accepted; control = s .control };
       window = r .window;
       held = r .held;
@@ -143,17 +144,6 @@ fitting-way most way mark some e = by (ends mark) (both (if eqb way 0 then begin
     by : (t : Bool) → (t || ltb (way + 1) most) ≡ true → (if t then 0 else way + 1) < most
     by true f = omega arith
     by false f = ltb-true (way + 1) most f
-
-not-zero : (n : ℕ) → (n ≡ 0 → ⊥) → 1 ≤ n
-not-zero zero h = absurd (h refl)
-not-zero (suc n) h = omega arith
-
-below : (a b : ℕ) → (a < b) ⊎ (b ≤ a)
-below a b = by (ltb a b) refl
-  where
-    by : (t : Bool) → ltb a b ≡ t → (a < b) ⊎ (b ≤ a)
-    by true e = inl (ltb-true a b e)
-    by false e = inr (ltb-false a b e)
 
 module _ (l : Limits) (marks : List ℕ) (v : Window) (less : v .behind < l .slots) (here : getD marks (v .place) 0 ≡ 0 → ⊥) (k : Kept l v) where
   pass-kept : 1 ≤ l .segments → fitting (l .segments) (v .way) (getD marks (v .place) 0) ≡ true → Kept l (passed (l .slots) v (getD marks (v .place) 0))
@@ -182,7 +172,7 @@ module _ (l : Limits) (marks : List ℕ) (v : Window) (less : v .behind < l .slo
       (ap (λ (j : ℕ). getD marks j 0) (sym (back-forth slots (v .place) (v .behind) (k .place) (omega arith)))
       ∙ ap (λ (j : ℕ). getD marks (roundOf slots (from + j)) 0) last
       ∙ e2))
-      (below i (v .behind))
+      (lt-cases i (v .behind))
 
 moved-kept : (l : Limits) (marks : List ℕ) (w : Window) → 1 ≤ l .segments → Kept l w → Marked (l .slots) w marks
     → (Kept l (movedOf l marks w .window)) × (Marked (l .slots) (movedOf l marks w .window) marks)
@@ -200,6 +190,7 @@ marking-receives c lens place flags n on few short r =
     record {
       fit = r .fit;
       count = length-set lens (slotOf place) n ∙ r .count;
+      direction = r .direction;
       small = record { direction = s .direction; state = s .state; reason = s .reason; kept = s .kept; accepted = omega arith; control = s .control };
       window = r .window;
       held = λ i less. set-some (c .marks) place (roundOf (c .limits .slots) (backOf (c .limits .slots) (c .window .place) (c .window .behind) + i)) (flags + 1) (r .held i less) (λ z. omega arith);
@@ -213,6 +204,7 @@ moving-receives c lens r =
     record {
       fit = r .fit;
       count = r .count;
+      direction = r .direction;
       small = record { direction = r .small .direction; state = r .small .state; reason = r .small .reason; kept = r .small .kept; accepted = r .small .accepted; control = r .small .control };
       window = m .0;
       held = m .1;
@@ -231,6 +223,7 @@ dropped-receives c lens n some few r =
     record {
       fit = r .fit;
       count = r .count;
+      direction = r .direction;
       small = record { direction = r .small .direction; state = r .small .state; reason = r .small .reason; kept = r .small .kept; accepted = r .small .accepted; control = r .small .control };
       window = record { place = k .place; behind = omega arith; ahead = k .ahead; flight = k .flight; way = omega arith; unit = k .unit };
       held = λ i less e.
@@ -250,6 +243,7 @@ timers-receives c lens t r =
     record {
       fit = r .fit;
       count = r .count;
+      direction = r .direction;
       small = record { direction = s .direction; state = s .state; reason = s .reason; kept = s .kept; accepted = s .accepted; control = s .control };
       window = r .window;
       held = r .held;
@@ -324,7 +318,7 @@ module _ (c : Channel) (lens : List ℕ) (d : c .addresses .direction ≡ receiv
   take-stands n =
       take-cases c lens n (λ (s : Stepped). Standing (s .channel) lens) h h
       (λ some.
-      let low : 1 ≤ completeIn (c .window) = not-zero (completeIn (c .window)) some in
+      let low : 1 ≤ completeIn (c .window) = pos-of-ne-zero some in
       receives-stands (dropped c (unitAt c)) lens
       (dropped-receives c lens (unitAt c) (unit-some (c .marks) (c .limits .slots) (completeIn (c .window)) (oldestOf (c .limits .slots) (c .window)) low) (unit-behind c) is))
 

@@ -3,12 +3,11 @@
 use mathlib.Core.Path.{_≡_, sym, ap, _∙_}
 use mathlib.Core.Bool.{Bool, true, false}
 use mathlib.Core.List.{List}
-use Prim.Native.Nat.{ℕ, _+_, _-_, _≤_, _<_}
+use Prim.Native.Nat.{ℕ, _+_, _≤_, _<_}
 use native.Mathlib.Omega.{arith}
-use borrow.Author.Tests.{lt-ltb, le-leb, leb-true, ne-eqb, eqb-true}
-use lib.Dec.{leb, eqb}
+use borrow.Author.Tests.{ne-eqb, eqb-true}
+use lib.Dec.{eqb}
 use lib.ListN.{length, getD}
-use Rattle.laws.proofs.Choice.{both}
 use Rattle.ring.specs.Ring.{roundOf, backOf}
 use Rattle.slots.specs.Slots.{slotOf}
 use Rattle.channel.specs.declared.record.Limits.{Limits}
@@ -16,8 +15,8 @@ use Rattle.channel.specs.declared.record.Window.{Window}
 use Rattle.channel.specs.declared.record.Channel.{Channel}
 use Rattle.channel.specs.Record.{sends, receives}
 use Rattle.channel.specs.Settings.{fitLimits}
-use Rattle.channel.specs.Standing.{named, inRing, inFlight, sided, slotFit, Standing}
-use Rattle.channel.proofs.StandingLaws.{ring-is, counted-is}
+use Rattle.channel.specs.Standing.{named, sided, slotFit, Standing, Counted}
+use Rattle.channel.proofs.StandingLaws.{ring-is, counted-is, counted-ring, counted-flight, Named, named-is, is-named}
 
 -- a receiver's window: on the ring, nothing ahead, and the unit on the way among what is behind and within M
 pub record Kept (l : Limits) (w : Window) : Type 0 where
@@ -37,19 +36,11 @@ Marked slots w marks =
 abbrev pub Fitting : Limits → List ℕ → List ℕ → Type 0
 Fitting l marks lens = (i : ℕ) → i < l .slots → slotFit false (l .payload) (getD marks i 0) (getD lens (slotOf i) 0) ≡ true
 
--- the small numbers
-pub record Small (c : Channel) : Type 0 where
-  pub direction : c .addresses .direction ≡ receives
-  pub state : c .state ≤ 3
-  pub reason : c .reason ≤ 5
-  pub kept : c .kept ≤ 1
-  pub accepted : c .accepted ≤ 1
-  pub control : c .control .state ≤ 3
-
 pub record Receives (c : Channel) (lens : List ℕ) : Type 0 where
   pub fit : fitLimits (c .limits) ≡ true
   pub count : length lens ≡ c .limits .slots
-  pub small : Small c
+  pub direction : c .addresses .direction ≡ receives
+  pub small : Named c
   pub window : Kept (c .limits) (c .window)
   pub held : Marked (c .limits .slots) (c .window) (c .marks)
   pub slots : Fitting (c .limits) (c .marks) lens
@@ -59,23 +50,6 @@ pub record Receives (c : Channel) (lens : List ℕ) : Type 0 where
 none-ahead : (direction state : ℕ) (w : Window) → direction ≡ receives → sided direction state w ≡ true → w .ahead ≡ 0
 unfolding sided
 none-ahead direction state w d e = eqb-true (w .ahead) 0 (simp (ne-eqb direction sends (λ z. omega arith)) at e)
-
-small-is : (c : Channel) → c .addresses .direction ≡ receives → named c ≡ true → Small c
-unfolding named
-small-is c d e =
-    let n = both _ _ e in
-    let n2 = both _ _ (n .0) in
-    let n3 = both _ _ (n2 .0) in
-    let n4 = both _ _ (n3 .0) in
-    let n5 = both (leb (c .addresses .direction) 1) _ (n4 .0) in
-    record {
-      direction = d;
-      state = leb-true _ _ (n5 .1);
-      reason = leb-true _ _ (n4 .1);
-      kept = leb-true _ _ (n3 .1);
-      accepted = leb-true _ _ (n2 .1);
-      control = leb-true _ _ (n .1);
-    }
 
 not-sending : (c : Channel) → c .addresses .direction ≡ receives → eqb (c .addresses .direction) sends ≡ false
 not-sending c d = ne-eqb (c .addresses .direction) sends (λ z. omega arith)
@@ -88,7 +62,8 @@ receives-is c lens d h =
     record {
       fit = h .fit;
       count = h .count;
-      small = small-is c d (h .named);
+      direction = d;
+      small = named-is c (h .named);
       window = record { place = q .0; behind = q .1; ahead = a; flight = omega arith; way = n .way; unit = n .unit };
       held = λ i l. h .held i (omega arith);
       slots = λ i l. ap (λ (t : Bool). slotFit t (c .limits .payload) (getD (c .marks) i 0) (getD lens (slotOf i) 0)) (sym (not-sending c d)) ∙ h .slots i l;
@@ -96,33 +71,24 @@ receives-is c lens d h =
 
 -- ---- and back
 
-ring-true : (l : Limits) (w : Window) → Kept l w → inRing l w ≡ true
-unfolding inRing
-ring-true l w k = simp (lt-ltb _ _ (k .place), le-leb _ _ (k .behind), le-leb (w .ahead) (l .slots - w .behind) (omega arith))
-
-flight-true : (l : Limits) (w : Window) → Kept l w → inFlight l w ≡ true
-unfolding inFlight
-flight-true l w k =
-    simp (le-leb (w .flight) (w .ahead) (omega arith), le-leb (w .flight) (l .window) (omega arith), le-leb _ _ (k .way), lt-ltb _ _ (k .unit))
+kept-counted : (l : Limits) (w : Window) → Kept l w → Counted l w
+kept-counted l w k =
+    record { place = k .place; held = omega (arith, k .behind, k .ahead); flight = omega (arith, k .flight); window = omega (arith, k .flight); way = k .way; unit = k .unit }
 
 sided-true : (direction state : ℕ) (w : Window) → direction ≡ receives → w .ahead ≡ 0 → sided direction state w ≡ true
 unfolding sided
 sided-true direction state w d a = simp (ne-eqb direction sends (λ z. omega arith), a)
 
-named-true : (c : Channel) → Small c → named c ≡ true
-unfolding named
-named-true c s =
-    simp (s .direction, le-leb _ _ (s .state), le-leb _ _ (s .reason), le-leb _ _ (s .kept), le-leb _ _ (s .accepted), le-leb _ _ (s .control))
-
 pub receives-stands : (c : Channel) (lens : List ℕ) → Receives c lens → Standing c lens
 receives-stands c lens r =
+    let n = kept-counted (c .limits) (c .window) (r .window) in
     record {
       fit = r .fit;
       count = r .count;
-      named = named-true c (r .small);
-      ring = ring-true (c .limits) (c .window) (r .window);
-      flight = flight-true (c .limits) (c .window) (r .window);
-      sided = sided-true (c .addresses .direction) (c .state) (c .window) (r .small .direction) (r .window .ahead);
+      named = is-named c (r .small);
+      ring = counted-ring (c .limits) (c .window) n;
+      flight = counted-flight (c .limits) (c .window) n;
+      sided = sided-true (c .addresses .direction) (c .state) (c .window) (r .direction) (r .window .ahead);
       held = λ i l. r .held i (omega (arith, r .window .ahead));
-      slots = λ i l. ap (λ (t : Bool). slotFit t (c .limits .payload) (getD (c .marks) i 0) (getD lens (slotOf i) 0)) (not-sending c (r .small .direction)) ∙ r .slots i l;
+      slots = λ i l. ap (λ (t : Bool). slotFit t (c .limits .payload) (getD (c .marks) i 0) (getD lens (slotOf i) 0)) (not-sending c (r .direction)) ∙ r .slots i l;
     }

@@ -1,12 +1,12 @@
 -- Places on the ring, one step and many back, and marks that are set or cleared.
 -- Assumes nothing.
-use mathlib.Core.Path.{_≡_, refl, _∙_}
+use mathlib.Core.Path.{_≡_}
 use mathlib.Core.Logic.{_⊎_, inl, inr, ⊎-elim}
 use mathlib.Core.List.{List, [], _∷_}
 use Prim.Native.Nat.{ℕ, zero, suc, _+_, _-_, _≤_, _<_}
 use native.Mathlib.Omega.{arith}
 use lib.ListN.{getD, set}
-use Rattle.ring.specs.Ring.{roundOf, backOf, cleared}
+use Rattle.ring.specs.Ring.{roundOf, backOf}
 use Rattle.ring.proofs.Laws.{round-cases, round-add}
 
 -- ---- places: with p on the ring, its place n back is one of two numbers
@@ -62,12 +62,6 @@ back-then slots f n i on few less = round-add slots f (slots - n) i (omega arith
 
 -- ---- marks
 
--- a place after a store: what was stored, or what was there
-pub set-here : (m : List ℕ) (s v : ℕ) → (getD (set m s v) s 0 ≡ v) ⊎ (getD (set m s v) s 0 ≡ 0)
-set-here [] s v = inr refl
-set-here (x ∷ m) zero v = inl refl
-set-here (x ∷ m) (suc s) v = set-here m s v
-
 -- a mark that is set stays so, where what is stored is not 0
 pub set-some : (m : List ℕ) (s j v : ℕ) → (getD m j 0 ≡ 0 → ⊥) → (v ≡ 0 → ⊥) → getD (set m s v) j 0 ≡ 0 → ⊥
 set-some [] s j v h n e = h e
@@ -75,20 +69,3 @@ set-some (x ∷ m) zero zero v h n e = n e
 set-some (x ∷ m) zero (suc j) v h n e = h e
 set-some (x ∷ m) (suc s) zero v h n e = h e
 set-some (x ∷ m) (suc s) (suc j) v h n e = set-some m s j v h n e
-
-set-none : (m : List ℕ) (s j : ℕ) → (getD (set m s 0) j 0 ≡ 0) ⊎ (getD (set m s 0) j 0 ≡ getD m j 0)
-set-none [] s j = inr refl
-set-none (x ∷ m) zero zero = inl refl
-set-none (x ∷ m) zero (suc j) = inr refl
-set-none (x ∷ m) (suc s) zero = inr refl
-set-none (x ∷ m) (suc s) (suc j) = set-none m s j
-
--- a mark after some are cleared: none, or what it was
-pub cleared-either : (m : List ℕ) (slots n from j : ℕ) → (getD (cleared m slots n from) j 0 ≡ 0) ⊎ (getD (cleared m slots n from) j 0 ≡ getD m j 0)
-unfolding cleared
-cleared-either m slots zero from j = inr refl
-cleared-either m slots (suc n) from j =
-    ⊎-elim
-    (λ z. inl z)
-    (λ e. ⊎-elim (λ z. inl (e ∙ z)) (λ s. inr (e ∙ s)) (set-none m from j))
-    (cleared-either (set m from 0) slots n (roundOf slots (from + 1)) j)

@@ -29,7 +29,7 @@ use Rattle.protocol.specs.Ends.{Phase, fresh, enabled, opened, closing, shut, r
 use Rattle.protocol.specs.Receiving.{Receiver, controlled}
 use Rattle.protocol.proofs.Small.{none-some}
 use Rattle.units_held.specs.Meaning.{stateOf}
-use Rattle.receiver_means.proofs.Places.{lying-none}
+use Rattle.units_held.proofs.Lying.{lying-none}
 use Rattle.receiver_means.proofs.Receives.{Within, Whole, Receives}
 use Rattle.receiver_means.proofs.Leaving.{Turned, receives-whole, left, shut-left, after-state, within-state}
 

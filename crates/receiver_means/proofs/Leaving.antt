@@ -23,7 +23,7 @@ use Rattle.protocol.specs.Ends.{rank}
 use Rattle.protocol.specs.Receiving.{Receiver}
 use Rattle.units_held.specs.Meaning.{lying}
 use Rattle.receiver_means.proofs.Wholes.{whole-in}
-use Rattle.receiver_means.proofs.Places.{lying-same}
+use Rattle.units_held.proofs.Lying.{lying-same}
 use Rattle.receiver_means.proofs.Receives.{Within, Whole, After, Receives}
 
 -- a window on its ring, as far as it counts here

@@ -5,14 +5,15 @@ use mathlib.Core.Path.{_≡_, refl, sym, ap, ap₂, _∙_, subst, subst₂}
 use mathlib.Core.Bool.{Bool, true, false, not, _&&_, _||_}
 use mathlib.Core.List.{List, [], _∷_, _++_}
 use mathlib.Core.Option.{Option, none, some}
-use Prim.Native.Nat.{ℕ, zero, suc, _+_, _-_, _%_, _≤_, _<_}
+use Prim.Native.Nat.{ℕ, zero, suc, _+_, _%_, _≤_, _<_}
 use native.Mathlib.Numerals.{add-one}
 use native.Mathlib.Omega.{arith}
 use borrow.Author.Tests.{ltb-true, ltb-false}
 use lib.Dec.{ltb, eqb}
-use lib.ListN.{length, getD, length-append, List·getD-append}
+use lib.ListN.{length, getD, List·getD-append}
 use lib.Seq.{getD-append-seam}
 use Rattle.laws.specs.Choice.{if_then_else_}
+use Rattle.laws.proofs.Lists.{length-snoc}
 use Rattle.ring.specs.Ring.{roundOf}
 use Rattle.ring.proofs.Laws.{round-lt, back-forth}
 use Rattle.slots.specs.Marks.{begins, ends}
@@ -38,9 +39,6 @@ fitting-same : (most way mark : ℕ) (octets : List ℕ) → window.fitting most
 unfolding window.fitting
 fitting-same most way mark octets =
     ap (λ (n : ℕ). (if eqb way 0 then begins mark else not (begins mark)) && (ends mark || ltb n most)) (add-one way)
-
-length-snoc : (l : List Segment) (g : Segment) → length (l ++ (g ∷ [])) ≡ suc (length l)
-length-snoc l g = omega (arith, length-append l (g ∷ []))
 
 module _ (k : Channel) (mem lens : List ℕ) (base : ℕ) (f : ℕ → Option Segment) where
   abbrev slots : ℕ

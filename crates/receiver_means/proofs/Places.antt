@@ -1,16 +1,15 @@
 -- The segment at a place: by its mark, and after a segment is filed or others are cleared. Places are counted from the oldest segment held.
 -- Assumes nothing.
-use mathlib.Core.Path.{_≡_, refl, sym, ap, ap₂, _∙_}
-use mathlib.Core.Bool.{Bool, true, false}
+use mathlib.Core.Path.{_≡_, sym, ap, ap₂, _∙_}
 use mathlib.Core.List.{List}
 use mathlib.Core.Option.{Option, none, some}
 use Prim.Native.Nat.{ℕ, _+_, _*_, _≤_, _<_}
 use native.Mathlib.Omega.{arith}
-use borrow.Author.Tests.{eq-eqb, ne-eqb, eqb-true, eqb-false}
+use borrow.Author.Tests.{eqb-true, eqb-false}
 use lib.Dec.{eqb}
 use lib.ListN.{length, getD, set}
 use lib.Seq.{getD-set-same, getD-set-other}
-use Rattle.laws.specs.Choice.{if_then_else_}
+use Rattle.laws.proofs.Choice.{either-way}
 use Rattle.ring.specs.Ring.{roundOf}
 use Rattle.ring.proofs.Laws.{back-lt, back-forth, round-add}
 use Rattle.slots.specs.Marks.{markOf}
@@ -27,50 +26,19 @@ use Rattle.protocol.specs.Units.{Segment}
 use Rattle.protocol.proofs.Small.{none-some}
 use Rattle.units_held.specs.Held.{octetsAt}
 use Rattle.units_held.specs.Meaning.{segmentBy, carried, lying}
+use Rattle.units_held.proofs.Lying.{lying-none, lying-some, lying-same}
 
 -- ---- by the mark
 
 module _ (c : Channel) (mem lens : List ℕ) (place : ℕ) where
-  abbrev markAt : ℕ
-  markAt = getD (c .marks) place 0
-
-  pub lying-none : getD (c .marks) place 0 ≡ 0 → lying c mem lens place ≡ none
-  unfolding lying
-  lying-none h = ap (λ (b : Bool). if b then none else some (segmentBy markAt (octetsAt c mem lens place))) (eq-eqb _ _ h)
-
-  pub lying-some : (getD (c .marks) place 0 ≡ 0 → ⊥) → lying c mem lens place ≡ some (segmentBy (getD (c .marks) place 0) (octetsAt c mem lens place))
-  unfolding lying
-  lying-some h = ap (λ (b : Bool). if b then none else some (segmentBy markAt (octetsAt c mem lens place))) (ne-eqb _ _ h)
-
-  -- and back
   pub none-unmarked : lying c mem lens place ≡ none → getD (c .marks) place 0 ≡ 0
-  none-unmarked e = by (eqb markAt 0) refl
-    where
-      by : (b : Bool) → eqb markAt 0 ≡ b → markAt ≡ 0
-      by true z = eqb-true _ _ z
-      by false z = absurd (none-some e (lying-some (eqb-false _ _ z)))
+  none-unmarked e = either-way (eqb (getD (c .marks) place 0) 0) (λ z. eqb-true _ _ z) (λ z. absurd (none-some e (lying-some c mem lens place (eqb-false _ _ z))))
 
   pub some-marked : (g : Segment) → lying c mem lens place ≡ some g → getD (c .marks) place 0 ≡ 0 → ⊥
-  some-marked g e z = none-some (lying-none z) e
+  some-marked g e z = none-some (lying-none c mem lens place z) e
 
   pub some-is : (g : Segment) → lying c mem lens place ≡ some g → g ≡ segmentBy (getD (c .marks) place 0) (octetsAt c mem lens place)
-  some-is g e = let p = lying-some (some-marked g e) in cc (e, p)
-
--- the same where the mark is the same, and the octets if there is one
-pub lying-same : (c k : Channel) (mem lens mem₁ lens₁ : List ℕ) (place : ℕ) → getD (k .marks) place 0 ≡ getD (c .marks) place 0
-    → ((getD (c .marks) place 0 ≡ 0 → ⊥) → octetsAt k mem₁ lens₁ place ≡ octetsAt c mem lens place)
-    → lying k mem₁ lens₁ place ≡ lying c mem lens place
-lying-same c k mem lens mem₁ lens₁ place e octets = by (eqb (getD (c .marks) place 0) 0) refl
-  where
-    by : (b : Bool) → eqb (getD (c .marks) place 0) 0 ≡ b → lying k mem₁ lens₁ place ≡ lying c mem lens place
-    by true z =
-        let free : getD (c .marks) place 0 ≡ 0 = eqb-true _ _ z in
-        lying-none k mem₁ lens₁ place (e ∙ free) ∙ sym (lying-none c mem lens place free)
-    by false z =
-        let used : getD (c .marks) place 0 ≡ 0 → ⊥ = eqb-false _ _ z in
-        lying-some k mem₁ lens₁ place (λ y. used (sym e ∙ y))
-        ∙ ap₂ (λ (m : ℕ) (o : List ℕ). some (segmentBy m o)) e (octets used)
-        ∙ sym (lying-some c mem lens place used)
+  some-is g e = let p = lying-some c mem lens place (some-marked g e) in cc (e, p)
 
 -- ---- a segment filed at a place
 

@@ -32,7 +32,7 @@ use Rattle.protocol.specs.Receiving.{Receiver, ReceiverCall, waiting, receiverS
 use Rattle.units_held.specs.Meaning.{limitsOf, lying}
 use Rattle.units_held.proofs.Runs.{Lies, First, run-first}
 use Rattle.receiver_means.proofs.Wholes.{whole-fits, whole-units, whole-first, whole-some}
-use Rattle.receiver_means.proofs.Places.{lying-none, lying-same}
+use Rattle.units_held.proofs.Lying.{lying-none, lying-same}
 use Rattle.receiver_means.proofs.Receives.{Within, Whole, After, Receives, lyingAt}
 use Rattle.receiver_means.proofs.Leaving.{Turned, receives-whole}
 use Rattle.receiver_means.proofs.Control.{turned}

@@ -2,26 +2,20 @@
 -- Assumes nothing.
 use mathlib.Core.Path.{_≡_, refl, sym, ap, _∙_}
 use mathlib.Core.Logic.{_⊎_, inl, inr, ⊎-elim}
-use mathlib.Core.Bool.{Bool, true, false}
 use mathlib.Core.List.{List, [], _∷_}
 use Prim.Native.Nat.{ℕ, zero, suc, _+_, _-_, _≤_, _<_, zero-le}
 use native.Mathlib.Nat.{add-zero}
 use native.Mathlib.Numerals.{add-one}
 use native.Mathlib.Omega.{arith}
-use borrow.Author.Tests.{lt-ltb, le-ltb, eq-eqb, ne-eqb, ltb-true, ltb-false, eqb-true, eqb-false}
-use lib.Dec.{eqb, ltb}
+use borrow.Author.Tests.{lt-ltb, le-ltb, eq-eqb, ne-eqb, eqb-true, eqb-false}
+use lib.Dec.{eqb}
 use lib.ListN.{length, getD, set, length-set}
 use lib.Seq.{getD-set-other}
+use Rattle.laws.proofs.Choice.{either-way}
+use Rattle.laws.proofs.Numbers.{lt-cases}
 use Rattle.ring.specs.Ring.{roundOf, backOf, runOf, cleared}
 
 -- ---- places
-
-lt-cases : (a b : ℕ) → (a < b) ⊎ (b ≤ a)
-lt-cases a b = by (ltb a b) refl
-  where
-    by : (t : Bool) → ltb a b ≡ t → (a < b) ⊎ (b ≤ a)
-    by true e = inl (ltb-true a b e)
-    by false e = inr (ltb-false a b e)
 
 module _ (slots x : ℕ) where
   pub round-in : x < slots → roundOf slots x ≡ x
@@ -91,10 +85,10 @@ module _ (slots place n : ℕ) (p : place < slots) where
       (round-cases slots (place + n))
 
 -- the first place of a run is its own; the next ones are those from the place after it on
-first-place : (slots from : ℕ) → from < slots → roundOf slots (from + 0) ≡ from
+pub first-place : (slots from : ℕ) → from < slots → roundOf slots (from + 0) ≡ from
 first-place slots from h = ap (roundOf slots) (add-zero from) ∙ round-in slots from h
 
-next-place : (slots from i : ℕ) → from < slots → i < slots
+pub next-place : (slots from i : ℕ) → from < slots → i < slots
     → roundOf slots (roundOf slots (from + 1) + i) ≡ roundOf slots (from + suc i)
 next-place slots from i h k =
     let e : from + (1 + i) ≡ from + suc i = omega arith in
@@ -124,11 +118,7 @@ run-none m slots n i s h = let e : n - i ≡ 0 = omega arith in rw e
 
 -- whether the mark is set
 mark-cases : (m : List ℕ) (s : ℕ) → (getD m s 0 ≡ 0) ⊎ (getD m s 0 ≡ 0 → ⊥)
-mark-cases m s = by (eqb (getD m s 0) 0) refl
-  where
-    by : (t : Bool) → eqb (getD m s 0) 0 ≡ t → (getD m s 0 ≡ 0) ⊎ (getD m s 0 ≡ 0 → ⊥)
-    by true e = inl (eqb-true _ _ e)
-    by false e = inr (eqb-false _ _ e)
+mark-cases m s = either-way (eqb (getD m s 0) 0) (λ e. inl (eqb-true _ _ e)) (λ e. inr (eqb-false _ _ e))
 
 pub run-le : (m : List ℕ) (slots n from : ℕ) → runOf m slots n from ≤ n
 unfolding runOf
@@ -204,23 +194,32 @@ unfolding cleared
 cleared-length m slots zero from = refl
 cleared-length m slots (suc n) from = cleared-length (set m from 0) slots n (roundOf slots (from + 1)) ∙ length-set m from 0
 
--- a mark that is not set stays so
-set-zero : (m : List ℕ) (s j : ℕ) → getD m j 0 ≡ 0 → getD (set m s 0) j 0 ≡ 0
-set-zero [] s j h = h
-set-zero (x ∷ m) zero zero h = refl
-set-zero (x ∷ m) zero (suc j) h = h
-set-zero (x ∷ m) (suc s) zero h = h
-set-zero (x ∷ m) (suc s) (suc j) h = set-zero m s j h
+-- a place after a store: what was stored, or nothing where the list ends before it
+pub set-here : (m : List ℕ) (s v : ℕ) → (getD (set m s v) s 0 ≡ v) ⊎ (getD (set m s v) s 0 ≡ 0)
+set-here [] s v = inr refl
+set-here (x ∷ m) zero v = inl refl
+set-here (x ∷ m) (suc s) v = set-here m s v
 
-set-here : (m : List ℕ) (s : ℕ) → getD (set m s 0) s 0 ≡ 0
-set-here [] s = refl
-set-here (x ∷ m) zero = refl
-set-here (x ∷ m) (suc s) = set-here m s
+set-none : (m : List ℕ) (s j : ℕ) → (getD (set m s 0) j 0 ≡ 0) ⊎ (getD (set m s 0) j 0 ≡ getD m j 0)
+set-none [] s j = inr refl
+set-none (x ∷ m) zero zero = inl refl
+set-none (x ∷ m) zero (suc j) = inr refl
+set-none (x ∷ m) (suc s) zero = inr refl
+set-none (x ∷ m) (suc s) (suc j) = set-none m s j
 
-pub cleared-zero : (m : List ℕ) (slots n from j : ℕ) → getD m j 0 ≡ 0 → getD (cleared m slots n from) j 0 ≡ 0
+-- a mark after some are cleared: none, or what it was
+pub cleared-either : (m : List ℕ) (slots n from j : ℕ) → (getD (cleared m slots n from) j 0 ≡ 0) ⊎ (getD (cleared m slots n from) j 0 ≡ getD m j 0)
 unfolding cleared
-cleared-zero m slots zero from j h = h
-cleared-zero m slots (suc n) from j h = cleared-zero (set m from 0) slots n (roundOf slots (from + 1)) j (set-zero m from j h)
+cleared-either m slots zero from j = inr refl
+cleared-either m slots (suc n) from j =
+    ⊎-elim
+    (λ z. inl z)
+    (λ e. ⊎-elim (λ z. inl (e ∙ z)) (λ s. inr (e ∙ s)) (set-none m from j))
+    (cleared-either (set m from 0) slots n (roundOf slots (from + 1)) j)
+
+-- so a mark that is not set stays so
+pub cleared-zero : (m : List ℕ) (slots n from j : ℕ) → getD m j 0 ≡ 0 → getD (cleared m slots n from) j 0 ≡ 0
+cleared-zero m slots n from j h = ⊎-elim (λ z. z) (λ e. e ∙ h) (cleared-either m slots n from j)
 
 -- the n marks are cleared
 pub cleared-in : (m : List ℕ) (slots n from i : ℕ) → from < slots → i < slots → i < n
@@ -229,7 +228,7 @@ unfolding cleared
 cleared-in m slots zero from i p b h = absurd (omega arith)
 cleared-in m slots (suc n) from zero p b h =
     cleared-zero (set m from 0) slots n (roundOf slots (from + 1)) (roundOf slots (from + 0))
-    (ap (λ (k : ℕ). getD (set m from 0) k 0) (first-place slots from p) ∙ set-here m from)
+    (ap (λ (k : ℕ). getD (set m from 0) k 0) (first-place slots from p) ∙ ⊎-elim (λ e. e) (λ e. e) (set-here m from 0))
 cleared-in m slots (suc n) from (suc i) p b h =
     ap (λ (k : ℕ). getD (cleared (set m from 0) slots n (roundOf slots (from + 1))) k 0) (sym (next-place slots from i p (omega arith)))
     ∙ cleared-in (set m from 0) slots n (roundOf slots (from + 1)) i (round-lt slots (from + 1) (omega arith)) (omega arith) (omega arith)

@@ -5,7 +5,7 @@ use mathlib.Core.Bool.{Bool, true, false, false≢true}
 use mathlib.Core.List.{List}
 use Prim.Native.Nat.{ℕ, _+_, _≤_, _<_}
 use native.Mathlib.Omega.{arith}
-use borrow.Author.Tests.{ne-eqb, leb-true, eqb-true, ltb-false, eqb-false}
+use borrow.Author.Tests.{ne-eqb, leb-true, eqb-true, ltb-false}
 use lib.Dec.{ltb, leb, eqb}
 use lib.ListN.{getD}
 use Rattle.laws.specs.Choice.{if_then_else_}
@@ -40,9 +40,6 @@ slot-bounds sending most mark len e n = go (ltb 4 mark) refl sending (ends mark)
     go false p true true q = (ltb-false _ _ p, leb-true _ _ q)
     go false p true false q = (ltb-false _ _ p, omega (arith, eqb-true len most q))
     go false p false u q = (ltb-false _ _ p, leb-true _ _ q)
-
-pub some-mark : (mark : ℕ) → (mark ≡ 0 → ⊥) → 1 ≤ mark
-some-mark mark n = omega (arith, eqb-false mark 0 (ne-eqb mark 0 n))
 
 -- a segment from the start on is held: it has a mark from 1 to 4, and at most P octets
 module _ (c : Channel) (lens : List ℕ) (h : Standing c lens) (i : ℕ) (l : i < c .window .ahead) where

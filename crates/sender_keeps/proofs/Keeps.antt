@@ -1,92 +1,27 @@
 -- What every theorem on the standing condition is made of: its parts as facts, and back; and places counted from another place.
 -- Assumes nothing.
 use mathlib.Core.Path.{_≡_, refl, sym, ap, _∙_}
-use mathlib.Core.Logic.{_⊎_, inl, inr, ⊎-elim}
+use mathlib.Core.Logic.{⊎-elim}
 use mathlib.Core.Bool.{Bool, true, false}
 use mathlib.Core.List.{List}
-use Prim.Native.Nat.{ℕ, _+_, _-_, _≤_, _<_}
+use Prim.Native.Nat.{ℕ, _+_, _-_, _<_}
 use native.Mathlib.Omega.{arith}
-use borrow.Author.Tests.{lt-ltb, le-leb, eq-eqb, ne-eqb, ltb-true, ltb-false, leb-true, eqb-true}
+use borrow.Author.Tests.{eq-eqb, ne-eqb, ltb-true, ltb-false, eqb-true}
 use lib.Dec.{ltb, eqb}
 use lib.ListN.{length, getD}
 use Rattle.laws.specs.Choice.{if_then_else_}
-use Rattle.laws.proofs.Choice.{both}
+use Rattle.laws.proofs.Choice.{both, either}
+use Rattle.laws.proofs.Numbers.{lt-cases}
 use Rattle.ring.specs.Ring.{roundOf, backOf, cleared}
-use Rattle.ring.proofs.Laws.{round-in, round-out, round-add, back-lt, back-forth, cleared-in, cleared-out}
+use Rattle.ring.proofs.Laws.{round-in, round-out, cleared-in, cleared-out}
 use Rattle.slots.specs.Slots.{slotOf}
-use Rattle.channel.specs.declared.record.Limits.{Limits}
 use Rattle.channel.specs.declared.record.Window.{Window}
 use Rattle.channel.specs.declared.record.Channel.{Channel}
 use Rattle.channel.specs.Record.{sends, opened, heldIn}
 use Rattle.channel.specs.Settings.{fitLimits}
-use Rattle.channel.specs.Standing.{named, inRing, inFlight, sided, oldestOf, slotFit, Standing, Counted}
-
-pub lt-cases : (a b : ℕ) → (a < b) ⊎ (b ≤ a)
-lt-cases a b = by (ltb a b) refl
-  where
-    by : (t : Bool) → ltb a b ≡ t → (a < b) ⊎ (b ≤ a)
-    by true e = inl (ltb-true a b e)
-    by false e = inr (ltb-false a b e)
-
--- ---- the numbers of a window
-
-pub counted-ring : (l : Limits) (w : Window) → Counted l w → inRing l w ≡ true
-unfolding inRing
-counted-ring l w k =
-    simp (
-      lt-ltb (w .place) (l .slots) (k .place),
-      le-leb (w .behind) (l .slots) (omega (arith, k .held)),
-      le-leb (w .ahead) (l .slots - w .behind) (omega (arith, k .held)),
-    )
-
-pub counted-flight : (l : Limits) (w : Window) → Counted l w → inFlight l w ≡ true
-unfolding inFlight
-counted-flight l w k =
-    simp (
-      le-leb (w .flight) (w .ahead) (k .flight),
-      le-leb (w .flight) (l .window) (k .window),
-      le-leb (w .way) (w .behind) (k .way),
-      lt-ltb (w .way) (l .segments) (k .unit),
-    )
-
--- ---- the small numbers
-
-pub record Named (c : Channel) : Type 0 where
-  pub direction : c .addresses .direction ≤ 1
-  pub state : c .state ≤ 3
-  pub reason : c .reason ≤ 5
-  pub kept : c .kept ≤ 1
-  pub accepted : c .accepted ≤ 1
-  pub control : c .control .state ≤ 3
-
-pub named-is : (c : Channel) → named c ≡ true → Named c
-unfolding named
-named-is c e =
-    let n5 = both _ _ e in
-    let n4 = both _ _ (n5 .0) in
-    let n3 = both _ _ (n4 .0) in
-    let n2 = both _ _ (n3 .0) in
-    let n1 = both _ _ (n2 .0) in
-    record {
-      direction = leb-true _ _ (n1 .0);
-      state = leb-true _ _ (n1 .1);
-      reason = leb-true _ _ (n2 .1);
-      kept = leb-true _ _ (n3 .1);
-      accepted = leb-true _ _ (n4 .1);
-      control = leb-true _ _ (n5 .1);
-    }
-
-pub is-named : (c : Channel) → Named c → named c ≡ true
-unfolding named
-is-named c n =
-    simp (
-      le-leb _ _ (n .direction),
-      le-leb _ _ (n .state),
-      le-leb _ _ (n .reason),
-      le-leb _ _ (n .kept),
-      le-leb _ _ (n .accepted),
-      le-leb _ _ (n .control),
-    )
+use Rattle.channel.proofs.StandingLaws.{counted-ring, counted-flight, Named, is-named}
+use Rattle.channel.proofs.MadeLaws.{free-fits}
+use Rattle.channel.specs.Standing.{named, sided, oldestOf, slotFit, Standing, Counted}
 
 -- ---- the side: this end sends
 
@@ -109,11 +44,7 @@ module _ (direction state : ℕ) (w : Window) (s : direction ≡ sends) where
   pub still-sided : w .way ≡ 0 → w .behind ≡ 0 → w .flight ≡ 0 → sided direction state w ≡ true
   unfolding sided
   still-sided z b f =
-      simp (eq-eqb direction sends s, eq-eqb (w .way) 0 z, eq-eqb (w .behind) 0 b, eq-eqb (w .flight) 0 f) (go (eqb state opened))
-    where
-      go : (t : Bool) → (if t then true else true) ≡ true
-      go true = refl
-      go false = refl
+      simp (eq-eqb direction sends s, eq-eqb (w .way) 0 z, eq-eqb (w .behind) 0 b, eq-eqb (w .flight) 0 f) (either (λ (b : Bool). b ≡ true) (eqb state opened) true true refl refl)
 
 -- ---- a channel that stands, from its parts
 
@@ -160,11 +91,7 @@ toward-is slots from s p q = by (ltb s from) refl
         let z : from + (s - from) ≡ s = omega arith in
         (omega arith, ap (roundOf slots) z ∙ round-in slots s q)
 
--- ---- slots: a free one fits, and so do all once some are freed
-
-pub free-fits : (sending : Bool) (most len : ℕ) → slotFit sending most 0 len ≡ true
-unfolding slotFit
-free-fits sending most len = refl
+-- ---- slots: all fit once some are freed
 
 pub cleared-fit : (sending : Bool) (most : ℕ) (marks lens : List ℕ) (slots n from : ℕ) → from < slots
     → ((i : ℕ) → i < slots → slotFit sending most (getD marks i 0) (getD lens (slotOf i) 0) ≡ true)

@@ -1,11 +1,10 @@
 -- A Data Ack keeps the standing condition: whole units are freed, and what is passed of an unconfirmed one stays behind the start.
 -- Assumes nothing.
-use mathlib.Core.Path.{_≡_, refl, sym, ap, _∙_}
-use mathlib.Core.Bool.{Bool, true, false, not}
+use mathlib.Core.Path.{_≡_, sym, ap, _∙_}
+use mathlib.Core.Bool.{Bool, true, false}
 use mathlib.Core.List.{List}
 use Prim.Native.Nat.{ℕ, _+_, _-_, _%_, _≤_, _<_}
 use native.Mathlib.Omega.{arith}
-use borrow.Author.Tests.{eqb-true}
 use lib.Dec.{eqb}
 use lib.ListN.{getD, set}
 use Rattle.laws.specs.Choice.{if_then_else_}
@@ -15,15 +14,13 @@ use Rattle.store.proofs.Laws.{last-le}
 use Rattle.channel.specs.declared.record.Window.{Window}
 use Rattle.channel.specs.declared.record.Channel.{Channel}
 use Rattle.channel.specs.declared.step.Stepped.{Stepped}
-use Rattle.channel.specs.declared.answer.Answer.the-variants.{Done}
-use Rattle.channel.specs.declared.answer.Refusal.the-variants as refusal
 use Rattle.channel.specs.Record.{sends, opened, withWindow, withMarks, withAcked}
 use Rattle.channel.specs.Standing.{oldestOf, Standing}
-use Rattle.channel.specs.Steps.{refusing}
-use Rattle.channel.proofs.StandingLaws.{counted-is}
+use Rattle.channel.proofs.StandingLaws.{counted-is, named-is}
 use Rattle.sender.specs.Directives.{placeAt}
-use Rattle.sender_acks.specs.Acks.{awayOf, isAwaited, recorded, runAt, confirmedAt, wholeAt, advanced, dataAckStep}
-use Rattle.sender_keeps.proofs.Keeps.{named-is, sided-way, open-sided, stand, cleared-fit}
+use Rattle.sender_acks.specs.Acks.{awayOf, recorded, runAt, wholeAt, advanced, dataAckStep}
+use Rattle.sender_keeps.proofs.Cases.{data-ack-cases}
+use Rattle.sender_keeps.proofs.Keeps.{sided-way, open-sided, stand, cleared-fit}
 use Rattle.sender.proofs.AskedLaws.{from-oldest}
 use Rattle.sender_keeps.proofs.KeepsDirectives.{timers-stand, acked-stand}
 
@@ -129,8 +126,8 @@ advanced-stands c lens h s o = go (eqb done 0)
 
 pub data-ack-stands : (c : Channel) (lens : List ℕ) (number : ℕ) → Standing c lens → c .addresses .direction ≡ sends
     → Standing (dataAckStep c number .channel) lens
-unfolding dataAckStep
-data-ack-stands c lens number h s = go (eqb (c .state) opened) refl (isAwaited c (awayOf c number))
+data-ack-stands c lens number h s =
+    data-ack-cases c (λ (s : Stepped). Standing (s .channel) lens) number h h (λ e. advanced-stands noted lens stands s e)
   where
     noted : Channel
     noted = recorded c (awayOf c number)
@@ -139,14 +136,3 @@ data-ack-stands c lens number h s = go (eqb (c .state) opened) refl (isAwaited c
     stands =
         let acked = set (c .acked) (placeAt c (awayOf c number)) 1 in
         timers-stand (withAcked c acked) lens (acked-stand c lens h acked) (noted .timers)
-
-    by : Bool → Bool → Stepped
-    by a b =
-        if not a then refusing c refusal.State
-        else if not b then refusing c refusal.Ignored
-        else record { channel = advanced noted; answer = Done 0 (confirmedAt noted) }
-
-    go : (a : Bool) → eqb (c .state) opened ≡ a → (b : Bool) → Standing (by a b .channel) lens
-    go false e b = h
-    go true e false = h
-    go true e true = advanced-stands noted lens stands s (eqb-true (c .state) opened e)

@@ -1,8 +1,8 @@
 -- Directives, Control Acks and ticks keep the standing condition.
 -- Assumes nothing.
 use mathlib.Core.Path.{_≡_, refl, sym, ap, _∙_}
-use mathlib.Core.Bool.{Bool, true, false, not, _||_}
-use mathlib.Core.List.{List, map}
+use mathlib.Core.Bool.{Bool, true, false, not}
+use mathlib.Core.List.{List}
 use Prim.Native.Nat.{ℕ, _+_, _-_, _≤_}
 use native.Mathlib.Omega.{arith}
 use lib.Dec.{leb, eqb}
@@ -14,18 +14,17 @@ use Rattle.channel.specs.declared.record.Lone.{Lone}
 use Rattle.channel.specs.declared.record.Timers.{Timers}
 use Rattle.channel.specs.declared.record.Channel.{Channel}
 use Rattle.channel.specs.declared.lone.Fallen.{Fallen}
-use Rattle.channel.specs.declared.answer.Refusal.the-variants as refusal
-use Rattle.channel.specs.Record.{sends, closed, enabled, opened, closing, retriesOut, noLone, heldIn, withState, withReason, withKept, withControl, withTimers, withAcked}
-use Rattle.channel.specs.Lone.{readyLone, isOut, fallen}
+use Rattle.channel.specs.Record.{sends, closed, opened, closing, retriesOut, noLone, withState, withReason, withKept, withControl, withTimers, withAcked}
+use Rattle.channel.specs.Lone.{readyLone, fallen}
 use Rattle.channel.specs.Standing.{named, oldestOf, Standing}
-use Rattle.channel.specs.Steps.{refusing, doing, enabledOf}
-use Rattle.channel.proofs.StandingLaws.{counted-is}
+use Rattle.channel.proofs.StandingLaws.{counted-is, named-is, is-named}
 use Rattle.channel.proofs.MadeLaws.{enabled-stands}
-use Rattle.sender.specs.declared.ticking.Ticked.{Ticked}
 use Rattle.sender.specs.Directives.{parked, parkedWindow, shutFor, openStep, closeStep}
 use Rattle.sender_acks.specs.Acks.{controlAckStep}
-use Rattle.sender.specs.Ticking.{lowered, anySpent, tickStep}
-use Rattle.sender_keeps.proofs.Keeps.{named-is, is-named, sided-way, still-sided, open-sided, stand, back-none}
+use Rattle.sender.specs.Ticking.{tickStep}
+use Rattle.channel.specs.declared.step.Stepped.{Stepped}
+use Rattle.sender_keeps.proofs.Cases.{open-cases, close-cases, control-ack-cases, tick-cases}
+use Rattle.sender_keeps.proofs.Keeps.{sided-way, still-sided, open-sided, stand, back-none}
 
 module _ (c : Channel) (lens : List ℕ) (h : Standing c lens) where
   -- ---- it does not look at timers and acks, and at the small numbers only as far as they have a meaning
@@ -111,58 +110,21 @@ shut-stands c lens h s why small =
 -- ---- the theorems
 
 pub open-stands : (c : Channel) (lens : List ℕ) → Standing c lens → Standing (openStep c .channel) lens
-unfolding openStep
-open-stands c lens h = go (eqb (c .state) closed) (eqb (heldIn (c .window)) 0)
-  where
-    go : (a b : Bool)
-        → Standing
-        ((if not a then refusing c refusal.State else if not b then refusing c refusal.Untaken else doing (enabledOf c readyLone) 0) .channel)
-        lens
-    go false b = h
-    go true false = h
-    go true true = enabled-stands c lens readyLone (omega arith) h
+open-stands c lens h = open-cases c (λ (s : Stepped). Standing (s .channel) lens) h h (enabled-stands c lens readyLone (omega arith) h)
 
 pub close-stands : (c : Channel) (lens : List ℕ) → Standing c lens → c .addresses .direction ≡ sends → Standing (closeStep c .channel) lens
-unfolding closeStep
-close-stands c lens h s = go (eqb (c .state) opened) (eqb (c .state) enabled) (eqb (c .kept) 0)
-  where
-    go : (a b k : Bool)
-        → Standing
-        ((if a then doing (parked c closing readyLone) 0
-        else if not b then refusing c refusal.State
-        else if k then doing (withKept c 1) 0
-        else refusing c refusal.State)
-        .channel)
-        lens
-    go true b k = parked-stands c lens h s closing readyLone (omega arith) (omega arith)
-    go false false k = h
-    go false true true = kept-stands c lens h 1 (omega arith)
-    go false true false = h
+close-stands c lens h s =
+    close-cases c (λ (s : Stepped). Standing (s .channel) lens) h
+    (λ e. parked-stands c lens h s closing readyLone (omega arith) (omega arith))
+    (kept-stands c lens h 1 (omega arith))
 
 pub control-ack-stands : (c : Channel) (lens : List ℕ) (number : ℕ) → Standing c lens → c .addresses .direction ≡ sends
     → Standing (controlAckStep c number .channel) lens
-unfolding controlAckStep
 control-ack-stands c lens number h s =
-    go (eqb (c .state) enabled || eqb (c .state) closing) (eqb number 0) (isOut (c .control)) (eqb (c .state) closing) (eqb (c .kept) 0)
-  where
-    go : (a b o e k : Bool)
-        → Standing
-        ((if not a then refusing c refusal.State
-        else if not b then refusing c refusal.Ignored
-        else if not o then refusing c refusal.Ignored
-        else doing
-        (if e then parked c closed noLone
-        else if k then withControl (withState c opened) noLone
-        else parked c closing readyLone)
-        0)
-        .channel)
-        lens
-    go false b o e k = h
-    go true false o e k = h
-    go true true false e k = h
-    go true true true true k = parked-stands c lens h s closed noLone (omega arith) (omega arith)
-    go true true true false true = opened-stands c lens h s
-    go true true true false false = parked-stands c lens h s closing readyLone (omega arith) (omega arith)
+    control-ack-cases c (λ (s : Stepped). Standing (s .channel) lens) number h h
+    (λ e. parked-stands c lens h s closed noLone (omega arith) (omega arith))
+    (λ e. opened-stands c lens h s)
+    (λ e. parked-stands c lens h s closing readyLone (omega arith) (omega arith))
 
 -- a packet sent alone keeps a state that has a meaning
 fallen-state : (l : Lone) → l .state ≤ 3 → fallen l .lone .state ≤ 3
@@ -183,29 +145,9 @@ fallen-state l small = go (eqb (l .state) 2) (leb 2 (l .timer)) (eqb (l .tries) 
     go true false false = omega arith
 
 pub tick-stands : (c : Channel) (lens : List ℕ) → Standing c lens → c .addresses .direction ≡ sends → Standing (tickStep c .channel) lens
-unfolding tickStep
 tick-stands c lens h s =
-    go (eqb (c .state) opened) (anySpent (c .timers .left) (c .timers .tries)) (eqb (c .state) enabled || eqb (c .state) closing) (fallen (c .control) .spent)
-  where
-    shut : Standing (shutFor c retriesOut) lens
-    shut = shut-stands c lens h s retriesOut (omega arith)
-
-    by : Bool → Bool → Bool → Bool → Ticked
-    by a d b f =
-        if a then
-        (if d then record { channel = shutFor c retriesOut; inactive = true }
-        else record {
-          channel = withTimers c (record { closing = c .timers .closing; left = map lowered (c .timers .left); tries = c .timers .tries });
-          inactive = false;
-        })
-        else if b then
-        (if f then record { channel = shutFor c retriesOut; inactive = true }
-        else record { channel = withControl c (fallen (c .control) .lone); inactive = false })
-        else record { channel = c; inactive = false }
-
-    go : (a d b f : Bool) → Standing (by a d b f .channel) lens
-    go true true b f = shut
-    go true false b f = timers-stand c lens h _
-    go false d true true = shut
-    go false d true false = control-stands c lens h (fallen (c .control) .lone) (fallen-state (c .control) (named-is c (h .named) .control))
-    go false d false f = h
+    let shut = shut-stands c lens h s retriesOut (omega arith) in
+    tick-cases c (λ (k : Channel). Standing k lens) (λ e. shut) (λ e. shut) (λ e. shut)
+    (timers-stand c lens h _)
+    (control-stands c lens h (fallen (c .control) .lone) (fallen-state (c .control) (named-is c (h .named) .control)))
+    h

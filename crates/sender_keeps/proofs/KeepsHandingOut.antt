@@ -14,11 +14,11 @@ use Rattle.channel.specs.Record.{sends, opened}
 use Rattle.channel.specs.Lone.{handedOut}
 use Rattle.channel.specs.Standing.{Standing}
 use Rattle.channel.specs.Steps.{refusing, doing}
-use Rattle.channel.proofs.StandingLaws.{counted-is}
+use Rattle.channel.proofs.StandingLaws.{counted-is, named-is}
 use Rattle.sender_packets.specs.Asked.{Ready}
 use Rattle.sender_packets.specs.HandingOut.{rankOf, oneMore, controlOut, againOut, newOut, nextOut, nextLength, handStep}
 use Rattle.sender_packets.proofs.HandLaws.{rank-open, rank-2-is}
-use Rattle.sender_keeps.proofs.Keeps.{named-is, sided-way, open-sided, stand}
+use Rattle.sender_keeps.proofs.Keeps.{sided-way, open-sided, stand}
 use Rattle.sender_keeps.proofs.KeepsDirectives.{timers-stand, control-stands}
 
 module _ (c : Channel) (lens : List ℕ) (h : Standing c lens) (s : c .addresses .direction ≡ sends) where

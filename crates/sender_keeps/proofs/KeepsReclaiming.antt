@@ -1,25 +1,22 @@
 -- A unit reclaimed keeps the standing condition.
 -- Assumes nothing.
-use mathlib.Core.Path.{_≡_, refl, sym, ap, _∙_}
-use mathlib.Core.Bool.{Bool, true, false, not}
+use mathlib.Core.Path.{_≡_, sym, ap, _∙_}
 use mathlib.Core.List.{List}
-use Prim.Native.Nat.{ℕ, _+_, _-_, _≤_, _<_}
+use Prim.Native.Nat.{ℕ, _+_, _≤_, _<_}
 use native.Mathlib.Omega.{arith}
-use borrow.Author.Tests.{eqb-true}
-use lib.Dec.{ltb, eqb}
+use lib.Dec.{eqb}
 use lib.ListN.{getD}
-use Rattle.laws.specs.Choice.{if_then_else_}
 use Rattle.ring.specs.Ring.{roundOf, backOf, cleared}
 use Rattle.ring.proofs.Laws.{round-lt, round-add, cleared-out}
 use Rattle.store.proofs.Laws.{unit-le}
 use Rattle.channel.specs.declared.record.Channel.{Channel}
-use Rattle.channel.specs.declared.answer.Refusal.the-variants as refusal
-use Rattle.channel.specs.Record.{sends, closed, opened}
+use Rattle.channel.specs.Record.{sends, opened}
 use Rattle.channel.specs.Standing.{Standing}
-use Rattle.channel.specs.Steps.{refusing, doing}
-use Rattle.channel.proofs.StandingLaws.{counted-is}
-use Rattle.sender_units.specs.Reclaiming.{unitAt, sizeAt, dropped, reclaimStep}
-use Rattle.sender_keeps.proofs.Keeps.{named-is, sided-way, sided-still, still-sided, stand, back-none, cleared-fit}
+use Rattle.channel.proofs.StandingLaws.{counted-is, named-is}
+use Rattle.sender_units.specs.Reclaiming.{unitAt, dropped, reclaimStep}
+use Rattle.channel.specs.declared.step.Stepped.{Stepped}
+use Rattle.sender_keeps.proofs.Cases.{reclaim-cases}
+use Rattle.sender_keeps.proofs.Keeps.{sided-way, sided-still, still-sided, stand, back-none, cleared-fit}
 
 -- the oldest n segments are gone
 dropped-stands : (c : Channel) (lens : List ℕ) → Standing c lens → c .addresses .direction ≡ sends → (c .state ≡ opened → ⊥)
@@ -60,20 +57,6 @@ dropped-stands c lens h s shut n l =
 
 pub reclaim-stands : (c : Channel) (lens : List ℕ) (n : ℕ) → Standing c lens → c .addresses .direction ≡ sends
     → Standing (reclaimStep c lens n .channel) lens
-unfolding reclaimStep
-reclaim-stands c lens n h s = go (eqb (c .state) closed) refl (eqb (c .window .ahead) 0) (ltb n (sizeAt c lens))
-  where
-    go : (a : Bool) → eqb (c .state) closed ≡ a → (b d : Bool)
-        → Standing
-        ((if not a then refusing c refusal.State
-        else if b then refusing c refusal.Nothing
-        else if d then refusing c refusal.Small
-        else doing (dropped c (unitAt c)) (sizeAt c lens))
-        .channel)
-        lens
-    go false e b d = h
-    go true e true d = h
-    go true e false true = h
-    go true e false false =
-        let is = eqb-true (c .state) closed e in
-        dropped-stands c lens h s (λ o. omega arith) (unitAt c) (unit-le (c .marks) (c .limits .slots) (c .window .ahead) (c .window .place))
+reclaim-stands c lens n h s =
+    reclaim-cases c (λ (s : Stepped). Standing (s .channel) lens) lens n h h h
+    (λ is some. dropped-stands c lens h s (λ o. omega arith) (unitAt c) (unit-le (c .marks) (c .limits .slots) (c .window .ahead) (c .window .place)))

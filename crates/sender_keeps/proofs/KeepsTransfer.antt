@@ -1,7 +1,7 @@
 -- A transfer keeps the standing condition, and the size of the memory.
 -- Assumes nothing.
 use mathlib.Core.Path.{_≡_, refl, sym, ap, ap₂, _∙_, subst}
-use mathlib.Core.Logic.{_⊎_, ⊎-elim}
+use mathlib.Core.Logic.{⊎-elim}
 use mathlib.Core.Bool.{Bool, true, false}
 use mathlib.Core.List.{List}
 use Prim.Native.Nat.{ℕ, _+_, _-_, _≤_, _<_}
@@ -10,6 +10,7 @@ use native.Mathlib.Omega.{arith}
 use borrow.Author.Tests.{le-leb, eq-eqb, eqb-true, eqb-false}
 use lib.Dec.{leb, eqb}
 use lib.ListN.{length, getD}
+use Rattle.laws.proofs.Numbers.{lt-cases}
 use Rattle.laws.specs.Choice.{if_then_else_}
 use Rattle.ring.specs.Ring.{roundOf}
 use Rattle.ring.proofs.Laws.{round-lt, round-add, round-apart, back-lt}
@@ -25,10 +26,10 @@ use Rattle.channel.specs.declared.step.Stepped.{Stepped}
 use Rattle.channel.specs.Record.{sends, heldIn}
 use Rattle.channel.specs.Standing.{oldestOf, slotFit, Standing}
 use Rattle.channel.proofs.SettingsLaws.{fit-is}
-use Rattle.channel.proofs.StandingLaws.{counted-is}
+use Rattle.channel.proofs.StandingLaws.{counted-is, named-is}
 use Rattle.sender_units.specs.Transfer.{isAccepted, longer, filedUnit, freeAt, transferStep, transferMem, transferLens}
 use Rattle.sender_units.proofs.UnitLaws.{accepted-is, would-same, transfer-no, transfer-no-lens, transfer-done, transfer-done-lens}
-use Rattle.sender_keeps.proofs.Keeps.{lt-cases, named-is, sided-way, open-sided, stand, toward, toward-is}
+use Rattle.sender_keeps.proofs.Keeps.{sided-way, open-sided, stand, toward, toward-is}
 use Rattle.sender.proofs.AskedLaws.{from-oldest}
 
 -- ---- a segment filed fits: full, unless it is its unit's last

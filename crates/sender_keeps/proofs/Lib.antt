@@ -1,3 +1,4 @@
+pub mod Cases
 pub mod Keeps
 pub mod KeepsDirectives
 pub mod KeepsHandingOut

@@ -12,6 +12,7 @@ use lib.Dec.{ltb, eqb}
 use lib.ListN.{take, drop, getD, set, length-set}
 use lib.Seq.{getD-set-same, getD-set-other}
 use Rattle.laws.specs.Choice.{if_then_else_}
+use Rattle.laws.proofs.Numbers.{lt-cases}
 use Rattle.ring.proofs.Laws.{round-lt, round-apart}
 use Rattle.channel.specs.declared.record.Channel.{Channel}
 use Rattle.channel.specs.declared.answer.Refusal.{Refusal}
@@ -27,7 +28,6 @@ use Rattle.channel.proofs.StandingLaws.{counted-is}
 use Rattle.sender.specs.Directives.{placeAt}
 use Rattle.sender_acks.specs.Acks.{awayOf, isAwaited, recorded, runAt, advanced, dataAckStep}
 use Rattle.sender_acks.proofs.AckLaws.{data-ack-state, data-ack-ignored, data-ack-done, awaited-sent, not-sent, sent-awaited}
-use Rattle.sender_keeps.proofs.Keeps.{lt-cases}
 use Rattle.sender_keeps.proofs.KeepsDirectives.{timers-stand, acked-stand}
 use Rattle.protocol.specs.Numbers.{numberAt, distance}
 use Rattle.protocol.specs.Units.{Segment, endings, wholeTo}

@@ -7,11 +7,12 @@ use mathlib.Core.Logic.{⊎-elim}
 use mathlib.Core.Option.{some}
 use Prim.Native.Nat.{ℕ, zero, suc, _+_, _-_, _%_, _≤_, _<_}
 use native.Mathlib.Omega.{arith}
-use borrow.Author.Tests.{eq-eqb, ne-eqb}
+use borrow.Author.Tests.{eq-eqb, ne-eqb, not-false, not-true as not-yes}
 use lib.Dec.{eqb}
 use lib.ListN.{length, take, drop, getD, length-drop}
 use lib.Seq.{getD-take, getD-drop, length-take-le}
 use Rattle.laws.specs.Choice.{if_then_else_}
+use Rattle.laws.proofs.Numbers.{lt-cases}
 use Rattle.laws.proofs.Choice.{chosen, passed-by}
 use Rattle.ring.specs.Ring.{roundOf, backOf, cleared}
 use Rattle.ring.proofs.Laws.{round-lt, round-add, back-lt, forth-back, run-le, cleared-out, cleared-length}
@@ -25,24 +26,16 @@ use Rattle.channel.proofs.StandingLaws.{counted-is}
 use Rattle.sender.specs.Directives.{placeAt}
 use Rattle.sender.proofs.AskedLaws.{from-oldest}
 use Rattle.sender_acks.specs.Acks.{runAt, confirmedAt, wholeAt, advanced}
-use Rattle.sender_keeps.proofs.Keeps.{lt-cases}
 use Rattle.sender_keeps.proofs.Passed.{passed-acked, stops-unacked}
 use Rattle.protocol.specs.Numbers.{numberAt}
 use Rattle.protocol.specs.Units.{Segment, blank, endings, wholeTo}
 use Rattle.protocol.specs.Sending.{advance}
 use Rattle.protocol.proofs.Small.{not-true}
 use Rattle.units_held.specs.Meaning.{lying}
+use Rattle.units_held.proofs.Lying.{lying-same}
 use Rattle.units_held.proofs.Runs.{Lies, run-endings, wholeBy, run-whole}
 use Rattle.sender_means.proofs.Sends.{heldAt, Holds, Windowed}
-use Rattle.sender_means.proofs.Placed.{from-start, same-lying}
-
-not-no : (b : Bool) → not b ≡ false → b ≡ true
-not-no true e = refl
-not-no false e = sym e
-
-not-yes : (b : Bool) → not b ≡ true → b ≡ false
-not-yes true e = sym e
-not-yes false e = refl
+use Rattle.sender_means.proofs.Placed.{from-start}
 
 -- k marked, and then one that is not: the protocol's start moves past k
 advance-run : (m k : ℕ) (f : ℕ → Bool) (i : ℕ) → k ≤ m → ((j : ℕ) → j < k → f (i + j) ≡ true) → f (i + k) ≡ false → advance m f i ≡ i + k
@@ -82,7 +75,7 @@ module _ (c : Channel) (mem lens : List ℕ) (line : List Segment) (oldest start
   passed-is : (j : ℕ) → j < n → acked (start + j) ≡ true
   passed-is j l =
       let p = passed-acked c lens (a .standing) j l in
-      not-no (acked (start + j)) (sym (w .noted j (omega (arith, p .0, counts .flight))) ∙ ne-eqb (getD (c .acked) (placeAt c j) 0) 0 (p .1))
+      not-false (acked (start + j)) (sym (w .noted j (omega (arith, p .0, counts .flight))) ∙ ne-eqb (getD (c .acked) (placeAt c j) 0) 0 (p .1))
 
   stops-is : acked (start + n) ≡ false
   stops-is =
@@ -164,7 +157,7 @@ module _ (c : Channel) (mem lens : List ℕ) (line : List Segment) (oldest start
         count = omega (arith, x .count, few, counts .flight);
         each = λ j h.
             ap (λ (p : ℕ). lying (moved true done) mem lens (roundOf slots (p + j))) same
-            ∙ same-lying c (moved true done) mem lens mem lens (heldAt c j) refl refl
+            ∙ lying-same c (moved true done) mem lens mem lens (heldAt c j) refl (λ used. refl)
             ∙ x .each j (omega (arith, few, counts .flight));
         whole = x .whole;
         marks = x .marks;
@@ -189,9 +182,9 @@ module _ (c : Channel) (mem lens : List ℕ) (line : List Segment) (oldest start
             let index : oldest + (free + j) ≡ start + done + j = omega (arith, w .behind) in
             ap (λ (p : ℕ). lying (moved false done) mem lens (roundOf slots (p + j))) new
             ∙ ap (lying (moved false done) mem lens) (round-add slots old free j (omega (arith, first-in, counts .held)))
-            ∙ same-lying c (moved false done) mem lens mem lens (heldAt c (free + j))
+            ∙ lying-same c (moved false done) mem lens mem lens (heldAt c (free + j))
             (cleared-out (c .marks) slots free old (free + j) first-in (omega (arith, counts .held)) (omega arith))
-            refl
+            (λ used. refl)
             ∙ x .each (free + j) far
             ∙ ap (λ (i : ℕ). some (getD line i blank)) index;
         whole = x .whole;

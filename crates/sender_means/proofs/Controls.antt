@@ -1,34 +1,32 @@
 -- Directives, Control Acks and ticks: each leaves the sender's phase or moves it on, and nothing else of it changes.
 -- Assumes nothing.
 use mathlib.Core.Path.{_≡_, refl, sym, ap, _∙_, subst}
-use mathlib.Core.Bool.{Bool, true, false, not, _||_}
+use mathlib.Core.Bool.{Bool, true}
 use mathlib.Core.List.{List, map}
 use Prim.Native.Nat.{ℕ, _+_, _≤_, _<_}
 use native.Mathlib.Nat.{le-refl}
 use native.Mathlib.Omega.{arith}
-use borrow.Author.Tests.{lt-ltb, le-ltb, eqb-true}
-use lib.Dec.{ltb, eqb}
+use borrow.Author.Tests.{lt-ltb, le-ltb}
+use lib.Dec.{ltb}
 use lib.ListN.{length, length-replicate}
-use Rattle.laws.specs.Choice.{if_then_else_}
 use Rattle.ring.specs.Ring.{roundOf}
 use Rattle.ring.proofs.Laws.{back-lt}
 use Rattle.channel.specs.declared.record.Lone.{Lone}
 use Rattle.channel.specs.declared.record.Timers.{Timers}
 use Rattle.channel.specs.declared.record.Channel.{Channel}
-use Rattle.channel.specs.declared.answer.Refusal.the-variants as refusal
 use Rattle.channel.specs.declared.step.Stepped.{Stepped}
 use Rattle.channel.specs.Answers.{numberOf}
-use Rattle.channel.specs.Record.{sends, retriesOut, noLone, heldIn, withState, withReason, withKept, withControl, withTimers}
+use Rattle.channel.specs.Record.{sends, retriesOut, noLone, withState, withReason, withKept, withControl, withTimers}
 use Rattle.channel.specs.Record as record-of
-use Rattle.channel.specs.Lone.{readyLone, isOut, fallen}
+use Rattle.channel.specs.Lone.{readyLone, fallen}
 use Rattle.channel.specs.Standing.{oldestOf}
-use Rattle.channel.specs.Steps.{refusing, doing, enabledOf}
+use Rattle.channel.specs.Steps.{enabledOf}
 use Rattle.channel.specs.Asked.{Asked}
 use Rattle.channel.proofs.StandingLaws.{counted-is}
-use Rattle.sender.specs.declared.ticking.Ticked.{Ticked}
 use Rattle.sender.specs.Directives.{parked, shutFor, openStep, closeStep}
-use Rattle.sender.specs.Ticking.{lowered, anySpent, tickStep}
+use Rattle.sender.specs.Ticking.{lowered, tickStep}
 use Rattle.sender_acks.specs.Acks.{controlAckStep}
+use Rattle.sender_keeps.proofs.Cases.{open-cases, close-cases, control-ack-cases, tick-cases}
 use Rattle.sender_keeps.proofs.Keeps.{back-none}
 use Rattle.protocol.specs.Numbers.{numberAt}
 use Rattle.protocol.specs.Units.{Segment}
@@ -123,14 +121,14 @@ module _ (c : Channel) (mem lens : List ℕ) (s : Sender) (a : Asked c mem lens)
 
   -- ---- the phase of a state
 
-  is-opened : eqb (c .state) record-of.opened ≡ true → rank (s .phase) ≡ 2
-  is-opened e = ap rank (state-opened (s .phase) (sym (r .state) ∙ eqb-true (c .state) record-of.opened e))
+  is-opened : c .state ≡ record-of.opened → rank (s .phase) ≡ 2
+  is-opened e = ap rank (state-opened (s .phase) (sym (r .state) ∙ e))
 
-  is-enabled : eqb (c .state) record-of.enabled ≡ true → s .phase ≡ enabled
-  is-enabled e = state-enabled (s .phase) (sym (r .state) ∙ eqb-true (c .state) record-of.enabled e)
+  is-enabled : c .state ≡ record-of.enabled → s .phase ≡ enabled
+  is-enabled e = state-enabled (s .phase) (sym (r .state) ∙ e)
 
-  is-closing : eqb (c .state) record-of.closing ≡ true → rank (s .phase) ≡ 3
-  is-closing e = ap rank (state-closing (s .phase) (sym (r .state) ∙ eqb-true (c .state) record-of.closing e))
+  is-closing : c .state ≡ record-of.closing → rank (s .phase) ≡ 3
+  is-closing e = ap rank (state-closing (s .phase) (sym (r .state) ∙ e))
 
   -- inactive
   shuts : 1 ≤ rank (s .phase) → rank (s .phase) < 4 → (why : ℕ) → Moves c (shutFor c why) mem lens s
@@ -181,113 +179,52 @@ module _ (c : Channel) (mem lens : List ℕ) (s : Sender) (a : Asked c mem lens)
 
   -- ---- the theorems
 
+  abbrev Goes : Stepped → Type 0
+  Goes x = Moves c (x .channel) mem lens s
+
   pub close-sends : Moves c (closeStep c .channel) mem lens s
-  unfolding closeStep
-  close-sends = go (eqb (c .state) record-of.opened) refl (eqb (c .state) record-of.enabled) (eqb (c .kept) 0)
-    where
-      go : (x : Bool) → eqb (c .state) record-of.opened ≡ x → (y k : Bool)
-          → Moves c
-          ((if x then doing (parked c record-of.closing readyLone) 0
-          else if not y then refusing c refusal.State
-          else if k then doing (withKept c 1) 0
-          else refusing c refusal.State)
-          .channel)
-          mem lens s
-      go true e y k =
-          let z = is-opened e in
-          goes (parked c record-of.closing readyLone) mem lens s c closing (omega arith) (omega arith)
-          (leaves closing record-of.closing readyLone refl (omega arith) (omega arith))
-      go false e false k = stays c mem lens s c r
-      go false e true true =
-          stays (withKept c 1) mem lens s c (changed-sends c mem lens s (c .reason) 1 (c .control) (c .timers) r)
-      go false e true false = stays c mem lens s c r
+  close-sends =
+      close-cases c Goes (stays c mem lens s c r)
+      (λ e.
+      let z = is-opened e in
+      goes (parked c record-of.closing readyLone) mem lens s c closing (omega arith) (omega arith)
+      (leaves closing record-of.closing readyLone refl (omega arith) (omega arith)))
+      (stays (withKept c 1) mem lens s c (changed-sends c mem lens s (c .reason) 1 (c .control) (c .timers) r))
 
   pub control-ack-sends : (number : ℕ) → Moves c (controlAckStep c number .channel) mem lens s
-  unfolding controlAckStep
   control-ack-sends number =
-      go (eqb (c .state) record-of.enabled) refl (eqb (c .state) record-of.closing) refl (eqb number 0) (isOut (c .control)) (eqb (c .kept) 0)
-    where
-      shutting : eqb (c .state) record-of.closing ≡ true → Moves c (parked c record-of.closed noLone) mem lens s
-      shutting e =
-          let z = is-closing e in
-          goes (parked c record-of.closed noLone) mem lens s c shut (omega arith) (omega arith)
-          (leaves shut record-of.closed noLone refl (omega arith) (omega arith))
-
-      go : (x : Bool) → eqb (c .state) record-of.enabled ≡ x → (y : Bool) → eqb (c .state) record-of.closing ≡ y → (b o k : Bool)
-          → Moves c
-          ((if not (x || y) then refusing c refusal.State
-          else if not b then refusing c refusal.Ignored
-          else if not o then refusing c refusal.Ignored
-          else doing
-          (if y then parked c record-of.closed noLone
-          else if k then withControl (withState c record-of.opened) noLone
-          else parked c record-of.closing readyLone)
-          0)
-          .channel)
-          mem lens s
-      go false e false f b o k = stays c mem lens s c r
-      go false e true f false o k = stays c mem lens s c r
-      go false e true f true false k = stays c mem lens s c r
-      go false e true f true true k = shutting f
-      go true e y f false o k = stays c mem lens s c r
-      go true e y f true false k = stays c mem lens s c r
-      go true e true f true true k = shutting f
-      go true e false f true true true =
-          let z : rank (s .phase) ≡ 1 = ap rank (is-enabled e) in
-          goes (withControl (withState c record-of.opened) noLone) mem lens s c opened (omega arith) (omega arith) (opens (is-enabled e))
-      go true e false f true true false =
-          let z : rank (s .phase) ≡ 1 = ap rank (is-enabled e) in
-          goes (parked c record-of.closing readyLone) mem lens s c closing (omega arith) (omega arith)
-          (leaves closing record-of.closing readyLone refl (omega arith) (omega arith))
+      control-ack-cases c Goes number (stays c mem lens s c r) (stays c mem lens s c r)
+      (λ e.
+      let z = is-closing e in
+      goes (parked c record-of.closed noLone) mem lens s c shut (omega arith) (omega arith)
+      (leaves shut record-of.closed noLone refl (omega arith) (omega arith)))
+      (λ e.
+      let z : rank (s .phase) ≡ 1 = ap rank (is-enabled e) in
+      goes (withControl (withState c record-of.opened) noLone) mem lens s c opened (omega arith) (omega arith) (opens (is-enabled e)))
+      (λ e.
+      let z : rank (s .phase) ≡ 1 = ap rank (is-enabled e) in
+      goes (parked c record-of.closing readyLone) mem lens s c closing (omega arith) (omega arith)
+      (leaves closing record-of.closing readyLone refl (omega arith) (omega arith)))
 
   pub tick-sends : Moves c (tickStep c .channel) mem lens s
-  unfolding tickStep
   tick-sends =
-      go (eqb (c .state) record-of.opened) refl (anySpent (c .timers .left) (c .timers .tries))
-      (eqb (c .state) record-of.enabled) refl (eqb (c .state) record-of.closing) refl (fallen (c .control) .spent)
-    where
-      timers : Timers
-      timers = record { closing = c .timers .closing; left = map lowered (c .timers .left); tries = c .timers .tries }
-
-      by : Bool → Bool → Bool → Bool → Bool → Ticked
-      by x t y z f =
-          if x then
-          (if t then record { channel = shutFor c retriesOut; inactive = true }
-          else record { channel = withTimers c timers; inactive = false })
-          else if y || z then
-          (if f then record { channel = shutFor c retriesOut; inactive = true }
-          else record { channel = withControl c (fallen (c .control) .lone); inactive = false })
-          else record { channel = c; inactive = false }
-
-      go : (x : Bool) → eqb (c .state) record-of.opened ≡ x → (t y : Bool) → eqb (c .state) record-of.enabled ≡ y → (z : Bool)
-          → eqb (c .state) record-of.closing ≡ z → (f : Bool) → Moves c (by x t y z f .channel) mem lens s
-      go true e true y p z q f = let n = is-opened e in shuts (omega arith) (omega arith) retriesOut
-      go true e false y p z q f =
-          stays (withTimers c timers) mem lens s c (changed-sends c mem lens s (c .reason) (c .kept) (c .control) timers r)
-      go false e t true p z q true = let n : rank (s .phase) ≡ 1 = ap rank (is-enabled p) in shuts (omega arith) (omega arith) retriesOut
-      go false e t true p z q false =
-          stays (withControl c (fallen (c .control) .lone)) mem lens s c
-          (changed-sends c mem lens s (c .reason) (c .kept) (fallen (c .control) .lone) (c .timers) r)
-      go false e t false p true q true = let n = is-closing q in shuts (omega arith) (omega arith) retriesOut
-      go false e t false p true q false =
-          stays (withControl c (fallen (c .control) .lone)) mem lens s c
-          (changed-sends c mem lens s (c .reason) (c .kept) (fallen (c .control) .lone) (c .timers) r)
-      go false e t false p false q f = stays c mem lens s c r
+      let timers : Timers = record { closing = c .timers .closing; left = map lowered (c .timers .left); tries = c .timers .tries } in
+      tick-cases c (λ (k : Channel). Moves c k mem lens s)
+      (λ e. let z = is-opened e in shuts (omega arith) (omega arith) retriesOut)
+      (λ e. let z : rank (s .phase) ≡ 1 = ap rank (is-enabled e) in shuts (omega arith) (omega arith) retriesOut)
+      (λ e. let z = is-closing e in shuts (omega arith) (omega arith) retriesOut)
+      (stays (withTimers c timers) mem lens s c (changed-sends c mem lens s (c .reason) (c .kept) (c .control) timers r))
+      (stays (withControl c (fallen (c .control) .lone)) mem lens s c
+      (changed-sends c mem lens s (c .reason) (c .kept) (fallen (c .control) .lone) (c .timers) r))
+      (stays c mem lens s c r)
 
   pub open-sends : (numberOf (openStep c .answer) ≡ 0 → s .phase ≡ fresh) → Opens c (openStep c .channel) mem lens s
-  unfolding openStep
-  open-sends = go (eqb (c .state) record-of.closed) (eqb (heldIn (c .window)) 0)
+  open-sends =
+      open-cases c (λ (x : Stepped). (numberOf (x .answer) ≡ 0 → s .phase ≡ fresh) → Opens c (x .channel) mem lens s) (λ f. still) (λ f. still)
+      (λ f.
+      let e = f refl in
+      let z : rank (s .phase) ≡ 0 = ap rank e in
+      record { phase = enabled; related = next-phase (enabledOf c readyLone) mem lens s enabled (omega arith) (begins e) })
     where
-      by : Bool → Bool → Stepped
-      by x y =
-          if not x then refusing c refusal.State
-          else if not y then refusing c refusal.Untaken
-          else doing (enabledOf c readyLone) 0
-
-      go : (x y : Bool) → (numberOf (by x y .answer) ≡ 0 → s .phase ≡ fresh) → Opens c (by x y .channel) mem lens s
-      go false y f = record { phase = s .phase; related = same-phase c mem lens s r }
-      go true false f = record { phase = s .phase; related = same-phase c mem lens s r }
-      go true true f =
-          let e = f refl in
-          let z : rank (s .phase) ≡ 0 = ap rank e in
-          record { phase = enabled; related = next-phase (enabledOf c readyLone) mem lens s enabled (omega arith) (begins e) }
+      still : Opens c c mem lens s
+      still = record { phase = s .phase; related = same-phase c mem lens s r }

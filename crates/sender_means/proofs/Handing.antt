@@ -14,7 +14,7 @@ use Rattle.laws.proofs.Choice.{chosen, passed-by, both}
 use Rattle.ring.specs.Ring.{roundOf}
 use Rattle.ring.proofs.Laws.{round-lt}
 use Rattle.slots.specs.Slots.{slotOf, segmentIn}
-use Rattle.store.proofs.Laws.{first-place, next-place}
+use Rattle.ring.proofs.Laws.{first-place, next-place}
 use Rattle.channel.specs.declared.record.Channel.{Channel}
 use Rattle.channel.specs.Record.{sends}
 use Rattle.channel.specs.Record as record-of

@@ -1,17 +1,14 @@
 -- A unit reclaimed at the record is the protocol's: the oldest one held.
 -- Assumes nothing.
 use mathlib.Core.Path.{_≡_, refl, sym, ap, _∙_, subst, subst₂}
-use mathlib.Core.Bool.{Bool, true, false, not}
 use mathlib.Core.List.{List, [], _∷_}
 use mathlib.Core.Logic.{⊎-elim}
 use mathlib.Core.Option.{some}
 use Prim.Native.Nat.{ℕ, _+_, _-_, _≤_, _<_}
+use native.Mathlib.Nat.{pos-of-ne-zero}
 use native.Mathlib.Omega.{arith}
-use borrow.Author.Tests.{eqb-true, eqb-false}
-use lib.Dec.{ltb, eqb}
 use lib.ListN.{length, drop, getD}
 use lib.Seq.{getD-drop}
-use Rattle.laws.specs.Choice.{if_then_else_}
 use Rattle.ring.specs.Ring.{roundOf, backOf, cleared}
 use Rattle.ring.proofs.Laws.{round-lt, round-add, cleared-out, cleared-length}
 use Rattle.slots.specs.Slots.{slotOf}
@@ -19,16 +16,13 @@ use Rattle.slots.proofs.Laws.{slotted}
 use Rattle.store.specs.Store.{unitOf, octetsIn}
 use Rattle.store.proofs.Laws.{unit-le, octets-length}
 use Rattle.channel.specs.declared.record.Channel.{Channel}
-use Rattle.channel.specs.declared.answer.Refusal.the-variants as refusal
 use Rattle.channel.specs.declared.step.Stepped.{Stepped}
 use Rattle.channel.specs.Answers.{numberOf}
 use Rattle.channel.specs.Record.{sends}
 use Rattle.channel.specs.Record as record-of
 use Rattle.channel.specs.Standing.{oldestOf}
-use Rattle.channel.specs.Steps.{refusing, doing}
 use Rattle.channel.specs.Asked.{Asked}
 use Rattle.channel.proofs.StandingLaws.{counted-is}
-use Rattle.sender.proofs.AskedLaws.{some-mark}
 use Rattle.sender_units.specs.Reclaiming.{unitAt, sizeAt, dropped, reclaimStep}
 use Rattle.sender_units.proofs.UnitLaws.{unit-fits}
 use Rattle.sender_keeps.proofs.Keeps.{sided-still, back-none}
@@ -39,30 +33,19 @@ use Rattle.protocol.specs.Sending.{Sender, reclaiming, reclaim, senderStep}
 use Rattle.units_held.specs.Meaning.{limitsOf, lying}
 use Rattle.units_held.proofs.Runs.{Lies, run-first}
 use Rattle.sender_means.proofs.Sends.{heldAt, Holds, Sends, not-fresh, state-closed}
-use Rattle.sender_means.proofs.Placed.{same-lying}
+use Rattle.sender_keeps.proofs.Cases.{reclaim-cases}
+use Rattle.units_held.proofs.Lying.{lying-same}
 use Rattle.sender_means.proofs.Holding.{held-length, held-lies, Complete, complete, phase-cases}
 
 -- ---- what a reclaim that is answered with 0 has shown
 
 given : (c : Channel) (lens : List ℕ) (n : ℕ) → numberOf (reclaimStep c lens n .answer) ≡ 0
     → (c .state ≡ record-of.closed) × (c .window .ahead ≡ 0 → ⊥) × (reclaimStep c lens n .channel ≡ dropped c (unitAt c))
-unfolding reclaimStep
-given c lens n = go (eqb (c .state) record-of.closed) refl (eqb (c .window .ahead) 0) refl (ltb n (sizeAt c lens))
-  where
-    by : Bool → Bool → Bool → Stepped
-    by x y z =
-        if not x then refusing c refusal.State
-        else if y then refusing c refusal.Nothing
-        else if z then refusing c refusal.Small
-        else doing (dropped c (unitAt c)) (sizeAt c lens)
-
-    go : (x : Bool) → eqb (c .state) record-of.closed ≡ x → (y : Bool) → eqb (c .window .ahead) 0 ≡ y → (z : Bool)
-        → numberOf (by x y z .answer) ≡ 0
-        → (c .state ≡ record-of.closed) × (c .window .ahead ≡ 0 → ⊥) × (by x y z .channel ≡ dropped c (unitAt c))
-    go false p y q z e = absurd (omega arith)
-    go true p true q z e = absurd (omega arith)
-    go true p false q true e = absurd (omega arith)
-    go true p false q false e = (eqb-true _ _ p, eqb-false _ _ q, refl)
+given c lens n =
+    reclaim-cases c
+    (λ (x : Stepped). numberOf (x .answer) ≡ 0
+    → (c .state ≡ record-of.closed) × (c .window .ahead ≡ 0 → ⊥) × (x .channel ≡ dropped c (unitAt c))) lens n
+    (λ e. absurd (omega arith)) (λ e. absurd (omega arith)) (λ e. absurd (omega arith)) (λ is some e. (is, some, refl))
 
 -- ---- the oldest segments are gone
 
@@ -95,7 +78,7 @@ module _ (c : Channel) (mem lens : List ℕ) (a : Asked c mem lens) (line : List
             let index : oldest + (m + j) ≡ oldest + m + j = omega arith in
             let here = roundOf slots (place + (m + j)) in
             ap (lying (dropped c m) mem lens) (at j far)
-            ∙ same-lying c (dropped c m) mem lens mem lens here (cleared-out (c .marks) slots m place (m + j) (n .place) far (omega arith)) refl
+            ∙ lying-same c (dropped c m) mem lens mem lens here (cleared-out (c .marks) slots m place (m + j) (n .place) far (omega arith)) (λ used. refl)
             ∙ ap (λ (p : ℕ). lying c mem lens (roundOf slots (p + (m + j)))) (sym oldest-at)
             ∙ x .each (m + j) (omega arith)
             ∙ ap (λ (i : ℕ). some (getD line i blank)) index;
@@ -194,4 +177,4 @@ module _ (c : Channel) (mem lens : List ℕ) (s : Sender) (a : Asked c mem lens)
       let g = given c lens n e in
       let later = not-begun (g .1) in
       let still = sided-still (c .addresses .direction) (c .state) (c .window) d (λ o. omega (arith, g .0)) (a .standing .sided) in
-      is-given (state-closed (s .phase) (sym (r .state) ∙ g .0) later) (g .2) (r .held later) (still .0) (some-mark (c .window .ahead) (g .1))
+      is-given (state-closed (s .phase) (sym (r .state) ∙ g .0) later) (g .2) (r .held later) (still .0) (pos-of-ne-zero (g .1))

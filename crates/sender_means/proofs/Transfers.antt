@@ -12,6 +12,7 @@ use borrow.Author.Tests.{le-leb, lt-leb, leb-true, leb-false}
 use lib.Dec.{leb, eqb}
 use lib.ListN.{length, getD, length-append, List·getD-append}
 use lib.Seq.{getD-append-add}
+use Rattle.laws.proofs.Numbers.{lt-cases}
 use Rattle.ring.specs.Ring.{roundOf, cleared}
 use Rattle.ring.proofs.Laws.{round-lt, round-add, round-apart, back-lt, cleared-in, cleared-out, cleared-length}
 use Rattle.slots.specs.Marks.{markOf}
@@ -36,7 +37,7 @@ use Rattle.sender.specs.Directives.{placeAt}
 use Rattle.sender.proofs.AskedLaws.{from-oldest, slot-bounds}
 use Rattle.sender_units.specs.Transfer.{isAccepted, filedUnit, freeAt, transferStep, transferMem, transferLens}
 use Rattle.sender_units.proofs.UnitLaws.{would-long, would-room, not-accepted, accepted-by, would-state, closed-accepts, transfer-no, transfer-no-mem, transfer-no-lens, transfer-done, transfer-done-mem, transfer-done-lens}
-use Rattle.sender_keeps.proofs.Keeps.{lt-cases, toward, toward-is}
+use Rattle.sender_keeps.proofs.Keeps.{toward, toward-is}
 use Rattle.protocol.specs.Units.{DataUnit, Segment, blank, cut}
 use Rattle.protocol.specs.Ends.{rank, isOpen, Answer, say}
 use Rattle.protocol.specs.Sending.{Sender, transferred, transfer, senderStep}
@@ -44,7 +45,7 @@ use Rattle.protocol.proofs.Small.{not-true, yes-no}
 use Rattle.units_held.specs.Held.{octetsAt}
 use Rattle.units_held.specs.Meaning.{limitsOf, segmentBy, lying}
 use Rattle.sender_means.proofs.Sends.{heldAt, Holds, Windowed, Sends, not-fresh, state-opened, open-state}
-use Rattle.sender_means.proofs.Placed.{lying-is, same-lying}
+use Rattle.units_held.proofs.Lying.{lying-some, lying-same}
 use Rattle.sender_means.proofs.Cuts.{cut-length, cut-at, cut-ends, by-mark}
 
 -- ---- the unit filed
@@ -114,11 +115,12 @@ module _ (c : Channel) (mem lens : List ℕ) (a : Asked c mem lens) (line : List
       let short : getD lens (slotOf here) 0 ≤ most
       = slot-bounds (eqb (c .addresses .direction) sends) most (getD (c .marks) here 0) (getD lens (slotOf here) 0) (h .slots here in-ring) (h .held j l) .1
       in
-      same-lying c (filedUnit c (length u)) mem lens mem₁ lens₁ here
+      lying-same c (filedUnit c (length u)) mem lens mem₁ lens₁ here
       (ap (λ (p : ℕ). getD (filedMarks slots count (c .marks) count 0 (freeAt c)) p 0) (sym (o .1))
       ∙ filed-marks-out slots count (c .marks) count 0 (freeAt c) (off j) free-in (o .0) (off-far j l)
       ∙ ap (λ (p : ℕ). getD (c .marks) p 0) (o .1))
-      (ap (λ (p : ℕ). segmentIn most mem₁ lens₁ (slotOf p)) (sym (o .1))
+      (λ used.
+      ap (λ (p : ℕ). segmentIn most mem₁ lens₁ (slotOf p)) (sym (o .1))
       ∙ filed-octets-out slotOf slots most slots u (slotted slots) mem lens count 0 (freeAt c) (off j) (a .sized) free-in (o .0) (off-far j l)
       (subst (λ (p : ℕ). getD lens (slotOf p) 0 ≤ most) (sym (o .1)) short)
       ∙ ap (λ (p : ℕ). segmentIn most mem lens (slotOf p)) (o .1))
@@ -139,7 +141,7 @@ module _ (c : Channel) (mem lens : List ℕ) (a : Asked c mem lens) (line : List
       ∙ filed-octets-in slotOf slots most slots u (slotted slots) mem lens count 0 (freeAt c) j (a .sized) free-in (omega arith) l
       ∙ ap (segmentOf most u) (zero-add j)
       in
-      lying-is k mem₁ lens₁ here (λ z. let y : markOf (flagsOf count j) ≡ 0 = sym mark ∙ z in omega arith)
+      lying-some k mem₁ lens₁ here (λ z. let y : markOf (flagsOf count j) ≡ 0 = sym mark ∙ z in omega arith)
       ∙ ap₂ (λ (m : ℕ) (o : List ℕ). some (segmentBy m o)) mark octets
       ∙ ap some (by-mark count j (segmentOf most u j) l ∙ sym (cut-at most u j l))
 

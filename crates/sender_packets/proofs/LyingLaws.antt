@@ -14,11 +14,11 @@ use Rattle.sender_packets.specs.Asked.{Plain}
 use Rattle.channel.specs.Asked.{Asked}
 use Rattle.sender.specs.Directives.{placeAt}
 use Rattle.sender_packets.specs.HandingOut.{dataFields, sentStep, sentOut}
-use native.Mathlib.Nat.{mul-le-mul-right}
+use native.Mathlib.Nat.{pos-of-ne-zero, mul-le-mul-right}
 use Rattle.slots.proofs.Laws.{slot-bound, slot-in}
 use Rattle.store.proofs.Laws.{segment-length}
 use Rattle.sender_packets.proofs.HandLaws.{data-plain}
-use Rattle.sender.proofs.AskedLaws.{some-mark, place-lt, mark-set, mark-fits}
+use Rattle.sender.proofs.AskedLaws.{place-lt, mark-set, mark-fits}
 
 -- where the segment lies: its mark by its place s, its length by its slot t, and its octets within the memory
 pub record Lying (c : Channel) (mem lens : List ℕ) (s t : ℕ) : Type 0 where
@@ -47,7 +47,7 @@ lying c mem lens a i l s t e f =
         record {
           place = p;
           slot = b;
-          least = some-mark (getD (c .marks) (placeAt c i) 0) (mark-set c lens h i l);
+          least = pos-of-ne-zero (mark-set c lens h i l);
           mark = m .0;
           short = m .1;
           inside = omega (arith, slot-in (slotOf (placeAt c i)) (c .limits .slots) (c .limits .payload) b, a .sized .exact);

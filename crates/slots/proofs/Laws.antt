@@ -2,16 +2,14 @@
 -- Assumes nothing.
 use mathlib.Core.Path.{_≡_, refl, sym, ap, ap₂, _∙_, subst}
 use mathlib.Core.Logic.{_⊎_, inl, inr, ⊎-elim}
-use mathlib.Core.Bool.{Bool, true, false}
-use mathlib.Core.List.{List, [], _∷_, _++_, append-nil, append-assoc}
-use Prim.Native.Nat.{ℕ, zero, suc, _+_, _-_, _*_, _≤_, _<_}
-use native.Mathlib.Nat.{add-zero, le-of-eq, mul-le-mul-right, suc-mul, zero-add, suc-add}
+use mathlib.Core.List.{List, [], _++_, append-nil, append-assoc}
+use Prim.Native.Nat.{ℕ, _+_, _-_, _*_, _≤_, _<_}
+use native.Mathlib.Nat.{add-zero, le-of-eq, mul-le-mul-right, suc-mul}
 use native.Mathlib.Omega.{arith}
-use borrow.Author.Tests.{ltb-true, ltb-false}
-use lib.Dec.{ltb}
 use lib.ListN.{length, getD, set, take, drop, length-append, length-drop, length-set, drop-of-length-le, take-append-drop}
-use lib.Seq.{length-take-le, take-length, take-at, drop-at, drop-drop, drop-append-add, take-append-le, take-take, take-nil, getD-set-same, getD-set-other}
-use Rattle.laws.proofs.Lists.{tail-part}
+use lib.Seq.{length-take-le, take-length, take-at, drop-at, drop-drop, drop-append-add, take-append-le, take-take, getD-set-same, getD-set-other}
+use Rattle.laws.proofs.Lists.{tail-part, take-drop}
+use Rattle.laws.proofs.Numbers.{either-side}
 use Rattle.slots.specs.Slots.{Sized, slotOf, Slotted, laid, segmentIn}
 
 -- ---- the slot of a place
@@ -63,6 +61,12 @@ module _ (m : List ℕ) (at : ℕ) (p : List ℕ) (inside : at + length p ≤ le
       ∙ drop-drop d (at + length p) m
       ∙ ap (λ (j : ℕ). drop j m) g
 
+  -- a part elsewhere
+  pub laid-elsewhere : (from n : ℕ) → (from + n ≤ at) ⊎ (at + length p ≤ from) → take n (drop from (laid m at p)) ≡ take n (drop from m)
+  laid-elsewhere from n (inl before) =
+      take-drop from n (laid m at p) ∙ ap (drop from) (laid-before (from + n) before) ∙ sym (take-drop from n m)
+  laid-elsewhere from n (inr behind) = ap (take n) (laid-after from behind)
+
   -- one part behind the other is both
   pub laid-on : (q : List ℕ) → laid (laid m at p) (at + length p) q ≡ laid m at (p ++ q)
   unfolding laid
@@ -102,19 +106,6 @@ placed m at p q e =
 pub slot-in : (s n P : ℕ) → s < n → s * P + P ≤ n * P
 slot-in s n P h = subst (λ (k : ℕ). k ≤ n * P) (suc-mul s P) (mul-le-mul-right P h)
 
--- a part in the middle, either way
-take-drop : (k n : ℕ) (l : List ℕ) → take n (drop k l) ≡ drop k (take (k + n) l)
-take-drop zero n l = ap (λ (j : ℕ). take j l) (sym (zero-add n))
-take-drop (suc k) n [] = take-nil n ∙ ap (drop (suc k)) (sym (take-nil (suc k + n)))
-take-drop (suc k) n (x ∷ l) = take-drop k n l ∙ ap (λ (j : ℕ). drop (suc k) (take j (x ∷ l))) (sym (suc-add k n))
-
-either-side : (j s : ℕ) → (j ≡ s → ⊥) → (j < s) ⊎ (s < j)
-either-side j s n = by (ltb j s) refl
-  where
-    by : (t : Bool) → ltb j s ≡ t → (j < s) ⊎ (s < j)
-    by true e = inl (ltb-true j s e)
-    by false e = inr (omega (arith, ltb-false j s e))
-
 -- ---- a segment filed: the octets p in slot s
 module _ (slots most : ℕ) (m lens : List ℕ) (s : ℕ) (p : List ℕ) (sized : Sized slots most m lens) (inside : s < slots)
     (short : length p ≤ most) where
@@ -153,13 +144,8 @@ module _ (slots most : ℕ) (m lens : List ℕ) (s : ℕ) (p : List ℕ) (sized 
   -- the first n octets of another slot stay
   part-other : (j n : ℕ) → (j ≡ s → ⊥) → n ≤ most → take n (drop (j * most) (laid m (s * most) p)) ≡ take n (drop (j * most) m)
   part-other j n d h =
-      ⊎-elim
-      (λ b.
-      take-drop (j * most) n (laid m (s * most) p)
-      ∙ ap (drop (j * most)) (laid-before m (s * most) p fits (j * most + n) (omega (arith, slot-in j s most b)))
-      ∙ sym (take-drop (j * most) n m))
-      (λ a. ap (take n) (laid-after m (s * most) p fits (j * most) (omega (arith, slot-in s j most a))))
-      (either-side j s d)
+      laid-elsewhere m (s * most) p fits (j * most) n
+      (⊎-elim (λ b. inl (omega (arith, slot-in j s most b))) (λ a. inr (omega (arith, slot-in s j most a))) (either-side j s d))
 
   -- what is filed in another slot stays
   pub filed-other : (j : ℕ) → (j ≡ s → ⊥) → getD lens j 0 ≤ most

@@ -1,14 +1,14 @@
 -- Laws of an arrival: what its step asks of a packet that was found a channel, and one law for each case of that step.
 -- Assumes nothing.
-use mathlib.Core.Path.{_≡_, refl, sym, ap, ap₂, _∙_, subst}
-use mathlib.Core.Bool.{Bool, true, false, _&&_, true≢false}
+use mathlib.Core.Path.{_≡_, sym, ap, ap₂, _∙_, subst}
+use mathlib.Core.Bool.{Bool, true, false, true≢false}
 use mathlib.Core.List.{List}
 use Prim.Native.Nat.{ℕ, _+_, _<_}
 use native.Mathlib.Nat.{lt-irrefl}
-use borrow.Author.Tests.{eq-eqb, ne-eqb, eqb-true}
+use borrow.Author.Tests.{eq-eqb, ne-eqb}
 use lib.Dec.{eqb}
 use lib.ListN.{length}
-use Rattle.laws.proofs.Choice.{passed-by, both}
+use Rattle.laws.proofs.Choice.{either-way, passed-by}
 use Rattle.packet.specs.declared.fields.Fields.{Fields}
 use Rattle.packet.specs.Layout.{fieldsAt, lengthAt}
 use Rattle.packet.proofs.Tests.{whole, sound}
@@ -26,6 +26,7 @@ use Rattle.table.specs.declared.looking.Look.the-variants.{Index, Packet, Ready
 use Rattle.table.specs.declared.deciding.Decision.{Decision}
 use Rattle.table.specs.Looking.{looksFor, same, addressed, graded}
 use Rattle.table.specs.Surveying.{stepping}
+use Rattle.table.proofs.OneLaws.{same-direction}
 use Rattle.arriving_look.specs.Finding.{lookOf}
 use Rattle.arriving_look.proofs.FindLaws.{found-packet}
 use Rattle.arriving_reply.specs.Replying.{replying}
@@ -36,18 +37,12 @@ use Rattle.steps_arriving.specs.Arriving.{arriveBy, payloadIn, arrivalFo
 
 -- a record that suits a packet has its addresses
 addressed-is : (f : Fields) (a : Addresses) → addressed f a < 3 → same a f ≡ true
-addressed-is f a h = go (same a f) refl
-  where
-    go : (b : Bool) → same a f ≡ b → same a f ≡ true
-    go true e = e
-    go false e = absurd (lt-irrefl 3 (subst (λ (k : ℕ). k < 3) (passed-by (same a f) 0 3 e) h))
+addressed-is f a h =
+    either-way (same a f) (λ e. e) (λ e. absurd (lt-irrefl 3 (subst (λ (k : ℕ). k < 3) (passed-by (same a f) 0 3 e) h)))
 
 -- Data looks for a receiver
 pub data-receives : (a : Addresses) (f : Fields) → same a f ≡ true → f .kind ≡ 0 → a .direction ≡ receives
-unfolding same
-data-receives a f e k =
-    let d = eqb-true (a .direction) (looksFor (f .kind)) (both (eqb (a .channel) (f .channel) && eqb (a .remote) (f .source)) (eqb (a .direction) (looksFor (f .kind))) e .1) in
-    d ∙ ap looksFor k
+data-receives a f e k = same-direction a f e ∙ ap looksFor k
 
 -- what the step asks of the packet
 pub framed : (node : Node) (s out : List ℕ) (at : ℕ) (c : Channel) (look : Look) (f : Fields) (x : ℕ)

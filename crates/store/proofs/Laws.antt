@@ -5,7 +5,7 @@ use mathlib.Core.Path.{_≡_, refl, sym, ap, ap₂, _∙_, subst}
 use mathlib.Core.Bool.{Bool, true, false}
 use mathlib.Core.List.{List, _++_}
 use Prim.Native.Nat.{ℕ, zero, suc, _+_, _-_, _*_, _/_, _≤_, _<_, zero-le}
-use native.Mathlib.Nat.{add-zero, zero-mul, suc-mul, mul-le-mul-right, div-mul-le-self}
+use native.Mathlib.Nat.{zero-mul, suc-mul, mul-le-mul-right, div-mul-le-self}
 use native.Mathlib.Omega.{arith}
 use borrow.Author.Tests.{ltb-true, ltb-false, le-leb, lt-leb}
 use lib.Dec.{eqb, ltb}
@@ -13,7 +13,7 @@ use lib.ListN.{length, getD, set, take, drop, length-append, length-drop, length
 use lib.Seq.{length-take-le, take-all, getD-set-same, getD-set-other}
 use Rattle.laws.specs.Choice.{if_then_else_}
 use Rattle.ring.specs.Ring.{roundOf}
-use Rattle.ring.proofs.Laws.{round-in, round-out, round-lt, round-add, round-apart}
+use Rattle.ring.proofs.Laws.{round-out, round-lt, round-add, round-apart, first-place, next-place}
 use Rattle.slots.specs.Marks.{markOf, ends}
 use Rattle.slots.specs.Slots.{Sized, Slotted, laid, segmentIn}
 use Rattle.slots.specs.Units.{segmentsOf, segmentOf, flagsOf, joined}
@@ -22,16 +22,7 @@ use Rattle.slots.proofs.Laws as one
 use Rattle.slots.proofs.Units.{fits, rejoined}
 use Rattle.store.specs.Store.{unitOf, endsIn, lastWith, lastEndIn, EachFits, sizeIn, octetsIn, filedMem, filedBy, filedLens, filedMarks}
 
--- ---- places: the first of n is the place itself, the next ones are those from the place after it on, and it is the last of the others' turn
-
-pub first-place : (slots from : ℕ) → from < slots → roundOf slots (from + 0) ≡ from
-first-place slots from p = ap (roundOf slots) (add-zero from) ∙ round-in slots from p
-
-pub next-place : (slots from i : ℕ) → from < slots → i < slots
-    → roundOf slots (roundOf slots (from + 1) + i) ≡ roundOf slots (from + suc i)
-next-place slots from i p h =
-    let e : from + (1 + i) ≡ from + suc i = omega arith in
-    round-add slots from 1 i (omega arith) ∙ ap (roundOf slots) e
+-- ---- places: the first of n is the last of the others' turn
 
 next-lt : (slots from : ℕ) → from < slots → roundOf slots (from + 1) < slots
 next-lt slots from p = round-lt slots (from + 1) (omega arith)

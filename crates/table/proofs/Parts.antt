@@ -1,14 +1,12 @@
 -- A channel's own part of what is lent: cut out, stepped, and put back.
 -- Assumes nothing.
-use mathlib.Core.Path.{_≡_, refl, sym, ap, ap₂, _∙_, subst}
+use mathlib.Core.Path.{_≡_, refl, sym, ap, ap₂, _∙_, subst₂}
 use mathlib.Core.List.{List, [], _∷_, _++_}
-use Prim.Native.Nat.{ℕ, zero, suc, _+_, _-_, _≤_}
-use native.Mathlib.Nat.{add-zero}
-use native.Mathlib.Omega.{arith}
-use lib.ListN.{length, take, drop}
-use lib.Seq.{drop-drop, take-nil}
+use Prim.Native.Nat.{ℕ, zero, suc}
+use lib.ListN.{length, take, drop, take-append-drop}
+use lib.Seq.{drop-drop}
 use borrow.Rule.Slice.PartMut.{putMid}
-use Rattle.slots.specs.Slots.{laid}
+use Rattle.slots.specs.Slots.{Sized, laid}
 use Rattle.walks.specs.Serving.{Worked, works}
 use Rattle.channel.specs.declared.record.Channel.{Channel}
 use Rattle.channel.specs.declared.step.Stepped.{Stepped}
@@ -18,18 +16,10 @@ use Rattle.table.specs.Serving.{Step}
 use Rattle.channel.specs.Asked.{Asked}
 use Rattle.table.specs.Surveying.{mine, mineLens, wholly, stepping, Served}
 
-subst₂ : {A B : Type 0} (P : A → B → Type 0) {a a2 : A} {b b2 : B} → a ≡ a2 → b ≡ b2 → P a b → P a2 b2
-subst₂ P {a2 = a2} {b = b} e f x = subst (λ y. P a2 y) f (subst (λ z. P z b) e x)
-
 take-rest : (n : ℕ) (l : List ℕ) → take n l ++ drop (length (take n l)) l ≡ l
 take-rest zero l = refl
 take-rest (suc n) [] = refl
 take-rest (suc n) (x ∷ l) = ap (λ (k : List ℕ). x ∷ k) (take-rest n l)
-
-take-append-drop : (n : ℕ) (l : List ℕ) → take n l ++ drop n l ≡ l
-take-append-drop zero l = refl
-take-append-drop (suc n) [] = refl
-take-append-drop (suc n) (x ∷ l) = ap (λ (k : List ℕ). x ∷ k) (take-append-drop n l)
 
 -- a part laid where it was cut out
 pub laid-own : (m : List ℕ) (at n : ℕ) → laid m at (partOf at n m) ≡ m
@@ -45,6 +35,20 @@ unfolding laid
 put-laid m at k n q e h =
     ap (λ (j : ℕ). take at m ++ (q ++ drop j (drop at m))) (e ∙ sym h) ∙ ap (λ (l : List ℕ). take at m ++ (q ++ l)) (drop-drop (length q) at m)
 
+-- the parts as code cuts them out
+module _ (c : Channel) (d : Decision) (mem lens : List ℕ) where
+  own-mem : (k : ℕ) → k ≡ areaOf (c .limits) → take k (drop (d .spot .octet) mem) ≡ mine c d mem
+  own-mem k e = ap (λ (n : ℕ). take n (drop (d .spot .octet) mem)) e
+
+  own-lens : (k : ℕ) → k ≡ c .limits .slots → take k (drop (d .spot .slot) lens) ≡ mineLens c d lens
+  own-lens k e = ap (λ (n : ℕ). take n (drop (d .spot .slot) lens)) e
+
+  -- they are what the ends' steps ask
+  pub own-asked : (j k : ℕ) → j ≡ areaOf (c .limits) → k ≡ c .limits .slots → Served c d mem lens
+      → Asked c (take j (drop (d .spot .octet) mem)) (take k (drop (d .spot .slot) lens))
+  own-asked j k ej ek s =
+      subst₂ (λ (m l : List ℕ). Asked c m l) (sym (own-mem j ej)) (sym (own-lens k ek)) (record { standing = s .standing; sized = s .sized })
+
 module _ (step : Step) (c : Channel) (d : Decision) (mem lens out : List ℕ) where
   -- a step that changes neither octets nor lengths
   pub quiet : (s : Stepped) (o : List ℕ)
@@ -54,28 +58,34 @@ module _ (step : Step) (c : Channel) (d : Decision) (mem lens out : List ℕ) wh
       ap₂ (λ (m l : List ℕ). works s m l o) (sym (laid-own mem (d .spot .octet) (areaOf (c .limits)))) (sym (laid-own lens (d .spot .slot) (c .limits .slots)))
       ∙ ap (λ (w : Worked Stepped). wholly d mem lens w) (sym e)
 
-  -- a step over the parts as code cuts them out: j octets and k lengths
-  pub filed : (s : Stepped) (m l o : List ℕ) (j k : ℕ)
-      → j ≡ areaOf (c .limits)
-      → k ≡ c .limits .slots
-      → length m ≡ areaOf (c .limits)
-      → length l ≡ c .limits .slots
-      → step c (d .spot .rank) (mine c d mem) (mineLens c d lens) out ≡ works s m l o
-      → works s (putMid (d .spot .octet) j mem m) (putMid (d .spot .slot) k lens l) o ≡ stepping step c d mem lens out
-  filed s m l o j k ej ek hm hl e =
-      ap₂ (λ (x y : List ℕ). works s x y o) (put-laid mem (d .spot .octet) j (areaOf (c .limits)) m ej hm) (put-laid lens (d .spot .slot) k (c .limits .slots) l ek hl)
-      ∙ ap (λ (w : Worked Stepped). wholly d mem lens w) (sym e)
+  -- over the parts as code cuts them out, j octets and k lengths
+  module _ (j k : ℕ) (ej : j ≡ areaOf (c .limits)) (ek : k ≡ c .limits .slots) where
+    -- a step that reads them for its answer and for what it writes out
+    pub parts-read : (answer : List ℕ → Stepped) (fill : List ℕ → List ℕ → List ℕ) (s : Stepped) (o : List ℕ)
+        → s ≡ answer (take k (drop (d .spot .slot) lens))
+        → o ≡ fill (take k (drop (d .spot .slot) lens)) (take j (drop (d .spot .octet) mem))
+        → step c (d .spot .rank) (mine c d mem) (mineLens c d lens) out
+        ≡ works (answer (mineLens c d lens)) (mine c d mem) (mineLens c d lens) (fill (mineLens c d lens) (mine c d mem))
+        → works s mem lens o ≡ stepping step c d mem lens out
+    parts-read answer fill s o es eo e =
+        let l = own-lens c d mem lens k ek in
+        let zs : s ≡ answer (mineLens c d lens) = es ∙ ap answer l in
+        let zo : o ≡ fill (mineLens c d lens) (mine c d mem) = eo ∙ ap₂ fill l (own-mem c d mem lens j ej) in
+        quiet s o (e ∙ sym (ap₂ (λ (x : Stepped) (y : List ℕ). works x (mine c d mem) (mineLens c d lens) y) zs zo))
 
--- the parts as code cuts them out
-module _ (c : Channel) (d : Decision) (mem lens : List ℕ) where
-  pub own-mem : (k : ℕ) → k ≡ areaOf (c .limits) → take k (drop (d .spot .octet) mem) ≡ mine c d mem
-  own-mem k e = ap (λ (n : ℕ). take n (drop (d .spot .octet) mem)) e
-
-  pub own-lens : (k : ℕ) → k ≡ c .limits .slots → take k (drop (d .spot .slot) lens) ≡ mineLens c d lens
-  own-lens k e = ap (λ (n : ℕ). take n (drop (d .spot .slot) lens)) e
-
-  -- they are what the ends' steps ask
-  pub own-asked : (j k : ℕ) → j ≡ areaOf (c .limits) → k ≡ c .limits .slots → Served c d mem lens
-      → Asked c (take j (drop (d .spot .octet) mem)) (take k (drop (d .spot .slot) lens))
-  own-asked j k ej ek s =
-      subst₂ (λ (m l : List ℕ). Asked c m l) (sym (own-mem j ej)) (sym (own-lens k ek)) (record { standing = s .standing; sized = s .sized })
+    -- a step that changes them, and not their size
+    pub parts-filed : (octets lengths : List ℕ → List ℕ) (s t : Stepped) (m l o : List ℕ)
+        → s ≡ t
+        → m ≡ octets (take j (drop (d .spot .octet) mem))
+        → l ≡ lengths (take k (drop (d .spot .slot) lens))
+        → Sized (c .limits .slots) (c .limits .payload) (octets (mine c d mem)) (lengths (mineLens c d lens))
+        → step c (d .spot .rank) (mine c d mem) (mineLens c d lens) out ≡ works t (octets (mine c d mem)) (lengths (mineLens c d lens)) o
+        → works s (putMid (d .spot .octet) j mem m) (putMid (d .spot .slot) k lens l) o ≡ stepping step c d mem lens out
+    parts-filed octets lengths s t m l o es em el sized e =
+        let zm : m ≡ octets (mine c d mem) = em ∙ ap octets (own-mem c d mem lens j ej) in
+        let zl : l ≡ lengths (mineLens c d lens) = el ∙ ap lengths (own-lens c d mem lens k ek) in
+        ap₂ (λ (x y : List ℕ). works s x y o)
+        (put-laid mem (d .spot .octet) j (areaOf (c .limits)) m ej (ap length zm ∙ sized .exact))
+        (put-laid lens (d .spot .slot) k (c .limits .slots) l ek (ap length zl ∙ sized .each))
+        ∙ ap (λ (w : Worked Stepped). wholly d mem lens w)
+        (ap₂ (λ (x y : List ℕ). works s x y o) zm zl ∙ ap (λ (x : Stepped). works x (octets (mine c d mem)) (lengths (mineLens c d lens)) o) es ∙ sym e)

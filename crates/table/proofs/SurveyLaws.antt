@@ -1,13 +1,13 @@
 -- What the survey of a whole table amounts to: where every record stands, the sums and the best; else it is not sound.
 -- Assumes nothing.
-use mathlib.Core.Path.{_≡_, refl, sym, ap, ap₂, _∙_, subst}
-use mathlib.Core.Bool.{Bool, true, false, _&&_, true≢false, false≢true}
+use mathlib.Core.Path.{_≡_, refl, sym, ap, ap₂, _∙_}
+use mathlib.Core.Bool.{Bool, true, false, _&&_}
 use mathlib.Core.List.{List, [], _∷_}
 use Prim.Native.Nat.{ℕ, zero, suc, _+_, _*_, _≤_, _<_}
 use native.Mathlib.Nat.{add-zero, add-suc, add-assoc, mul-le-mul-right, not-suc-le-zero, le-of-suc-le-suc}
 use native.Mathlib.Omega.{arith}
-use borrow.Author.Tests.{ltb-true, ltb-false, lt-ltb, le-ltb, le-leb, lt-leb, leb-true, eqb-true, eq-eqb}
-use lib.Dec.{ltb, leb, eqb}
+use borrow.Author.Tests.{ltb-true, ltb-false, le-ltb}
+use lib.Dec.{ltb}
 use lib.ListN.{length, getD, take, drop}
 use lib.Seq.{drop-drop}
 use Rattle.laws.proofs.Choice.{both, passed-by}
@@ -16,7 +16,6 @@ use Rattle.channel.specs.declared.record.Channel.{Channel}
 use Rattle.channel.specs.Standing.{standing}
 use Rattle.channel.proofs.SettingsLaws.{fit-is}
 use Rattle.channel.proofs.StandingLaws.{stands-is}
-use Rattle.table.specs.declared.looking.Look.{Look}
 use Rattle.table.specs.declared.surveying.Survey.{Survey}
 use Rattle.table.specs.declared.surveying.Spot.{Spot}
 use Rattle.table.specs.Lent.{areaOf, partOf, slotsOf, octetsOf, eachStands}
@@ -110,7 +109,7 @@ finally v j t =
       spot = better (v .spot) (spotFrom (v .look) j (v .slots) (v .octets) t);
     }
 
-stands-none : (lens : List ℕ) → eachStands [] lens ≡ true
+pub stands-none : (lens : List ℕ) → eachStands [] lens ≡ true
 unfolding eachStands
 stands-none lens = refl
 

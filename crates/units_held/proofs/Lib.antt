@@ -1,2 +1,3 @@
--- The laws of segments that lie one after another round the ring, beside the protocol's lists of segments.
+-- The laws of the segment at a place, and of segments that lie one after another round the ring, beside the protocol's lists of segments.
 pub mod Runs
+pub mod Lying

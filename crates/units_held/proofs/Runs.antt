@@ -1,6 +1,6 @@
 -- Where the segments of a list lie one after another round the ring, the walks over marks and octets give what the protocol reads from the list.
 -- Assumes nothing.
-use mathlib.Core.Path.{_≡_, refl, sym, ap, _∙_, subst}
+use mathlib.Core.Path.{_≡_, refl, sym, ap, _∙_}
 use mathlib.Core.Bool.{Bool, true, false}
 use mathlib.Core.List.{List, [], _∷_, _++_, append-assoc, append-nil}
 use mathlib.Core.Option.{Option, none, some}
@@ -10,11 +10,10 @@ use lib.Dec.{eqb}
 use lib.ListN.{length, getD}
 use Rattle.laws.specs.Choice.{if_then_else_}
 use Rattle.ring.specs.Ring.{roundOf}
-use Rattle.ring.proofs.Laws.{round-lt}
+use Rattle.ring.proofs.Laws.{round-lt, first-place, next-place}
 use Rattle.slots.specs.Marks.{ends}
 use Rattle.slots.specs.Slots.{slotOf}
 use Rattle.store.specs.Store.{unitOf, endsIn, lastWith, lastEndIn, octetsIn}
-use Rattle.store.proofs.Laws.{first-place, next-place}
 use Rattle.channel.specs.declared.record.Channel.{Channel}
 use Rattle.protocol.specs.Units.{DataUnit, Segment, blank, units, endings, wholeTo, oneMore, firstUnit}
 use Rattle.protocol.proofs.Small.{none-some}

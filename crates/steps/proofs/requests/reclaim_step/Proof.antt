@@ -1,14 +1,19 @@
 -- `steps::requests::reclaim_step` meets its contract: the parts are cut out and read.
 -- Assumes nothing.
-use mathlib.Core.Path.{_≡_, refl, sym, ap, ap₂, _∙_}
-use Prim.Native.Nat.{ℕ, _+_, _-_, _*_, _≤_, _<_}
+use mathlib.Core.Path.{ap, _∙_}
+use Prim.Native.Nat.{_+_, _-_}
 use native.Mathlib.Omega.{arith}
+use borrow.Author.Tests.{eq-eqb, ne-eqb}
+use lib.Dec.{eqb}
+use lib.ListN.{length}
+use Rattle.laws.proofs.Choice.{chosen, passed-by}
 use Rattle.walks.specs.Serving.{works}
-use mathlib.Core.List.{[]}
 use Rattle.channel.specs.declared.step.Stepped.{Stepped}
+use Rattle.channel.specs.Record.{sends}
+use Rattle.sender_units.specs.Reclaiming.{reclaimStep, reclaimOut}
 use Rattle.channel.proofs.SettingsLaws.{fit-is}
-use Rattle.table.proofs.Parts.{own-asked}
-use Rattle.steps.proofs.RequestLaws.{reclaim-other, reclaim-sends}
+use Rattle.table.proofs.Parts.{own-asked, quiet, parts-read}
+use Rattle.steps.specs.Requests.{reclaimFor}
 use borrow.Author.Needs.{needs}
 use Rattle.steps.proofs.requests.reclaim_step.Statement.{statement}
 use Rattle.steps.proofs.requests.reclaim_step.Tie as tie
@@ -22,7 +27,8 @@ refused-requires : tie.Need-refused-requires
 refused-requires c κs = search needs
 
 returns : tie.Need-returns
-returns c = let a = c .before .before .before .before .before .before .args in let s = c .before .before .before .before .before .before .pre in let f = fit-is (a .c .limits) (s .standing .fit) in ap (λ (x : Stepped). works x (a .mem .now) (a .lens .now) (a .out .now)) (c .refused .ensures) ∙ reclaim-other (a .c) (a .d) (a .mem .now) (a .lens .now) (a .out .now) (c .before .if1 .taken)
+unfolding reclaimFor
+returns c = let a = c .before .before .before .before .before .before .args in ap (λ (x : Stepped). works x (a .mem .now) (a .lens .now) (a .out .now)) (c .refused .ensures) ∙ quiet reclaimFor (a .c) (a .d) (a .mem .now) (a .lens .now) (a .out .now) _ _ (passed-by (eqb (a .c .addresses .direction) sends) _ _ (ne-eqb _ _ (c .before .if1 .taken)))
 
 area-requires : tie.Need-area-requires
 area-requires c κs = search needs
@@ -61,7 +67,8 @@ same-length : tie.Need-same-length
 same-length c = search needs
 
 returns-2 : tie.Need-returns-2
-returns-2 c = let a = c .before .before .before .before .before .before .before .before .before .before .before .before .before .args in let s = c .before .before .before .before .before .before .before .before .before .before .before .before .before .pre in let f = fit-is (a .c .limits) (s .standing .fit) in reclaim-sends (a .c) (a .d) (a .mem .now) (a .lens .now) (a .out .now) (c .before .before .before .before .before .before .before .before .if1 .left) _ _ (a .d .spot .octet + c .before .before .before .before .before .before .before .area .result - a .d .spot .octet) (a .d .spot .slot + a .c .limits .slots - a .d .spot .slot) (omega (arith, c .before .before .before .before .before .before .before .area .ensures .0)) (omega arith) (c .before .before .reclaim-step .ensures .0) (c .before .before .reclaim-step .ensures .1)
+unfolding reclaimFor
+returns-2 c = let a = c .before .before .before .before .before .before .before .before .before .before .before .before .before .args in parts-read reclaimFor (a .c) (a .d) (a .mem .now) (a .lens .now) (a .out .now) (a .d .spot .octet + c .before .before .before .before .before .before .before .area .result - a .d .spot .octet) (a .d .spot .slot + a .c .limits .slots - a .d .spot .slot) (omega (arith, c .before .before .before .before .before .before .before .area .ensures .0)) (omega arith) (λ l. reclaimStep (a .c) l (length (a .out .now))) (λ l m. reclaimOut (a .c) l m (a .out .now)) _ _ (c .before .before .reclaim-step .ensures .0) (c .before .before .reclaim-step .ensures .1) (chosen (eqb (a .c .addresses .direction) sends) _ _ (eq-eqb _ _ (c .before .before .before .before .before .before .before .before .if1 .left)))
 
 pub reclaim-step-spec : {M : Type 1} → statement M
 reclaim-step-spec =

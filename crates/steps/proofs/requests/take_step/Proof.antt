@@ -1,14 +1,19 @@
 -- `steps::requests::take_step` meets its contract: the parts are cut out and read.
 -- Assumes nothing.
-use mathlib.Core.Path.{_≡_, refl, sym, ap, ap₂, _∙_}
-use Prim.Native.Nat.{ℕ, _+_, _-_, _*_, _≤_, _<_}
+use mathlib.Core.Path.{ap, _∙_}
+use Prim.Native.Nat.{_+_, _-_}
 use native.Mathlib.Omega.{arith}
+use borrow.Author.Tests.{eq-eqb, ne-eqb}
+use lib.Dec.{eqb}
+use lib.ListN.{length}
+use Rattle.laws.proofs.Choice.{chosen, passed-by}
 use Rattle.walks.specs.Serving.{works}
-use mathlib.Core.List.{[]}
 use Rattle.channel.specs.declared.step.Stepped.{Stepped}
+use Rattle.channel.specs.Record.{receives}
+use Rattle.receiver_data.specs.Taking.{takeStep, takeOut}
 use Rattle.channel.proofs.SettingsLaws.{fit-is}
-use Rattle.table.proofs.Parts.{own-asked}
-use Rattle.steps.proofs.RequestLaws.{take-other, take-receives}
+use Rattle.table.proofs.Parts.{own-asked, quiet, parts-read}
+use Rattle.steps.specs.Requests.{takeFor}
 use borrow.Author.Needs.{needs}
 use Rattle.steps.proofs.requests.take_step.Statement.{statement}
 use Rattle.steps.proofs.requests.take_step.Tie as tie
@@ -22,7 +27,8 @@ refused-requires : tie.Need-refused-requires
 refused-requires c κs = search needs
 
 returns : tie.Need-returns
-returns c = let a = c .before .before .before .before .before .before .args in let s = c .before .before .before .before .before .before .pre in let f = fit-is (a .c .limits) (s .standing .fit) in ap (λ (x : Stepped). works x (a .mem .now) (a .lens .now) (a .out .now)) (c .refused .ensures) ∙ take-other (a .c) (a .d) (a .mem .now) (a .lens .now) (a .out .now) (c .before .if1 .taken)
+unfolding takeFor
+returns c = let a = c .before .before .before .before .before .before .args in ap (λ (x : Stepped). works x (a .mem .now) (a .lens .now) (a .out .now)) (c .refused .ensures) ∙ quiet takeFor (a .c) (a .d) (a .mem .now) (a .lens .now) (a .out .now) _ _ (passed-by (eqb (a .c .addresses .direction) receives) _ _ (ne-eqb _ _ (c .before .if1 .taken)))
 
 area-requires : tie.Need-area-requires
 area-requires c κs = search needs
@@ -61,7 +67,8 @@ same-length : tie.Need-same-length
 same-length c = search needs
 
 returns-2 : tie.Need-returns-2
-returns-2 c = let a = c .before .before .before .before .before .before .before .before .before .before .before .before .before .args in let s = c .before .before .before .before .before .before .before .before .before .before .before .before .before .pre in let f = fit-is (a .c .limits) (s .standing .fit) in take-receives (a .c) (a .d) (a .mem .now) (a .lens .now) (a .out .now) (c .before .before .before .before .before .before .before .before .if1 .left) _ _ (a .d .spot .octet + c .before .before .before .before .before .before .before .area .result - a .d .spot .octet) (a .d .spot .slot + a .c .limits .slots - a .d .spot .slot) (omega (arith, c .before .before .before .before .before .before .before .area .ensures .0)) (omega arith) (c .before .before .take-step .ensures .0) (c .before .before .take-step .ensures .1)
+unfolding takeFor
+returns-2 c = let a = c .before .before .before .before .before .before .before .before .before .before .before .before .before .args in parts-read takeFor (a .c) (a .d) (a .mem .now) (a .lens .now) (a .out .now) (a .d .spot .octet + c .before .before .before .before .before .before .before .area .result - a .d .spot .octet) (a .d .spot .slot + a .c .limits .slots - a .d .spot .slot) (omega (arith, c .before .before .before .before .before .before .before .area .ensures .0)) (omega arith) (λ l. takeStep (a .c) l (length (a .out .now))) (λ l m. takeOut (a .c) l m (a .out .now)) _ _ (c .before .before .take-step .ensures .0) (c .before .before .take-step .ensures .1) (chosen (eqb (a .c .addresses .direction) receives) _ _ (eq-eqb _ _ (c .before .before .before .before .before .before .before .before .if1 .left)))
 
 pub take-step-spec : {M : Type 1} → statement M
 take-step-spec =

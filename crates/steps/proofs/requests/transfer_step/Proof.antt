@@ -1,14 +1,21 @@
 -- `steps::requests::transfer_step` meets its contract: the parts are cut out, stepped, and put back.
 -- Assumes nothing.
-use mathlib.Core.Path.{_≡_, refl, sym, ap, ap₂, _∙_}
-use Prim.Native.Nat.{ℕ, _+_, _-_, _*_, _≤_, _<_}
+use mathlib.Core.Path.{ap, _∙_}
+use Prim.Native.Nat.{_+_, _-_}
 use native.Mathlib.Omega.{arith}
-use Rattle.walks.specs.Serving.{works}
 use mathlib.Core.List.{[]}
+use borrow.Author.Tests.{eq-eqb, ne-eqb}
+use lib.Dec.{eqb}
+use Rattle.laws.proofs.Choice.{chosen, passed-by}
+use Rattle.walks.specs.Serving.{works}
 use Rattle.channel.specs.declared.step.Stepped.{Stepped}
+use Rattle.channel.specs.Record.{sends}
 use Rattle.channel.proofs.SettingsLaws.{fit-is}
-use Rattle.table.proofs.Parts.{own-asked}
-use Rattle.steps.proofs.RequestLaws.{transfer-other, transfer-sends}
+use Rattle.sender_units.specs.Transfer.{transferMem, transferLens}
+use Rattle.sender_keeps.proofs.KeepsTransfer.{transfer-sized}
+use Rattle.table.specs.Surveying.{mine, mineLens}
+use Rattle.table.proofs.Parts.{own-asked, quiet, parts-filed}
+use Rattle.steps.specs.Requests.{transferFor}
 use borrow.Author.Needs.{needs}
 use Rattle.steps.proofs.requests.transfer_step.Statement.{statement}
 use Rattle.steps.proofs.requests.transfer_step.Tie as tie
@@ -22,7 +29,8 @@ refused-requires : tie.Need-refused-requires
 refused-requires c κs = search needs
 
 returns : tie.Need-returns
-returns c = let a = c .before .before .before .before .before .before .args in let s = c .before .before .before .before .before .before .pre in let f = fit-is (a .c .limits) (s .standing .fit) in ap (λ (x : Stepped). works x (a .mem .now) (a .lens .now) []) (c .refused .ensures) ∙ transfer-other (a .c) (a .d) (a .mem .now) (a .lens .now) (a .unit .now) (c .before .if1 .taken)
+unfolding transferFor
+returns c = let a = c .before .before .before .before .before .before .args in ap (λ (x : Stepped). works x (a .mem .now) (a .lens .now) []) (c .refused .ensures) ∙ quiet (transferFor (a .unit .now)) (a .c) (a .d) (a .mem .now) (a .lens .now) [] _ _ (passed-by (eqb (a .c .addresses .direction) sends) _ _ (ne-eqb _ _ (c .before .if1 .taken)))
 
 area-requires : tie.Need-area-requires
 area-requires c κs = search needs
@@ -64,7 +72,8 @@ same-length-2 : tie.Need-same-length-2
 same-length-2 c = search needs
 
 returns-2 : tie.Need-returns-2
-returns-2 c = let a = c .before .before .before .before .before .before .before .before .before .before .before .before .before .before .args in let s = c .before .before .before .before .before .before .before .before .before .before .before .before .before .before .pre in let f = fit-is (a .c .limits) (s .standing .fit) in transfer-sends (a .c) (a .d) (a .mem .now) (a .lens .now) (a .unit .now) (c .before .before .before .before .before .before .before .before .before .if1 .left) s _ _ _ (a .d .spot .octet + c .before .before .before .before .before .before .before .before .area .result - a .d .spot .octet) (a .d .spot .slot + a .c .limits .slots - a .d .spot .slot) (omega (arith, c .before .before .before .before .before .before .before .before .area .ensures .0)) (omega arith) (c .before .before .before .before .transfer-step .ensures .0) (c .before .before .before .before .transfer-step .ensures .1) (c .before .before .before .before .transfer-step .ensures .2)
+unfolding transferFor
+returns-2 c = let a = c .before .before .before .before .before .before .before .before .before .before .before .before .before .before .args in let s = c .before .before .before .before .before .before .before .before .before .before .before .before .before .before .pre in let u = a .unit .now in parts-filed (transferFor u) (a .c) (a .d) (a .mem .now) (a .lens .now) [] (a .d .spot .octet + c .before .before .before .before .before .before .before .before .area .result - a .d .spot .octet) (a .d .spot .slot + a .c .limits .slots - a .d .spot .slot) (omega (arith, c .before .before .before .before .before .before .before .before .area .ensures .0)) (omega arith) (λ m. transferMem (a .c) u m) (λ l. transferLens (a .c) u l) _ _ _ _ [] (c .before .before .before .before .transfer-step .ensures .0) (c .before .before .before .before .transfer-step .ensures .1) (c .before .before .before .before .transfer-step .ensures .2) (transfer-sized (a .c) u (mine (a .c) (a .d) (a .mem .now)) (mineLens (a .c) (a .d) (a .lens .now)) (s .standing) (s .sized)) (chosen (eqb (a .c .addresses .direction) sends) _ _ (eq-eqb _ _ (c .before .before .before .before .before .before .before .before .before .if1 .left)))
 
 pub transfer-step-spec : {M : Type 1} → statement M
 transfer-step-spec =

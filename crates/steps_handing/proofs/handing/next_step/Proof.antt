@@ -1,14 +1,14 @@
 -- `steps_handing::handing::next_step` meets its contract: the parts are cut out and read; a packet of that rank is ready.
 -- Assumes nothing.
-use mathlib.Core.Path.{_≡_, refl, sym, ap, ap₂, _∙_}
-use Prim.Native.Nat.{ℕ, _+_, _-_, _*_, _≤_, _<_}
+use mathlib.Core.Path.{refl, ap, _∙_}
+use Prim.Native.Nat.{_+_, _-_}
 use native.Mathlib.Omega.{arith}
-use Rattle.walks.specs.Serving.{works}
-use mathlib.Core.List.{[]}
-use Rattle.channel.specs.declared.step.Stepped.{Stepped}
+use lib.ListN.{length}
 use Rattle.channel.proofs.SettingsLaws.{fit-is}
-use Rattle.table.proofs.Parts.{own-asked}
-use Rattle.steps_handing.proofs.HandLaws.{ready-is, next-hands}
+use Rattle.sender_packets.specs.HandingOut.{handStep, handOut}
+use Rattle.table.proofs.Parts.{own-asked, parts-read}
+use Rattle.steps_handing.specs.Handing.{nextFor}
+use Rattle.steps_handing.proofs.HandLaws.{ready-is}
 use Rattle.table.specs.declared.looking.Look.{Look}
 use Rattle.table.specs.Looking.{graded}
 use borrow.Author.Needs.{needs}
@@ -56,7 +56,8 @@ same-length : tie.Need-same-length
 same-length c = search needs
 
 returns : tie.Need-returns
-returns c = let a = c .before .before .before .before .before .before .before .before .before .before .before .args in let s = c .before .before .before .before .before .before .before .before .before .before .before .pre .0 in let f = fit-is (a .c .limits) (s .standing .fit) in next-hands (a .c) (a .d) (a .mem .now) (a .lens .now) (a .out .now) (a .node) _ _ (a .d .spot .octet + c .before .before .before .before .before .before .before .area .result - a .d .spot .octet) (a .d .spot .slot + a .c .limits .slots - a .d .spot .slot) (omega (arith, c .before .before .before .before .before .before .before .area .ensures .0)) (omega arith) (c .before .before .hand-step .ensures .0) (c .before .before .hand-step .ensures .1)
+unfolding nextFor
+returns c = let a = c .before .before .before .before .before .before .before .before .before .before .before .args in parts-read (nextFor (a .node)) (a .c) (a .d) (a .mem .now) (a .lens .now) (a .out .now) (a .d .spot .octet + c .before .before .before .before .before .before .before .area .result - a .d .spot .octet) (a .d .spot .slot + a .c .limits .slots - a .d .spot .slot) (omega (arith, c .before .before .before .before .before .before .before .area .ensures .0)) (omega arith) (λ l. handStep (a .c) l (a .d .spot .rank) (length (a .out .now))) (λ l m. handOut (a .node) (a .c) l m (a .d .spot .rank) (a .out .now)) _ _ (c .before .before .hand-step .ensures .0) (c .before .before .hand-step .ensures .1) refl
 
 pub next-step-spec : {M : Type 1} → statement M
 next-step-spec =

@@ -9,7 +9,8 @@ use Rattle.ring.proofs.Laws.{round-lt, round-add}
 use Rattle.slots.specs.Slots.{slotOf, laid}
 use Rattle.slots.proofs.Laws.{slot-bound}
 use Rattle.store.specs.Store.{sizeIn, octetsIn}
-use Rattle.store.proofs.Laws.{first-place, place-fits, size-more, gather-length, gather-more, gather-none}
+use Rattle.ring.proofs.Laws.{first-place}
+use Rattle.store.proofs.Laws.{place-fits, size-more, gather-length, gather-more, gather-none}
 use Rattle.store.proofs.gathering.gather.Statement.{statement}
 use Rattle.store.proofs.gathering.gather.Tie as tie
 use Rattle.store.proofs.gathering.gather.Reads as reads
