@@ -62,5 +62,5 @@ module _ (node : Node) (s : List ℕ) (room at : ℕ) (c : Channel) where
       by-short r true e = absurd (no-one (lookOf node s room) refusal.Short at c (simp (r, e)) h)
 
       by-room : (b : Bool) → ltb room ackLength ≡ b → Wanted
-      by-room true e = absurd (no-one (lookOf node s room) refusal.Small at c (simp (e)) h)
+      by-room true e = absurd (no-one (lookOf node s room) (refusal.Small ackLength) at c (simp (e)) h)
       by-room false e = by-short e (short s) refl

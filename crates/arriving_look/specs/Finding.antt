@@ -31,4 +31,4 @@ lookBy node Strange = Nobody refusal.Strange
 
 -- with a reply buffer of so many octets
 unfoldable pub lookOf : Node → List ℕ → ℕ → Look
-lookOf node s room = if ltb room ackLength then Nobody refusal.Small else lookBy node (readOf s)
+lookOf node s room = if ltb room ackLength then Nobody (refusal.Small ackLength) else lookBy node (readOf s)

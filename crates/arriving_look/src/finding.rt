@@ -48,7 +48,7 @@ pub fn look_of(node: Node, packet: &[u8], room: usize) -> Look
     ensures { λ r. ⌜ r ≡ lookOf node (now (packet .entry)) room ⌝ }
 {
     if room < 12 {
-        return Look::Nobody(Refusal::Small);
+        return Look::Nobody(Refusal::Small(12));
     }
     look_by(node, read_packet(packet))
 }

@@ -15,7 +15,7 @@ refusalNumber refusal.Long = 6
 refusalNumber refusal.NoRoom = 7
 refusalNumber refusal.Full = 8
 refusalNumber refusal.Untaken = 10
-refusalNumber refusal.Small = 11
+refusalNumber (refusal.Small n) = 11
 refusalNumber refusal.Nothing = 12
 refusalNumber refusal.Settings = 13
 refusalNumber refusal.NoChannel = 14
@@ -33,6 +33,29 @@ lengthOf (Done n u) = n
 lengthOf (Repeated n) = n
 lengthOf (Inactive why) = 0
 lengthOf (Refused r) = 0
+
+-- with 11: how many octets the lent buffer must have
+abbrev pub wantedBy : Refusal → ℕ
+wantedBy (refusal.Small n) = n
+wantedBy refusal.Short = 0
+wantedBy refusal.Damaged = 0
+wantedBy refusal.Strange = 0
+wantedBy refusal.Lacking = 0
+wantedBy refusal.State = 0
+wantedBy refusal.Long = 0
+wantedBy refusal.NoRoom = 0
+wantedBy refusal.Full = 0
+wantedBy refusal.Untaken = 0
+wantedBy refusal.Nothing = 0
+wantedBy refusal.Settings = 0
+wantedBy refusal.NoChannel = 0
+wantedBy refusal.Ignored = 0
+
+abbrev pub wantedOf : Answer → ℕ
+wantedOf (Done n u) = 0
+wantedOf (Repeated n) = 0
+wantedOf (Inactive why) = 0
+wantedOf (Refused r) = wantedBy r
 
 -- with 0: how many units a Data Ack confirmed
 abbrev pub confirmedOf : Answer → ℕ

@@ -1,6 +1,6 @@
 // What a call of the node answers (document 01, Answer numbers).
 ghost use mathlib.Core.Path.{_≡_};
-ghost use Rattle.channel.specs.Answers.{refusalNumber, numberOf, lengthOf, confirmedOf, reasonOf};
+ghost use Rattle.channel.specs.Answers.{refusalNumber, numberOf, lengthOf, wantedBy, wantedOf, confirmedOf, reasonOf};
 
 pub enum Answer {
     // With the octets written, and the units that a Data Ack confirmed.
@@ -28,8 +28,8 @@ pub enum Refusal {
     Full,
     // Units are untaken or unreclaimed.
     Untaken,
-    // The lent buffer is too small.
-    Small,
+    // The lent buffer is too small; with the octets that are wanted.
+    Small(usize),
     // There is nothing to hand out.
     Nothing,
     // Bad settings, or a record that lacks its standing condition.
@@ -67,7 +67,7 @@ pub fn refusal_number(r: Refusal) -> u32
         Refusal::NoRoom => 7,
         Refusal::Full => 8,
         Refusal::Untaken => 10,
-        Refusal::Small => 11,
+        Refusal::Small(_) => 11,
         Refusal::Nothing => 12,
         Refusal::Settings => 13,
         Refusal::NoChannel => 14,
@@ -87,6 +87,42 @@ pub fn length(a: Answer) -> usize
         Answer::Repeated { length } => length,
         Answer::Inactive(_) => 0,
         Answer::Refused(_) => 0,
+    }
+}
+
+// The octets that a lent buffer must have, with 11.
+pub fn wanted(a: Answer) -> usize
+    ensures { λ r. ⌜ r ≡ wantedOf a ⌝ }
+{
+    match a {
+        Answer::Done {
+            length: _,
+            confirmed: _,
+        } => 0,
+        Answer::Repeated { length: _ } => 0,
+        Answer::Inactive(_) => 0,
+        Answer::Refused(refusal) => wanted_by(refusal),
+    }
+}
+
+fn wanted_by(r: Refusal) -> usize
+    ensures { λ n. ⌜ n ≡ wantedBy r ⌝ }
+{
+    match r {
+        Refusal::Small(octets) => octets,
+        Refusal::Short => 0,
+        Refusal::Damaged => 0,
+        Refusal::Strange => 0,
+        Refusal::Lacking => 0,
+        Refusal::State => 0,
+        Refusal::Long => 0,
+        Refusal::NoRoom => 0,
+        Refusal::Full => 0,
+        Refusal::Untaken => 0,
+        Refusal::Nothing => 0,
+        Refusal::Settings => 0,
+        Refusal::NoChannel => 0,
+        Refusal::Ignored => 0,
     }
 }
 

@@ -145,7 +145,7 @@ module _ (node : Node) (c : Channel) (mem lens : List ℕ) (a : Asked c mem lens
 
   -- a buffer that is too small, and one in which the packet is written
   pub hand-cases : (P : Worked Stepped → Type 0) (out : List ℕ)
-      → P (works (refusing c refusal.Small) mem lens out)
+      → P (works (refusing c (refusal.Small (nextLength c lens rank))) mem lens out)
       → ((n : ℕ) (o : List ℕ) → Carries node c mem lens rank (take n o) → P (works (doing (nextOut c rank) n) mem lens o))
       → P (nextFor node c rank mem lens out)
   unfolding nextFor handStep handOut
@@ -153,7 +153,7 @@ module _ (node : Node) (c : Channel) (mem lens : List ℕ) (a : Asked c mem lens
     where
       go : (b : Bool) → ltb (length out) (nextLength c lens rank) ≡ b
           → P
-          (works (if b then refusing c refusal.Small else doing (nextOut c rank) (nextLength c lens rank)) mem lens
+          (works (if b then refusing c (refusal.Small (nextLength c lens rank)) else doing (nextOut c rank) (nextLength c lens rank)) mem lens
           (if b then out else afterWrite (written.Done (nextLength c lens rank)) (nextFields node c rank) (nextPayload c lens mem rank) out))
       go true e = small
       go false e = done (nextLength c lens rank) _ (carries out (ltb-false (length out) (nextLength c lens rank) e))

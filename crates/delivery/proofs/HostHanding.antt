@@ -111,7 +111,7 @@ module _ {h s : End} {past : List Event} {x : Sender} {y : Receiver} {t : List C
       let l = ownLens t j lens in
       hand-cases (h .node) (recordAt t j) m l (own-asked h t mem lens (k .now .kept) j there) rank ready
       (λ (w : Worked Stepped). Next k request copy (w .made .answer) (w .out) (own k) (octets k) (lengths k)) b
-      (hand-refused refusal.Small b)
+      (hand-refused _ b)
       (λ z o carries.
       hand-quiet (Done z 0) o
       (λ packet e named kind. not-named j there apart dir m l rank packet (subst (Carries (h .node) (recordAt t j) m l rank) e carries) named))
@@ -214,7 +214,7 @@ module _ {h s : End} {past : List Event} {x : Sender} {y : Receiver} {t : List C
 
   hand-own : (r : ℕ) → Ready (own k) r → Left (Next k request copy) (nextFor (h .node) (own k) r (octets k) (lengths k) b)
   hand-own r ready =
-      hand-cases (h .node) (own k) (octets k) (lengths k) (asked k) r ready (Left (Next k request copy)) b (hand-refused refusal.Small b)
+      hand-cases (h .node) (own k) (octets k) (lengths k) (asked k) r ready (Left (Next k request copy)) b (hand-refused _ b)
       (λ z o carries. by-rank z o carries (eqb r 0) refl)
     where
       by-rank : (z : ℕ) (o : List ℕ) → Carries (h .node) (own k) (octets k) (lengths k) r (take z o) → (q : Bool) → eqb r 0 ≡ q

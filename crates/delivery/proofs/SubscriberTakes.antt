@@ -147,8 +147,8 @@ module _ {h s : End} {past : List Event} {x : Sender} {y : Receiver} {t : List C
           made (refusing c refusal.Nothing) buffer (take-nothing c l (length buffer) (eqb-true _ _ e)) (out-nothing c l m buffer (eqb-true _ _ e))
           (takes-refused refusal.Nothing buffer)
       by false e true z =
-          made (refusing c refusal.Small) buffer (take-small c l (length buffer) (eqb-false _ _ e) (ltb-true _ _ z)) (out-small c l m buffer (eqb-false _ _ e) (ltb-true _ _ z))
-          (takes-refused refusal.Small buffer)
+          made (refusing c (refusal.Small (sizeAt c l))) buffer (take-small c l (length buffer) (eqb-false _ _ e) (ltb-true _ _ z)) (out-small c l m buffer (eqb-false _ _ e) (ltb-true _ _ z))
+          (takes-refused (refusal.Small (sizeAt c l)) buffer)
       by false e false z =
           let done = take-done c l (length buffer) (eqb-false _ _ e) (ltb-false _ _ z) in
           made (doing (dropped c (unitAt c)) (sizeAt c l)) (laid buffer 0 unit) done (out-done c l m buffer (eqb-false _ _ e) (ltb-false _ _ z))

@@ -41,4 +41,4 @@ abbrev pub writingOf : Written → Writing
 writingOf (written.Done n) = record { answer = writtenNumber (written.Done n); length = n }
 writingOf written.Lacking = record { answer = writtenNumber written.Lacking; length = 0 }
 writingOf written.Strange = record { answer = writtenNumber written.Strange; length = 0 }
-writingOf written.Small = record { answer = writtenNumber written.Small; length = 0 }
+writingOf (written.Small n) = record { answer = writtenNumber (written.Small n); length = n }

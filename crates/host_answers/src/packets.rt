@@ -78,9 +78,6 @@ pub fn writing_of(w: Written) -> Writing
             answer: 3,
             length: 0,
         },
-        Written::Small => Writing {
-            answer: 11,
-            length: 0,
-        },
+        Written::Small(length) => Writing { answer: 11, length },
     }
 }

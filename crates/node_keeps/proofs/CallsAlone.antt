@@ -87,8 +87,8 @@ arrival-by-addresses node s room = by-room (ltb room ackLength) (readOf s)
     by-read Lacking = nobody-by-addresses refusal.Lacking
     by-read Strange = nobody-by-addresses refusal.Strange
 
-    by-room : (b : Bool) (r : Read) → ByAddresses (if b then Nobody refusal.Small else lookBy node r)
-    by-room true r = nobody-by-addresses refusal.Small
+    by-room : (b : Bool) (r : Read) → ByAddresses (if b then Nobody (refusal.Small ackLength) else lookBy node r)
+    by-room true r = nobody-by-addresses (refusal.Small ackLength)
     by-room false r = by-read r
 
 -- ---- each call changes its own channel alone

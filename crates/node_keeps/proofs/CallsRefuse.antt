@@ -156,7 +156,7 @@ module _ (c : Channel) (rank : ℕ) (mem lens out : List ℕ) where
           → numberOf
           ((if not a then refusing c refusal.State
           else if b then refusing c refusal.Nothing
-          else if d then refusing c refusal.Small
+          else if d then refusing c (refusal.Small (sizeAt c lens))
           else doing (dropped c (unitAt c)) (sizeAt c lens))
           .answer)
           ≡ 9
@@ -170,7 +170,7 @@ module _ (c : Channel) (rank : ℕ) (mem lens out : List ℕ) where
   unfolding nextFor handStep
   next-silent node e = absurd (go (ltb (length out) (nextLength c lens rank)) e)
     where
-      go : (a : Bool) → numberOf ((if a then refusing c refusal.Small else doing (nextOut c rank) (nextLength c lens rank)) .answer) ≡ 9 → ⊥
+      go : (a : Bool) → numberOf ((if a then refusing c (refusal.Small (nextLength c lens rank)) else doing (nextOut c rank) (nextLength c lens rank)) .answer) ≡ 9 → ⊥
       go true e = omega (arith, e)
       go false e = omega (arith, e)
 

@@ -6,20 +6,22 @@ use Rattle.channel.proofs.record.Channel as C
 use Rattle.channel.proofs.record.Channel.Laws as C′
 use Rattle.channel.proofs.record.Node as O
 use Rattle.channel.proofs.record.Node.Laws as O′
-use Rattle.channel.proofs.answer.Answer as N
-use Rattle.channel.proofs.answer.Answer.Laws as N′
-use Rattle.channel.proofs.step.Stepped as S
-use Rattle.channel.proofs.step.Stepped.Laws as S′
+use Rattle.table.proofs.deciding.Told as N
+use Rattle.table.proofs.deciding.Told.Laws as N′
+use Rattle.table.proofs.deciding.Placed as S
+use Rattle.table.proofs.deciding.Placed.Laws as S′
 use Rattle.table.proofs.surveying.Survey as Y
 use Rattle.table.proofs.surveying.Survey.Laws as Y′
 use Rattle.table.proofs.deciding.Decision as D
 use Rattle.table.proofs.deciding.Decision.Laws as D′
 use Rattle.table.proofs.deciding.Verdict as R
 use Rattle.table.proofs.deciding.Verdict.Laws as R′
-use Rattle.steps_ticking.proofs.ticking.Ticked as T
-use Rattle.steps_ticking.proofs.ticking.Ticked.Laws as T′
+use Rattle.steps_ticking.proofs.ticking.Turned as T
+use Rattle.steps_ticking.proofs.ticking.Turned.Laws as T′
+use Rattle.steps_ticking.proofs.ticking.Round as P
+use Rattle.steps_ticking.proofs.ticking.Round.Laws as P′
 use Rattle.table.specs.Serving.{blank}
-use Rattle.walks.proofs.Tab.{struct-elem, enum-elem}
+use Rattle.walks.proofs.Tab.{struct-elem}
 use Rattle.walks.proofs.Plain.{Kind, Has, uint, truth}
 use Rattle.walks.proofs.Served.{Served, Tested}
 
@@ -30,8 +32,8 @@ channel = record { row = C.the-row; ty = C′.mir; elem = struct-elem C.the-type
 abbrev pub own : Kind
 own = record { row = O.the-row; ty = O′.mir; elem = struct-elem O.the-type O′.the-laws O′.the-copy O′.the-plain }
 
-abbrev pub answer : Kind
-answer = record { row = N.the-row; ty = N′.mir; elem = enum-elem N.the-type N′.the-laws N′.the-copy N′.the-plain tt }
+abbrev pub told : Kind
+told = record { row = N.the-row; ty = N′.mir; elem = struct-elem N.the-type N′.the-laws N′.the-copy N′.the-plain }
 
 abbrev pub outcome : Kind
 outcome = record { row = S.the-row; ty = S′.mir; elem = struct-elem S.the-type S′.the-laws S′.the-copy S′.the-plain }
@@ -48,35 +50,38 @@ verdict = record { row = R.the-row; ty = R′.mir; elem = struct-elem R.the-type
 abbrev pub stepped : Kind
 stepped = record { row = T.the-row; ty = T′.mir; elem = struct-elem T.the-type T′.the-laws T′.the-copy T′.the-plain }
 
+abbrev pub round : Kind
+round = record { row = P.the-row; ty = P′.mir; elem = struct-elem P.the-type P′.the-laws P′.the-copy P′.the-plain }
+
 -- a field of a struct: its place among the fields, and what it is
 abbrev pub stored : Has outcome channel
 stored = record { index = 0; part = λ s. s .channel; symbol = _; types = _; offset = _; vals = _; ty-is = refl; lies = refl; val-is = λ y. refl; get-is = λ y. refl; owed = λ y is. LL.owed S.the-type S′.the-laws y _ is .0 }
 
-abbrev pub said : Has outcome answer
-said = record { index = 1; part = λ s. s .answer; symbol = _; types = _; offset = _; vals = _; ty-is = refl; lies = refl; val-is = λ y. refl; get-is = λ y. refl; owed = λ y is. LL.owed S.the-type S′.the-laws y _ is .1 .0 }
+abbrev pub said : Has outcome told
+said = record { index = 1; part = λ s. s .told; symbol = _; types = _; offset = _; vals = _; ty-is = refl; lies = refl; val-is = λ y. refl; get-is = λ y. refl; owed = λ y is. LL.owed S.the-type S′.the-laws y _ is .1 .0 }
 
 abbrev pub at : Has decision (uint w64)
 at = record { index = 0; part = λ s. s .at; symbol = _; types = _; offset = _; vals = _; ty-is = refl; lies = refl; val-is = λ y. refl; get-is = λ y. refl; owed = λ y is. LL.owed D.the-type D′.the-laws y _ is .0 }
 
-abbrev pub unserved : Has decision answer
-unserved = record { index = 1; part = λ s. s .answer; symbol = _; types = _; offset = _; vals = _; ty-is = refl; lies = refl; val-is = λ y. refl; get-is = λ y. refl; owed = λ y is. LL.owed D.the-type D′.the-laws y _ is .1 .0 }
+abbrev pub unserved : Has decision told
+unserved = record { index = 1; part = λ s. s .told; symbol = _; types = _; offset = _; vals = _; ty-is = refl; lies = refl; val-is = λ y. refl; get-is = λ y. refl; owed = λ y is. LL.owed D.the-type D′.the-laws y _ is .1 .0 }
 
 abbrev pub holds : Has verdict truth
 holds = record { index = 0; part = λ s. s .ok; symbol = _; types = _; offset = _; vals = _; ty-is = refl; lies = refl; val-is = λ y. refl; get-is = λ y. refl; owed = λ y is. LL.owed R.the-type R′.the-laws y _ is .0 }
 
-abbrev pub refusal : Has verdict answer
-refusal = record { index = 1; part = λ s. s .answer; symbol = _; types = _; offset = _; vals = _; ty-is = refl; lies = refl; val-is = λ y. refl; get-is = λ y. refl; owed = λ y is. LL.owed R.the-type R′.the-laws y _ is .1 .0 }
+abbrev pub refusal : Has verdict told
+refusal = record { index = 1; part = λ s. s .told; symbol = _; types = _; offset = _; vals = _; ty-is = refl; lies = refl; val-is = λ y. refl; get-is = λ y. refl; owed = λ y is. LL.owed R.the-type R′.the-laws y _ is .1 .0 }
 
 abbrev pub swept : Has stepped channel
 swept = record { index = 0; part = λ s. s .channel; symbol = _; types = _; offset = _; vals = _; ty-is = refl; lies = refl; val-is = λ y. refl; get-is = λ y. refl; owed = λ y is. LL.owed T.the-type T′.the-laws y _ is .0 }
 
-abbrev pub summed : Has stepped truth
-summed = record { index = 1; part = λ s. s .inactive; symbol = _; types = _; offset = _; vals = _; ty-is = refl; lies = refl; val-is = λ y. refl; get-is = λ y. refl; owed = λ y is. LL.owed T.the-type T′.the-laws y _ is .1 .0 }
+abbrev pub summed : Has stepped round
+summed = record { index = 1; part = λ s. s .round; symbol = _; types = _; offset = _; vals = _; ty-is = refl; lies = refl; val-is = λ y. refl; get-is = λ y. refl; owed = λ y is. LL.owed T.the-type T′.the-laws y _ is .1 .0 }
 
 -- the types of a call that serves one channel
 abbrev pub served : Served
-served = record { channel = channel; answer = answer; outcome = outcome; stored = stored; said = said; decision = decision; at = at; unserved = unserved; blank = blank; fits = tt }
+served = record { channel = channel; answer = told; outcome = outcome; stored = stored; said = said; decision = decision; at = at; unserved = unserved; blank = blank; fits = tt }
 
 -- the types of a call that is done where a test holds
 abbrev pub tested : Tested
-tested = record { channel = channel; answer = answer; verdict = verdict; holds = holds; refusal = refusal }
+tested = record { channel = channel; answer = told; verdict = verdict; holds = holds; refusal = refusal }

@@ -1,7 +1,8 @@
 -- The call `tick`, as one function of what it is given: every channel is ticked, each alone (document 01, Answer numbers).
 use mathlib.Core.Bool.{Bool, true, false, _||_}
 use mathlib.Core.List.{List, [], _∷_, map}
-use Prim.Native.Nat.{ℕ}
+use Prim.Native.Nat.{ℕ, suc}
+use lib.ListN.{length}
 use Rattle.laws.specs.Choice.{if_then_else_}
 use Rattle.walks.specs.Sweep.{sweepT, sweepA}
 use Rattle.walks.specs.Serving.{Changed, changes}
@@ -9,34 +10,49 @@ use Rattle.channel.specs.declared.record.Channel.{Channel}
 use Rattle.channel.specs.declared.answer.Answer.{Answer}
 use Rattle.channel.specs.declared.answer.Answer.the-variants.{Done, Inactive, Refused}
 use Rattle.channel.specs.declared.answer.Refusal.the-variants as refusal
-use Rattle.channel.specs.Record.{retriesOut}
 use Rattle.channel.specs.Asked.{Ringed}
+use Rattle.table.specs.declared.deciding.Told.{Told}
 use Rattle.table.specs.Lent.{lawful}
-use Rattle.steps_ticking.specs.Ticking.{tickedBy}
+use Rattle.table.specs.Serving.{recordAt, toldOf}
+use Rattle.steps_ticking.specs.declared.ticking.Round.{Round}
+use Rattle.steps_ticking.specs.Ticking.{tickedBy, turnedBy}
 
--- one channel after the tick, and whether it went inactive in it
+-- one channel after the tick
 abbrev pub tickOf : Channel → Channel
-tickOf c = tickedBy c false .channel
+tickOf c = tickedBy c .channel
 
+-- whether any goes inactive in it, and the lowest index of those that do; as many as there are records where none does
 unfoldable pub anyInactive : List Channel → Bool
 anyInactive [] = false
-anyInactive (c ∷ t) = tickedBy c false .inactive || anyInactive t
+anyInactive (c ∷ t) = tickedBy c .inactive || anyInactive t
 
--- 9 if any channel went inactive in it, else 0
-abbrev pub tickAnswer : Bool → Answer
-tickAnswer inactive = if inactive then Inactive retriesOut else Done 0 0
+unfoldable pub firstInactive : List Channel → ℕ
+firstInactive [] = 0
+firstInactive (c ∷ t) = if tickedBy c .inactive then 0 else suc (firstInactive t)
+
+-- 9 if any channel went inactive in it, for the reason that its record then says; else 0
+abbrev pub tickAnswer : List Channel → Answer
+tickAnswer t = if anyInactive t then Inactive (recordAt (map tickOf t) (firstInactive t) .reason) else Done 0 0
 
 unfoldable pub ticked : List Channel → List ℕ → List ℕ → Changed Answer Channel
 ticked t mem lens =
-    if lawful t mem lens then changes (tickAnswer (anyInactive t)) (map tickOf t)
+    if lawful t mem lens then changes (tickAnswer t) (map tickOf t)
     else changes (Refused refusal.Settings) t
 
--- as the sweep goes: what a channel must have, and what is carried along
+-- the index that is told with the answer
+unfoldable pub tickIndex : List Channel → List ℕ → List ℕ → ℕ
+tickIndex t mem lens = if lawful t mem lens then firstInactive t else length t
+
+-- ---- as the sweep goes: what a channel must have, what is carried along, and what it tells at the end
+
 abbrev pub ticks : Channel → Type 0
 ticks c = Ringed (c .limits) (c .window)
 
-abbrev pub sweptTable : List Channel → Bool → List Channel
-sweptTable t before = sweepT (λ x. x .channel) (λ x. x .inactive) tickedBy t before
+abbrev pub sweptTable : List Channel → Round → List Channel
+sweptTable t before = sweepT (λ x. x .channel) (λ x. x .round) turnedBy t before
 
-abbrev pub sweptAny : List Channel → Bool → Bool
-sweptAny t before = sweepA (λ x. x .channel) (λ x. x .inactive) tickedBy t before
+abbrev pub sweptRound : List Channel → Round → Round
+sweptRound t before = sweepA (λ x. x .channel) (λ x. x .round) turnedBy t before
+
+abbrev pub tickEnd : Round → Told
+tickEnd r = toldOf (r .index) (if r .any then Inactive (r .reason) else Done 0 0)

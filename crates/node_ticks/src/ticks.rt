@@ -2,23 +2,24 @@
 use channel::Answer;
 use channel::Channel;
 use channel::Refusal;
-use channel::record::RETRIES;
 use node_survey::surveying::survey;
-use steps_ticking::ticking::tick_one;
+use steps_ticking::ticking::Round;
+use steps_ticking::ticking::tick_next;
 use table::Look;
 use table::Survey;
+use table::Told;
 use table_decision::deciding::judge;
 use table_survey::surveying::begin;
 ghost use mathlib.Core.Path.{_≡_};
-ghost use mathlib.Core.Bool.{false};
 ghost use Rattle.walks.specs.Sweep.{Every};
-ghost use Rattle.walks.specs.Serving.{changes};
+ghost use Rattle.walks.specs.Serving.{changes, telling};
 ghost use Rattle.channel.specs.declared.answer.Refusal.the-variants as refusal;
 ghost use Rattle.channel.specs.declared.record.Channel.{Channel as Record};
 ghost use Rattle.table.specs.declared.looking.Look.the-variants as look;
-ghost use Rattle.table.specs.Serving.{blank};
+ghost use Rattle.table.specs.Serving.{blank, toldOf};
 ghost use Rattle.table.specs.Surveying.{begun};
-ghost use Rattle.node_ticks.specs.Ticks.{ticks, sweptTable, sweptAny, tickAnswer, ticked};
+ghost use Rattle.steps_ticking.specs.Ticking.{quiet};
+ghost use Rattle.node_ticks.specs.Ticks.{ticks, sweptTable, sweptRound, tickEnd, tickIndex, ticked};
 
 // A tick is for no channel.
 fn tick_begin() -> Survey
@@ -27,43 +28,53 @@ fn tick_begin() -> Survey
     begin(Look::Nobody(Refusal::NoChannel))
 }
 
-fn tick_start() -> bool
-    ensures { λ r. ⌜ r ≡ false ⌝ }
+fn tick_start() -> Round
+    ensures { λ r. ⌜ r ≡ quiet 0 ⌝ }
 {
-    false
-}
-
-// 9 if some channel went inactive: only retries run out in a tick.
-fn tick_end(inactive: bool) -> Answer
-    ensures { λ r. ⌜ r ≡ tickAnswer inactive ⌝ }
-{
-    if inactive {
-        return Answer::Inactive(RETRIES);
-    }
-    Answer::Done {
-        length: 0,
-        confirmed: 0,
+    Round {
+        index: 0,
+        reason: 0,
+        any: false,
     }
 }
 
-fn tick_all(t: &mut [Channel], start: bool) -> bool
+// 9 if some channel went inactive, with the reason and the index of the first.
+fn tick_end(r: Round) -> Told
+    ensures { λ s. ⌜ s ≡ tickEnd r ⌝ }
+{
+    if r.any {
+        return Told {
+            answer: Answer::Inactive(r.reason),
+            index: r.index,
+        };
+    }
+    Told {
+        answer: Answer::Done {
+            length: 0,
+            confirmed: 0,
+        },
+        index: r.index,
+    }
+}
+
+fn tick_all(t: &mut [Channel], start: Round) -> Round
     requires { ⌜ Every blank ticks (now t) ⌝ }
-    ensures { λ r. ⌜ (r ≡ sweptAny (now (t .entry)) start) × (now (t .exit) ≡ sweptTable (now (t .entry)) start) ⌝ }
+    ensures { λ r. ⌜ (r ≡ sweptRound (now (t .entry)) start) × (now (t .exit) ≡ sweptTable (now (t .entry)) start) ⌝ }
 {
     let mut a = start;
     let mut i = 0;
     while i < t.len() {
-        let s = tick_one(t[i], a);
+        let s = tick_next(t[i], a);
         t[i] = s.channel;
-        a = s.inactive;
+        a = s.round;
         i = i + 1;
     }
     a
 }
 
 // All are ticked, also where one goes inactive.
-pub fn tick(t: &mut [Channel], mem: &[u8], lens: &[u16]) -> Answer
-    ensures { λ r. ⌜ changes r (now (t .exit)) ≡ ticked (now (t .entry)) (now (mem .entry)) (now (lens .entry)) ⌝ }
+pub fn tick(t: &mut [Channel], mem: &[u8], lens: &[u16]) -> Told
+    ensures { λ r. ⌜ changes r (now (t .exit)) ≡ telling (toldOf (tickIndex (now (t .entry)) (now (mem .entry)) (now (lens .entry)))) (ticked (now (t .entry)) (now (mem .entry)) (now (lens .entry))) ⌝ }
 {
     let a = tick_begin();
     let v = survey(t, lens, a);
@@ -74,6 +85,6 @@ pub fn tick(t: &mut [Channel], mem: &[u8], lens: &[u16]) -> Answer
         let r = tick_end(z);
         r
     } else {
-        d.answer
+        d.told
     }
 }

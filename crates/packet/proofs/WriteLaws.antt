@@ -33,7 +33,7 @@ module _ (f : Fields) (x n : ℕ) where
   unfolding writtenOf
   write-strange a b = rw (a, b)
 
-  pub write-small : lacking f ≡ false → strange f x ≡ false → n < wholeLength f x → writtenOf f x n ≡ Small
+  pub write-small : lacking f ≡ false → strange f x ≡ false → n < wholeLength f x → writtenOf f x n ≡ Small (wholeLength f x)
   unfolding writtenOf
   write-small a b c = rw (a, b, lt-ltb n (wholeLength f x) c)
 

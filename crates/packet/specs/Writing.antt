@@ -15,7 +15,7 @@ unfoldable pub writtenOf : Fields → ℕ → ℕ → Written
 writtenOf f x n =
     if lacking f then Lacking
     else if strange f x then Strange
-    else if ltb n (wholeLength f x) then Small
+    else if ltb n (wholeLength f x) then Small (wholeLength f x)
     else Done (wholeLength f x)
 
 -- the buffer after the answer: the packet at its front, or as it was
@@ -23,11 +23,11 @@ unfoldable pub afterWrite : Written → Fields → List ℕ → List ℕ → Lis
 afterWrite (Done n) f p out = packetOf f p ++ drop n out
 afterWrite Lacking f p out = out
 afterWrite Strange f p out = out
-afterWrite Small f p out = out
+afterWrite (Small n) f p out = out
 
 -- the answer number of each case (document 01, Answer numbers)
 abbrev pub writtenNumber : Written → ℕ
 writtenNumber (Done n) = 0
 writtenNumber Strange = 3
 writtenNumber Lacking = 4
-writtenNumber Small = 11
+writtenNumber (Small n) = 11

@@ -17,7 +17,8 @@ pub enum Written {
     Done(usize),
     Lacking,
     Strange,
-    Small,
+    // How many octets the buffer must have.
+    Small(usize),
 }
 
 // Whatever is given: tests 4, 3, 11 in this order, else the packet at the buffer's front. The octets past it stay, and a
@@ -33,7 +34,7 @@ pub fn write_packet(fields: Fields, payload: &[u8], out: &mut [u8]) -> Written
         return Written::Strange;
     }
     if out.len() < 12 + length {
-        return Written::Small;
+        return Written::Small(12 + length);
     }
     let head = head_of(fields, length as u16);
     bytes::copy(&head, out);
@@ -50,7 +51,7 @@ pub fn written_number(w: Written) -> u32
         Written::Done(_) => 0,
         Written::Lacking => 4,
         Written::Strange => 3,
-        Written::Small => 11,
+        Written::Small(_) => 11,
     }
 }
 

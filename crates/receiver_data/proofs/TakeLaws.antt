@@ -52,7 +52,7 @@ module _ (c : Channel) (lens : List ℕ) where
     unfolding takeStep
     take-nothing a = simp (eq-eqb _ _ a)
 
-    pub take-small : (completeIn (c .window) ≡ 0 → ⊥) → n < sizeAt c lens → takeStep c lens n ≡ refusing c refusal.Small
+    pub take-small : (completeIn (c .window) ≡ 0 → ⊥) → n < sizeAt c lens → takeStep c lens n ≡ refusing c (refusal.Small (sizeAt c lens))
     unfolding takeStep
     take-small a b = simp (ne-eqb _ _ a, lt-ltb _ _ b)
 

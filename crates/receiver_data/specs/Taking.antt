@@ -45,7 +45,7 @@ dropped c n =
 unfoldable pub takeStep : Channel → List ℕ → ℕ → Stepped
 takeStep c lens n =
     if eqb (completeIn (c .window)) 0 then refusing c refusal.Nothing
-    else if ltb n (sizeAt c lens) then refusing c refusal.Small
+    else if ltb n (sizeAt c lens) then refusing c (refusal.Small (sizeAt c lens))
     else doing (dropped c (unitAt c)) (sizeAt c lens)
 
 -- the buffer afterwards

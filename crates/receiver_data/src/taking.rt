@@ -41,7 +41,7 @@ pub fn take_step(c: Channel, mem: &[u8], lens: &[u16], out: &mut [u8]) -> Steppe
     let n = store::unit_of(marks, slots, complete, from);
     let size = store::size_in(lens, slots, n, from);
     if out.len() < size {
-        return refused(c, Refusal::Small);
+        return refused(c, Refusal::Small(size));
     }
     store::gather(mem, lens, slots, c.limits.payload, n, from, out);
     done(drop_oldest(c, n, from), size)

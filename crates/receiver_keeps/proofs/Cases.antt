@@ -56,7 +56,7 @@ module _ (c : Channel) (P : Stepped → Type 0) (refused : P (refusing c refusal
 
 pub take-cases : (c : Channel) (lens : List ℕ) (n : ℕ) (P : Stepped → Type 0)
     → P (refusing c refusal.Nothing)
-    → P (refusing c refusal.Small)
+    → P (refusing c (refusal.Small (sizeAt c lens)))
     → ((completeIn (c .window) ≡ 0 → ⊥) → P (doing (dropped c (unitAt c)) (sizeAt c lens)))
     → P (takeStep c lens n)
 unfolding takeStep

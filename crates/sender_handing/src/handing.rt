@@ -35,7 +35,7 @@ fn send(before: Channel, after: Channel, fields: Fields, payload: &[u8], out: &m
 {
     let n = 12 + payload.len();
     if out.len() < n {
-        return refused(before, Refusal::Small);
+        return refused(before, Refusal::Small(n));
     }
     packet::write_packet(fields, payload, out);
     done(after, n)

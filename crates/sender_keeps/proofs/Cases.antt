@@ -74,7 +74,7 @@ module _ (c : Channel) (P : Stepped → Type 0) where
   pub reclaim-cases : (lens : List ℕ) (n : ℕ)
       → P (refusing c refusal.State)
       → P (refusing c refusal.Nothing)
-      → P (refusing c refusal.Small)
+      → P (refusing c (refusal.Small (sizeAt c lens)))
       → (c .state ≡ closed → (c .window .ahead ≡ 0 → ⊥) → P (doing (dropped c (unitAt c)) (sizeAt c lens)))
       → P (reclaimStep c lens n)
   unfolding reclaimStep
@@ -88,7 +88,7 @@ module _ (c : Channel) (P : Stepped → Type 0) where
 pub reclaim-out-cases : (c : Channel) (lens mem out : List ℕ) (P : Stepped → List ℕ → Type 0)
     → P (refusing c refusal.State) out
     → P (refusing c refusal.Nothing) out
-    → P (refusing c refusal.Small) out
+    → P (refusing c (refusal.Small (sizeAt c lens))) out
     → P (doing (dropped c (unitAt c)) (sizeAt c lens))
     (laid out 0 (octetsIn slotOf (c .limits .payload) mem lens (c .limits .slots) (unitAt c) (c .window .place)))
     → P (reclaimStep c lens (length out)) (reclaimOut c lens mem out)

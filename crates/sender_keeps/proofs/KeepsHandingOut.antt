@@ -55,6 +55,6 @@ pub hand-stands : (c : Channel) (lens : List ℕ) (rank n : ℕ) → Standing c 
 unfolding handStep
 hand-stands c lens rank n h s r = go (ltb n (nextLength c lens rank))
   where
-    go : (t : Bool) → Standing ((if t then refusing c refusal.Small else doing (nextOut c rank) (nextLength c lens rank)) .channel) lens
+    go : (t : Bool) → Standing ((if t then refusing c (refusal.Small (nextLength c lens rank)) else doing (nextOut c rank) (nextLength c lens rank)) .channel) lens
     go true = h
     go false = next-stands c lens h s rank r

@@ -63,7 +63,7 @@ unfolding handStep handOut
 hand-unchanged node c lens mem rank out = go (ltb (length out) (nextLength c lens rank))
   where
     by : Bool → Stepped
-    by a = if a then refusing c refusal.Small else doing (nextOut c rank) (nextLength c lens rank)
+    by a = if a then refusing c (refusal.Small (nextLength c lens rank)) else doing (nextOut c rank) (nextLength c lens rank)
 
     after : Bool → List ℕ
     after a =

@@ -140,7 +140,7 @@ module _ (acked left : List ℕ) (slots : ℕ) where
 -- ---- a packet that goes out
 
 module _ (before after : Channel) (x n : ℕ) where
-  pub sent-small : n < 12 + x → sentStep before after x n ≡ refusing before refusal.Small
+  pub sent-small : n < 12 + x → sentStep before after x n ≡ refusing before (refusal.Small (12 + x))
   sent-small h = chosen (ltb n (12 + x)) _ _ (lt-ltb _ _ h)
 
   pub sent-done : 12 + x ≤ n → sentStep before after x n ≡ doing after (12 + x)

@@ -117,7 +117,7 @@ nextLength c lens rank = 12 + (if eqb rank 0 then 0 else getD lens (slotOf (plac
 
 -- a packet with a payload of x octets goes out into a buffer of n, and the channel is then another; 11 if it does not fit, and nothing changes
 abbrev pub sentStep : Channel → Channel → ℕ → ℕ → Stepped
-sentStep before after x n = if ltb n (12 + x) then refusing before refusal.Small else doing after (12 + x)
+sentStep before after x n = if ltb n (12 + x) then refusing before (refusal.Small (12 + x)) else doing after (12 + x)
 
 -- the buffer afterwards
 abbrev pub sentOut : Fields → List ℕ → List ℕ → List ℕ
@@ -127,7 +127,7 @@ sentOut f p out =
 -- the answer for a rank that is ready, with a buffer of n octets: 11 if the packet does not fit, and nothing changes
 unfoldable pub handStep : Channel → List ℕ → ℕ → ℕ → Stepped
 handStep c lens rank n =
-    if ltb n (nextLength c lens rank) then refusing c refusal.Small
+    if ltb n (nextLength c lens rank) then refusing c (refusal.Small (nextLength c lens rank))
     else doing (nextOut c rank) (nextLength c lens rank)
 
 -- the buffer afterwards

@@ -47,7 +47,7 @@ pub fn reclaim_step(c: Channel, mem: &[u8], lens: &[u16], out: &mut [u8]) -> Ste
     let n = store::unit_of(marks, slots, ahead, from);
     let size = store::size_in(lens, slots, n, from);
     if out.len() < size {
-        return refused(c, Refusal::Small);
+        return refused(c, Refusal::Small(size));
     }
     store::gather(mem, lens, slots, c.limits.payload, n, from, out);
     done(drop_oldest(c, n), size)

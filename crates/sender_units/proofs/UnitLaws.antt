@@ -156,9 +156,9 @@ module _ (c : Channel) (lens mem out : List ℕ) where
       fits : size ≤ length out → ltb (length out) (sizeAt c lens) ≡ false
       fits l = ap (ltb (length out)) (sym size-is) ∙ le-ltb _ _ l
 
-      pub reclaim-small : length out < size → reclaimStep c lens (length out) ≡ refusing c refusal.Small
+      pub reclaim-small : length out < size → reclaimStep c lens (length out) ≡ refusing c (refusal.Small size)
       unfolding reclaimStep
-      reclaim-small l = simp (eq-eqb _ _ h, ne-eqb _ _ k, fits-not l)
+      reclaim-small l = sym (ap (λ (s : ℕ). refusing c (refusal.Small s)) size-is ∙ sym (simp (eq-eqb _ _ h, ne-eqb _ _ k, fits-not l)))
 
       pub reclaim-small-out : length out < size → reclaimOut c lens mem out ≡ out
       unfolding reclaimOut

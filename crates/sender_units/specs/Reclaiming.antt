@@ -40,7 +40,7 @@ unfoldable pub reclaimStep : Channel → List ℕ → ℕ → Stepped
 reclaimStep c lens n =
     if not (eqb (c .state) closed) then refusing c refusal.State
     else if eqb (c .window .ahead) 0 then refusing c refusal.Nothing
-    else if ltb n (sizeAt c lens) then refusing c refusal.Small
+    else if ltb n (sizeAt c lens) then refusing c (refusal.Small (sizeAt c lens))
     else doing (dropped c (unitAt c)) (sizeAt c lens)
 
 unfoldable pub reclaimOut : Channel → List ℕ → List ℕ → List ℕ → List ℕ

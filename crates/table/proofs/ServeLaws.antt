@@ -13,7 +13,7 @@ use lib.Seq.{length-take-le}
 use Rattle.laws.specs.Choice.{if_then_else_}
 use Rattle.laws.proofs.Choice.{both, chosen, passed-by}
 use Rattle.slots.specs.Slots.{Sized, laid}
-use Rattle.walks.specs.Serving.{Worked, Called, works, leaves, servedBy, orderedBy}
+use Rattle.walks.specs.Serving.{Worked, Called, works, leaves, servedBy, saying}
 use Rattle.channel.specs.declared.record.Channel.{Channel}
 use Rattle.channel.specs.declared.answer.Answer.{Answer}
 use Rattle.channel.specs.declared.answer.Answer.the-variants.{Refused}
@@ -30,8 +30,8 @@ use Rattle.table.specs.declared.surveying.Spot.{Spot}
 use Rattle.table.specs.declared.deciding.Decision.{Decision}
 use Rattle.table.specs.Looking.{graded, missing, Chosen, chosenFrom, isFound, chosen as choice}
 use Rattle.table.specs.Lent.{areaOf, partOf, slotsOf, octetsOf, slotAt, octetAt, eachStands, lawful}
-use Rattle.table.specs.Serving.{blank, recordAt, ownMem, ownLens, Step, stored, serveOne, tableOf, alone}
-use Rattle.table.specs.Surveying.{begun, better, surveyOne, surveyed, isSound, decided, refusedBy, servedBy as served, roles, mine, mineLens, wholly, stepping, Served}
+use Rattle.table.specs.Serving.{blank, recordAt, ownMem, ownLens, Step, stored, serveOne, indexServed, toldOf}
+use Rattle.table.specs.Surveying.{begun, better, surveyOne, surveyed, isSound, decided, refusedBy, servedBy as served, roles, toldRoles, placed, mine, mineLens, wholly, stepping, Served}
 use Rattle.table.proofs.OneLaws.{decided-bad, decided-found, decided-none}
 use Rattle.table.proofs.Spots.{spotFrom, far, spot-rank, chosen-at, Lies, spot-lies, Suits, chosen-suits}
 use Rattle.table.proofs.SurveyLaws.{each-stands, slots-within, octets-within, Going, survey-good, survey-bad, finally}
@@ -319,19 +319,37 @@ module _ (look : Look) (t : List Channel) (mem lens : List ℕ) where
           ∙ in-place look t mem lens h step out f
           ∙ simp (p, q)
 
-  -- the same of a step by value
-  pub agreed-order : (step : Channel → Stepped)
-      → orderedBy roles (ltb (decisionOf .at) (length t)) decisionOf t (step (recordAt t (decisionOf .at))) ≡ tableOf (serveOne look (alone step) t mem lens [])
-  unfolding orderedBy servedBy
-  agreed-order step = go (ltb (decisionOf .at) (length t)) refl
+  -- the index that is told is that of the channel served
+  pub index-told : decisionOf .told .index ≡ indexServed look t mem lens
+  unfolding indexServed
+  index-told = go (lawful t mem lens) refl (ltb (choice look t .rank) 3) refl
+    where
+      told : {d : Decision} → decisionOf ≡ d → decisionOf .told .index ≡ d .told .index
+      told e = ap (λ (d : Decision). d .told .index) e
+
+      go : (a : Bool) → lawful t mem lens ≡ a → (b : Bool) → ltb (choice look t .rank) 3 ≡ b → decisionOf .told .index ≡ indexServed look t mem lens
+      go false p b q = told (is-unlawful p) ∙ simp (p)
+      go true p false q =
+          told (is-missing look t mem lens (lawful-is t mem lens p) (ltb-false (choice look t .rank) 3 q))
+          ∙ simp (p, q)
+      go true p true q =
+          let h = lawful-is t mem lens p in
+          let f = ltb-true (choice look t .rank) 3 q in
+          told (is-served look t mem lens h f) ∙ found-at look t mem lens h f ∙ simp (p, q)
+
+  -- the same call, with the index told
+  pub agreed-told : (step : Step) (out : List ℕ)
+      → servedBy toldRoles (ltb (decisionOf .at) (length t)) decisionOf t mem lens out (placed decisionOf (stepping step (recordAt t (decisionOf .at)) decisionOf mem lens out))
+      ≡ saying (toldOf (indexServed look t mem lens)) (serveOne look step t mem lens out)
+  unfolding servedBy
+  agreed-told step out =
+      same (ltb (decisionOf .at) (length t))
+      ∙ ap (saying (toldOf (decisionOf .told .index))) (agreed step out)
+      ∙ ap (λ (i : ℕ). saying (toldOf i) (serveOne look step t mem lens out)) index-told
     where
       w : Worked Stepped
-      w = stepping (alone step) (recordAt t (decisionOf .at)) decisionOf mem lens []
+      w = stepping step (recordAt t (decisionOf .at)) decisionOf mem lens out
 
-      same : (b : Bool) → orderedBy roles b decisionOf t (step (recordAt t (decisionOf .at))) ≡ tableOf (servedBy roles b decisionOf t mem lens [] w)
+      same : (b : Bool) → servedBy toldRoles b decisionOf t mem lens out (placed decisionOf w) ≡ saying (toldOf (decisionOf .told .index)) (servedBy roles b decisionOf t mem lens out w)
       same true = refl
       same false = refl
-
-      go : (b : Bool) → ltb (decisionOf .at) (length t) ≡ b
-          → orderedBy roles (ltb (decisionOf .at) (length t)) decisionOf t (step (recordAt t (decisionOf .at))) ≡ tableOf (serveOne look (alone step) t mem lens [])
-      go b e = same (ltb (decisionOf .at) (length t)) ∙ ap tableOf (agreed (alone step) [])

@@ -3,7 +3,7 @@
 use Prim.Native.Nat.{ℕ}
 use mathlib.Core.Bool.{Bool, not}
 use mathlib.Core.List.{List}
-use lib.ListN.{getD, set}
+use lib.ListN.{length, getD, set}
 use Rattle.laws.specs.Choice.{if_then_else_}
 use Rattle.slots.specs.Slots.{laid}
 use Rattle.walks.specs.Serving.{Worked, Called, Changed, works, leaves, changes}
@@ -15,6 +15,7 @@ use Rattle.channel.specs.declared.answer.Refusal.the-variants as refusal
 use Rattle.channel.specs.declared.step.Stepped.{Stepped}
 use Rattle.channel.specs.Record.{madeOf}
 use Rattle.table.specs.declared.looking.Look.{Look}
+use Rattle.table.specs.declared.deciding.Told.{Told}
 use Rattle.table.specs.Looking.{chosen, isFound, missing}
 use Rattle.table.specs.Lent.{areaOf, partOf, slotAt, octetAt, lawful}
 
@@ -55,6 +56,16 @@ serveOne look step t mem lens out =
     else if not (isFound (chosen look t)) then leaves (Refused (missing look)) t mem lens out
     else stored t mem lens (chosen look t .at)
     (step (recordAt t (chosen look t .at)) (chosen look t .rank) (ownMem t (chosen look t .at) mem) (ownLens t (chosen look t .at) lens) out)
+
+-- the index of the channel that is served; as many as the table has records where none is
+unfoldable pub indexServed : Look → List Channel → List ℕ → List ℕ → ℕ
+indexServed look t mem lens =
+    if not (lawful t mem lens) then length t
+    else if not (isFound (chosen look t)) then length t
+    else chosen look t .at
+
+abbrev pub toldOf : ℕ → Answer → Told
+toldOf index answer = record { answer = answer; index = index }
 
 -- of a call that is lent nothing that it could change but the table
 abbrev pub tableOf : Called Answer Channel → Changed Answer Channel

@@ -19,11 +19,13 @@ use Rattle.channel.specs.Standing.{standing, Standing}
 use Rattle.table.specs.declared.looking.Look.{Look}
 use Rattle.table.specs.declared.surveying.Spot.{Spot}
 use Rattle.table.specs.declared.surveying.Survey.{Survey}
+use Rattle.table.specs.declared.deciding.Told.{Told}
+use Rattle.table.specs.declared.deciding.Placed.{Placed}
 use Rattle.table.specs.declared.deciding.Decision.{Decision}
 use Rattle.table.specs.declared.deciding.Verdict.{Verdict}
 use Rattle.table.specs.Looking.{graded, missing}
 use Rattle.table.specs.Lent.{areaOf, partOf}
-use Rattle.table.specs.Serving.{Step, blank}
+use Rattle.table.specs.Serving.{Step, blank, toldOf}
 
 -- ---- record by record
 
@@ -67,10 +69,10 @@ unfoldable pub isSound : Survey → ℕ → ℕ → ℕ → Bool
 isSound v n m l = leb 1 n && v .sound && eqb (v .slots) l && eqb (v .octets) m
 
 abbrev pub refusedBy : Survey → ℕ → Refusal → Decision
-refusedBy v n why = record { at = n; answer = Refused why; look = v .look; spot = v .spot }
+refusedBy v n why = record { at = n; told = toldOf n (Refused why); look = v .look; spot = v .spot }
 
 abbrev pub servedBy : Survey → Decision
-servedBy v = record { at = v .spot .at; answer = Refused refusal.NoChannel; look = v .look; spot = v .spot }
+servedBy v = record { at = v .spot .at; told = toldOf (v .spot .at) (Refused refusal.NoChannel); look = v .look; spot = v .spot }
 
 unfoldable pub decided : Survey → ℕ → ℕ → ℕ → Decision
 decided v n m l =
@@ -79,10 +81,18 @@ decided v n m l =
     else refusedBy v n (missing (v .look))
 
 abbrev pub judged : Survey → ℕ → ℕ → ℕ → Verdict
-judged v n m l = record { ok = isSound v n m l; answer = Refused refusal.Settings }
+judged v n m l = record { ok = isSound v n m l; told = toldOf n (Refused refusal.Settings) }
 
 abbrev pub roles : Roles Channel Answer Stepped Decision
-roles = record { at = λ d. d .at; unserved = λ d. d .answer; stored = λ s. s .channel; said = λ s. s .answer; blank = blank }
+roles = record { at = λ d. d .at; unserved = λ d. d .told .answer; stored = λ s. s .channel; said = λ s. s .answer; blank = blank }
+
+-- the same, with the index told
+abbrev pub toldRoles : Roles Channel Told Placed Decision
+toldRoles = record { at = λ d. d .at; unserved = λ d. d .told; stored = λ s. s .channel; said = λ s. s .told; blank = blank }
+
+abbrev pub placed : Decision → Worked Stepped → Worked Placed
+placed d w =
+    works (record { channel = w .made .channel; told = toldOf (d .told .index) (w .made .answer) }) (w .mem) (w .lens) (w .out)
 
 -- ---- the step of the channel that is served, over the whole of the lent slices
 

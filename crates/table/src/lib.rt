@@ -5,6 +5,8 @@ pub mod looking;
 pub mod surveying;
 
 pub use deciding::Decision;
+pub use deciding::Placed;
+pub use deciding::Told;
 pub use deciding::Verdict;
 pub use looking::Look;
 pub use surveying::Spot;

@@ -4,6 +4,7 @@ use channel::Refusal;
 use table::Decision;
 use table::Look;
 use table::Survey;
+use table::Told;
 use table::Verdict;
 use table::looking::UNFIT;
 ghost use mathlib.Core.Path.{_≡_};
@@ -48,7 +49,10 @@ fn refuse(v: Survey, n: usize, why: Refusal) -> Decision
     let spot = v.spot;
     Decision {
         at: n,
-        answer: Answer::Refused(why),
+        told: Told {
+            answer: Answer::Refused(why),
+            index: n,
+        },
         look,
         spot,
     }
@@ -61,7 +65,10 @@ fn serve(v: Survey) -> Decision
     let spot = v.spot;
     Decision {
         at: v.spot.at,
-        answer: Answer::Refused(Refusal::NoChannel),
+        told: Told {
+            answer: Answer::Refused(Refusal::NoChannel),
+            index: v.spot.at,
+        },
         look,
         spot,
     }
@@ -87,6 +94,9 @@ pub fn judge(v: Survey, n: usize, m: usize, l: usize) -> Verdict
 {
     Verdict {
         ok: is_sound(v, n, m, l),
-        answer: Answer::Refused(Refusal::Settings),
+        told: Told {
+            answer: Answer::Refused(Refusal::Settings),
+            index: n,
+        },
     }
 }

@@ -1,16 +1,17 @@
 -- `node_ticks::ticks::tick` meets its contract: an instance of the walk of `Sweeping.antt`.
 -- Assumes nothing.
 use Rattle.walks.proofs.Walk.{refl, true, false, _≡_, givenOf, tables, tablesOf, tripleOf, entered, cited, w64}
-use Rattle.walks.proofs.Plain.{of, truth}
+use Rattle.walks.proofs.Plain.{of}
 use Rattle.walks_sweeping.proofs.Sweeping.{sweeping-meets}
 use Rattle.walks_sweeping.proofs.Testing.{sweeping}
 use Rattle.channel.specs.declared.answer.Refusal.the-variants as refusal
 use Rattle.table.specs.declared.looking.Look.the-variants.{Nobody}
-use Rattle.table.specs.Serving.{blank}
+use Rattle.walks.specs.Serving.{telling}
+use Rattle.table.specs.Serving.{blank, toldOf}
 use Rattle.table.specs.Surveying.{begun, surveyed, judged}
-use Rattle.steps_ticking.specs.Ticking.{tickedBy}
-use Rattle.node_ticks.specs.Ticks.{ticks, tickAnswer, ticked as wanted}
-use Rattle.node_survey.proofs.Types.{tested, carried, stepped, swept, summed}
+use Rattle.steps_ticking.specs.Ticking.{quiet, turnedBy}
+use Rattle.node_ticks.specs.Ticks.{ticks, tickEnd, tickIndex, ticked}
+use Rattle.node_survey.proofs.Types.{tested, carried, round, stepped, swept, summed}
 use Rattle.node_ticks.proofs.TickLaws.{may-tick, tick-agreed}
 use Rattle.node_ticks.proofs.ticks.tick_begin as tick-begin
 use Rattle.node_ticks.proofs.ticks.tick_begin.Symbol as tick-begin-def
@@ -40,8 +41,8 @@ unfolding code.routine tablesOf
 tick-spec 𝓤 H 𝓜 𝓖 𝓡 =
     entered 𝓤 H (tripleOf 𝓤 H (𝓖 .A) this.signature (this.spec 𝓤 H (𝓖 .A) (𝓜 .mem) (𝓡 .run)))
     (tables 𝓤 H 𝓜 𝓡 code.env .C) (tables 𝓤 H 𝓜 𝓡 code.env .Λ) #node-ticks·ticks·tick code.function (code.unfolded 𝓤 H 𝓜 𝓡)
-    (sweeping-meets tested carried truth
-    (sweeping tested (of carried) truth stepped swept summed blank (begun (Nobody refusal.NoChannel)) surveyed judged false true ticks tickedBy tickAnswer wanted may-tick tick-agreed)
+    (sweeping-meets tested carried round
+    (sweeping tested (of carried) round stepped swept summed blank (begun (Nobody refusal.NoChannel)) surveyed judged (quiet 0) true ticks turnedBy tickEnd (λ ys m l. telling (toldOf (tickIndex ys m l)) (ticked ys m l)) may-tick tick-agreed)
     tick-begin-def.name survey-def.name judge-def.name tick-start-def.name tick-all-def.name tick-end-def.name 𝓤 H (𝓖 .A) (givenOf 𝓤 H 𝓜 𝓖) (tablesOf 𝓤 H 𝓜 (tables 𝓤 H 𝓜 𝓡 code.env))
     (cited 𝓤 H (tripleOf 𝓤 H (𝓖 .A) tick-begin.signature (tick-begin.spec 𝓤 H (𝓖 .A) (𝓜 .mem) (𝓡 .run))) 𝓜 𝓡 code.env tick-begin-def.name tick-begin-def.routine code.calls-node-ticks·ticks·tick-begin (tick-begin-thm.met 𝓤 H 𝓜 𝓖 𝓡))
     (cited 𝓤 H (tripleOf 𝓤 H (𝓖 .A) survey.signature (survey.spec 𝓤 H (𝓖 .A) (𝓜 .mem) (𝓡 .run))) 𝓜 𝓡 code.env survey-def.name survey-def.routine code.calls-node-survey·surveying·survey (survey-thm.met 𝓤 H 𝓜 𝓖 𝓡))

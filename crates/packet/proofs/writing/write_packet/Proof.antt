@@ -44,6 +44,9 @@ returns-2 c =
 add-if3 : tie.Need-add-if3
 add-if3 c = search needs
 
+add-t11 : tie.Need-add-t11
+add-t11 c = search needs
+
 returns-3 : tie.Need-returns-3
 unfolding afterWrite
 returns-3 c =
@@ -115,6 +118,7 @@ write-packet-spec =
     is-strange-requires
     returns-2
     add-if3
+    add-t11
     returns-3
     cast-head-of
     head-of-requires

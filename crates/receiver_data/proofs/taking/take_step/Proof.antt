@@ -8,7 +8,8 @@ use Rattle.ring.proofs.Laws.{back-lt}
 use Rattle.slots.specs.Slots.{laid}
 use Rattle.store.specs.Store.{unitOf}
 use Rattle.channel.specs.declared.record.Channel.{Channel}
-use Rattle.channel.specs.Steps.{doing}
+use Rattle.channel.specs.declared.answer.Refusal.the-variants as refusal
+use Rattle.channel.specs.Steps.{refusing, doing}
 use Rattle.receiver_data.specs.Taking.{completeIn, unitAt, sizeAt, dropped}
 use Rattle.channel.proofs.StandingLaws.{ringed}
 use Rattle.receiver_data.proofs.TakeLaws.{each-fits, take-nothing, take-small, take-done, out-nothing, out-small, out-done, unit-is, size-is, octets-are, unit-behind}
@@ -78,7 +79,7 @@ returns-2 c =
     let all = size-is (a .c) (a .lens .now) from n size ef en es in
     let some = c .before .before .before .before .before .before .if1 .left in
     let small : length (a .out .now) < sizeAt (a .c) (a .lens .now) = omega (arith, all, c .before .if2 .taken) in
-    (c .refused2 .ensures ∙ sym (take-small (a .c) (a .lens .now) (length (a .out .now)) some small), sym (out-small (a .c) (a .lens .now) (a .mem .now) (a .out .now) some small))
+    (c .refused2 .ensures ∙ ap (λ (k : ℕ). refusing (a .c) (refusal.Small k)) all ∙ sym (take-small (a .c) (a .lens .now) (length (a .out .now)) some small), sym (out-small (a .c) (a .lens .now) (a .mem .now) (a .out .now) some small))
 
 gather-requires : tie.Need-gather-requires
 gather-requires c κs =

@@ -1,9 +1,9 @@
 -- `steps_ticking::ticking::tick_one` meets its contract: by the direction.
 -- Assumes nothing.
-use mathlib.Core.Path.{_≡_, refl, sym, ap, ap₂, _∙_}
+use mathlib.Core.Path.{_≡_, sym, ap, _∙_}
 use Rattle.steps_ticking.specs.declared.ticking.Ticked.{Ticked}
 use Rattle.channel.specs.declared.record.Channel.{Channel}
-use mathlib.Core.Bool.{Bool, true, false, _||_}
+use mathlib.Core.Bool.{false}
 use Rattle.sender.specs.declared.ticking.Ticked.{Ticked as Sent}
 use Rattle.steps_ticking.proofs.TickLaws.{tick-sends, tick-receives}
 use borrow.Author.Needs.{needs}
@@ -18,17 +18,13 @@ tick-step-requires : tie.Need-tick-step-requires
 tick-step-requires c κs = search needs
 
 returns : tie.Need-returns
-returns c = let a = c .before .before .before .args in ap (λ (x : Channel). record { channel = x; inactive = a .inactive }) (c .tick-step .ensures) ∙ sym (tick-receives (a .c) (a .inactive) (c .before .if1 .taken))
+returns c = let a = c .before .before .before .args in ap (λ (x : Channel). record { channel = x; inactive = false }) (c .tick-step .ensures) ∙ sym (tick-receives (a .c) (c .before .if1 .taken))
 
 tick-step-requires-2 : tie.Need-tick-step-requires-2
 tick-step-requires-2 c κs = search needs
 
 returns-2 : tie.Need-returns-2
-returns-2 c = let a = c .before .before .before .before .before .args in ap₂ (λ (x : Channel) (y : Bool). record { channel = x; inactive = y || a .inactive }) (ap (λ (t : Sent). t .channel) (c .before .before .tick-step2 .ensures)) (sym (c .if2 .taken) ∙ ap (λ (t : Sent). t .inactive) (c .before .before .tick-step2 .ensures)) ∙ sym (tick-sends (a .c) (a .inactive) (c .before .before .before .if1 .left))
-
-returns-3 : tie.Need-returns-3
-returns-3 c = let a = c .before .before .before .before .before .args in ap₂ (λ (x : Channel) (y : Bool). record { channel = x; inactive = y || a .inactive }) (ap (λ (t : Sent). t .channel) (c .before .before .tick-step2 .ensures)) (sym (c .if2 .left) ∙ ap (λ (t : Sent). t .inactive) (c .before .before .tick-step2 .ensures)) ∙ sym (tick-sends (a .c) (a .inactive) (c .before .before .before .if1 .left))
+returns-2 c = let a = c .before .before .before .before .args in ap (λ (t : Sent). record { channel = t .channel; inactive = t .inactive }) (c .before .tick-step2 .ensures) ∙ sym (tick-sends (a .c) (c .before .before .if1 .left))
 
 pub tick-one-spec : {M : Type 1} → statement M
-tick-one-spec =
-    tie.close (tie.spec tick-step-requires returns tick-step-requires-2 returns-2 returns-3)
+tick-one-spec = tie.close (tie.spec tick-step-requires returns tick-step-requires-2 returns-2)
