@@ -1,5 +1,5 @@
--- Every public call of the node but `settings` and `tick`, as one function of what it is given: its answer, and the table, the memory, the lengths and the lent buffer
--- afterwards (document 01, Answer numbers).
+-- The one door of the node: every call that serves one channel, as one function of what it is given. It gives the answer, and the table, the memory, the
+-- lengths and the lent buffer afterwards (document 01, Answer numbers). Every public call but `settings` and `tick` is this function at one request.
 use mathlib.Core.List.{List, []}
 use Prim.Native.Nat.{ℕ}
 use lib.ListN.{length}
@@ -7,36 +7,69 @@ use Rattle.walks.specs.Serving.{Called, Changed}
 use Rattle.channel.specs.declared.record.Node.{Node}
 use Rattle.channel.specs.declared.record.Channel.{Channel}
 use Rattle.channel.specs.declared.answer.Answer.{Answer}
-use Rattle.table.specs.declared.looking.Look.the-variants.{Index, Ready}
-use Rattle.table.specs.Serving.{serveOne, tableOf, alone}
+use Rattle.channel.specs.declared.answer.Refusal.the-variants as refusal
+use Rattle.channel.specs.Steps.{refusing}
+use Rattle.table.specs.declared.looking.Look.{Look}
+use Rattle.table.specs.declared.looking.Look.the-variants.{Index, Ready, Nobody}
+use Rattle.table.specs.Serving.{Step, serveOne, indexServed, tableOf, alone}
 use Rattle.steps.specs.Requests.{openedBy, closedBy, transferFor, takeFor, reclaimFor}
 use Rattle.steps_handing.specs.Handing.{nextFor}
 use Rattle.arriving_look.specs.Finding.{lookOf}
 use Rattle.steps_arriving.specs.Arriving.{arrivalFor}
+use Rattle.node_calls.specs.declared.request.Request.{Request}
+use Rattle.node_calls.specs.declared.request.Request.the-variants.{Open, Close, Transfer, Take, Reclaim, Arrival, NextPacket, Unknown}
 
--- ---- requests, by the index of their channel
+-- ---- which channel a request is for, with the octets x read and a lent buffer of so many octets
+
+abbrev pub lookIn : Request → List ℕ → ℕ → Look
+lookIn (Open index) x room = Index index
+lookIn (Close index) x room = Index index
+lookIn (Transfer index) x room = Index index
+lookIn (Take index) x room = Index index
+lookIn (Reclaim index) x room = Index index
+lookIn (Arrival node) x room = lookOf node x room
+lookIn (NextPacket node) x room = Ready
+lookIn Unknown x room = Nobody refusal.NoChannel
+
+-- ---- what it does to that channel
+
+abbrev pub stepFor : Request → List ℕ → Step
+stepFor (Open index) x = alone openedBy
+stepFor (Close index) x = alone closedBy
+stepFor (Transfer index) x = transferFor x
+stepFor (Take index) x = takeFor
+stepFor (Reclaim index) x = reclaimFor
+stepFor (Arrival node) x = arrivalFor node x
+stepFor (NextPacket node) x = nextFor node
+stepFor Unknown x = alone (λ c. refusing c refusal.NoChannel)
+
+-- ---- the call, and the index of the channel that it serves
+
+abbrev pub served : List Channel → List ℕ → List ℕ → Request → List ℕ → List ℕ → Called Answer Channel
+served t mem lens n x out = serveOne (lookIn n x (length out)) (stepFor n x) t mem lens out
+
+abbrev pub servedIndex : List Channel → List ℕ → List ℕ → Request → List ℕ → List ℕ → ℕ
+servedIndex t mem lens n x out = indexServed (lookIn n x (length out)) t mem lens
+
+-- ---- the public calls
 
 abbrev pub opened : List Channel → List ℕ → List ℕ → ℕ → Changed Answer Channel
-opened t mem lens index = tableOf (serveOne (Index index) (alone openedBy) t mem lens [])
+opened t mem lens index = tableOf (served t mem lens (Open index) [] [])
 
 abbrev pub closed : List Channel → List ℕ → List ℕ → ℕ → Changed Answer Channel
-closed t mem lens index = tableOf (serveOne (Index index) (alone closedBy) t mem lens [])
+closed t mem lens index = tableOf (served t mem lens (Close index) [] [])
 
 abbrev pub transferred : List Channel → List ℕ → List ℕ → ℕ → List ℕ → Called Answer Channel
-transferred t mem lens index unit = serveOne (Index index) (transferFor unit) t mem lens []
+transferred t mem lens index unit = served t mem lens (Transfer index) unit []
 
 abbrev pub taken : List Channel → List ℕ → List ℕ → ℕ → List ℕ → Called Answer Channel
-taken t mem lens index out = serveOne (Index index) takeFor t mem lens out
+taken t mem lens index out = served t mem lens (Take index) [] out
 
 abbrev pub reclaimed : List Channel → List ℕ → List ℕ → ℕ → List ℕ → Called Answer Channel
-reclaimed t mem lens index out = serveOne (Index index) reclaimFor t mem lens out
-
--- ---- the next packet, of the channel and the rank that `chosen` gives
+reclaimed t mem lens index out = served t mem lens (Reclaim index) [] out
 
 abbrev pub handed : List Channel → List ℕ → List ℕ → Node → List ℕ → Called Answer Channel
-handed t mem lens node out = serveOne Ready (nextFor node) t mem lens out
-
--- ---- an arrival, for the channel that the packet's head names
+handed t mem lens node out = served t mem lens (NextPacket node) [] out
 
 abbrev pub arrived : List Channel → List ℕ → List ℕ → Node → List ℕ → List ℕ → Called Answer Channel
-arrived t mem lens node packet out = serveOne (lookOf node packet (length out)) (arrivalFor node packet) t mem lens out
+arrived t mem lens node packet out = served t mem lens (Arrival node) packet out

@@ -1,1 +1,4 @@
-// No code: every public call of the node but tick, as one function of what it is given.
+// What a call of the node asks, which channel that is for, and what every call gives as one function of what it is given (`specs/Calls.antt`).
+pub mod request;
+
+pub use request::Request;

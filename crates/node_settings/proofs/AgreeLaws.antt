@@ -10,7 +10,9 @@ use borrow.Author.Tests.{le-leb, leb-true, eqb-true, eq-eqb}
 use lib.Dec.{leb}
 use lib.ListN.{length}
 use Rattle.laws.proofs.Choice.{both}
-use Rattle.walks.specs.Serving.{changes, doneBy}
+use Rattle.walks.specs.Serving.{Changed, changes, telling, doneBy}
+use Rattle.table.specs.declared.deciding.Told.{Told}
+use Rattle.table.specs.Serving.{toldOf}
 use Rattle.channel.specs.declared.record.Settings.{Settings}
 use Rattle.channel.specs.declared.record.Channel.{Channel}
 use Rattle.channel.specs.declared.answer.Answer.the-variants.{Done, Refused}
@@ -116,12 +118,18 @@ module _ (t : List Channel) (mem lens : List ℕ) (s : List Settings) where
   pub may-fill : test ≡ true → length t ≡ length s
   may-fill e = from-test e .count
 
+  -- what is told of settings that are refused, and of those that made the records
+  abbrev refused : Told
+  refused = toldOf (length t) (Refused refusal.Settings)
+
+  abbrev made : Changed Told Channel
+  made = changes (toldOf (length s) (Done 0 0)) (madeTable s)
+
   -- the call is what `configured` says
-  pub agreed : doneBy (Refused refusal.Settings) test t (changes (Done 0 0) (madeTable s)) ≡ configured t mem lens s
+  pub agreed : doneBy refused test t made ≡ telling (toldOf (length t)) (configured t mem lens s)
   unfolding doneBy configured
-  agreed = ap (λ (b : Bool). doneBy (Refused refusal.Settings) b t (changes (Done 0 0) (madeTable s))) test-settled ∙ go (settled t mem lens s) refl
+  agreed = ap (λ (b : Bool). doneBy refused b t made) test-settled ∙ go (settled t mem lens s) refl
     where
-      go : (b : Bool) → settled t mem lens s ≡ b
-          → doneBy (Refused refusal.Settings) (settled t mem lens s) t (changes (Done 0 0) (madeTable s)) ≡ configured t mem lens s
-      go true e = simp (e)
+      go : (b : Bool) → settled t mem lens s ≡ b → doneBy refused (settled t mem lens s) t made ≡ telling (toldOf (length t)) (configured t mem lens s)
+      go true e = simp (e) (ap (λ (n : ℕ). changes (toldOf n (Done 0 0)) (madeTable s)) (sym (may-fill (test-settled ∙ e))))
       go false e = simp (e)

@@ -1,5 +1,4 @@
 // Settings for a whole table at once (document 01, A channel's record and memory): no old record is read, and every channel is made CLOSED and empty.
-use channel::Answer;
 use channel::Channel;
 use channel::Settings;
 use channel::record::made;
@@ -8,12 +7,14 @@ use settings_seen::seeing::see_begin;
 use settings_seen::seeing::see_one;
 use settings_verdict::settling::settings_end;
 use settings_verdict::settling::settle;
+use table::Told;
 ghost use mathlib.Core.Path.{_≡_};
 ghost use mathlib.Core.List.{map};
 ghost use lib.ListN.{length};
 ghost use Rattle.walks.specs.Fold.{foldFrom};
-ghost use Rattle.walks.specs.Serving.{changes};
+ghost use Rattle.walks.specs.Serving.{changes, telling};
 ghost use Rattle.channel.specs.Record.{madeOf};
+ghost use Rattle.table.specs.Serving.{toldOf};
 ghost use Rattle.settings_seen.specs.Seeing.{seeOne};
 ghost use Rattle.node_settings.specs.Configuring.{configured};
 
@@ -45,9 +46,9 @@ fn fill(t: &mut [Channel], s: &[Settings]) -> usize
     t.len()
 }
 
-// Answers 0 or 13. With 13 no record has changed. The memory and the lengths are only measured.
-pub fn settings(t: &mut [Channel], mem: &[u8], lens: &[u16], s: &[Settings]) -> Answer
-    ensures { λ r. ⌜ changes r (now (t .exit)) ≡ configured (now (t .entry)) (now (mem .entry)) (now (lens .entry)) (now (s .entry)) ⌝ }
+// Answers 0 or 13, and serves no single channel. With 13 no record has changed. The memory and the lengths are only measured.
+pub fn settings(t: &mut [Channel], mem: &[u8], lens: &[u16], s: &[Settings]) -> Told
+    ensures { λ r. ⌜ changes r (now (t .exit)) ≡ telling (toldOf (length (now (t .entry)))) (configured (now (t .entry)) (now (mem .entry)) (now (lens .entry)) (now (s .entry))) ⌝ }
 {
     let a = see_begin();
     let v = see(s, lens, a);
@@ -57,6 +58,6 @@ pub fn settings(t: &mut [Channel], mem: &[u8], lens: &[u16], s: &[Settings]) -> 
         let r = settings_end(n);
         r
     } else {
-        d.answer
+        d.told
     }
 }

@@ -8,12 +8,13 @@ use Rattle.laws.specs.Choice.{if_then_else_}
 use Rattle.walks.specs.Fold.{foldFrom}
 use Rattle.channel.specs.declared.record.Addresses.{Addresses}
 use Rattle.channel.specs.declared.record.Settings.{Settings}
-use Rattle.channel.specs.declared.answer.Answer.{Answer}
 use Rattle.channel.specs.declared.answer.Answer.the-variants.{Done, Refused}
 use Rattle.channel.specs.declared.answer.Refusal.the-variants as refusal
 use Rattle.channel.specs.Settings.{fit, clash}
+use Rattle.table.specs.declared.deciding.Told.{Told}
 use Rattle.table.specs.declared.deciding.Verdict.{Verdict}
 use Rattle.table.specs.Lent.{areaOf}
+use Rattle.table.specs.Serving.{toldOf}
 use Rattle.settings_seen.specs.declared.seeing.Seen.{Seen}
 
 abbrev pub begun : Seen
@@ -60,7 +61,8 @@ unfoldable pub isSettled : Seen → ℕ → ℕ → ℕ → ℕ → Bool
 isSettled v n k m l = leb 1 k && v .sound && eqb n k && eqb (v .slots) l && eqb (v .octets) m
 
 abbrev pub verdictOf : Seen → ℕ → ℕ → ℕ → ℕ → Verdict
-verdictOf v n k m l = record { ok = isSettled v n k m l; answer = Refused refusal.Settings }
+verdictOf v n k m l = record { ok = isSettled v n k m l; told = toldOf n (Refused refusal.Settings) }
 
-abbrev pub madeAnswer : ℕ → Answer
-madeAnswer n = Done 0 0
+-- once n records are made
+abbrev pub madeTold : ℕ → Told
+madeTold n = toldOf n (Done 0 0)

@@ -2,9 +2,10 @@
 use channel::Answer;
 use channel::Refusal;
 use settings_seen::seeing::Seen;
+use table::Told;
 use table::Verdict;
 ghost use mathlib.Core.Path.{_≡_};
-ghost use Rattle.settings_seen.specs.Seeing.{isSettled, verdictOf, madeAnswer};
+ghost use Rattle.settings_seen.specs.Seeing.{isSettled, verdictOf, madeTold};
 
 // Of a table of n records, k settings, m octets and l lengths.
 fn is_settled(v: Seen, n: usize, k: usize, m: usize, l: usize) -> bool
@@ -30,16 +31,22 @@ pub fn settle(v: Seen, n: usize, k: usize, m: usize, l: usize) -> Verdict
 {
     Verdict {
         ok: is_settled(v, n, k, m, l),
-        answer: Answer::Refused(Refusal::Settings),
+        told: Told {
+            answer: Answer::Refused(Refusal::Settings),
+            index: n,
+        },
     }
 }
 
-// What is answered once n records are made.
-pub fn settings_end(n: usize) -> Answer
-    ensures { λ r. ⌜ r ≡ madeAnswer n ⌝ }
+// What is told once n records are made.
+pub fn settings_end(n: usize) -> Told
+    ensures { λ r. ⌜ r ≡ madeTold n ⌝ }
 {
-    Answer::Done {
-        length: 0,
-        confirmed: 0,
+    Told {
+        answer: Answer::Done {
+            length: 0,
+            confirmed: 0,
+        },
+        index: n,
     }
 }

@@ -1,12 +1,15 @@
 -- `node_settings::settings` meets its contract: an instance of the walk of `Making.antt`, whose test and table are those of `configured`.
 -- Assumes nothing.
 use Rattle.walks.proofs.Walk.{givenOf, tables, tablesOf, tripleOf, entered, cited}
+use lib.ListN.{length}
+use Rattle.walks.specs.Serving.{telling}
 use Rattle.walks.proofs.Plain.{of}
+use Rattle.table.specs.Serving.{toldOf}
 use Rattle.walks_sweeping.proofs.Making.{making-meets}
 use Rattle.walks_sweeping.proofs.Testing.{making}
 use Rattle.channel.specs.Record.{madeOf}
 use Rattle.node_settings.specs.Configuring.{configured}
-use Rattle.settings_seen.specs.Seeing.{begun, seen, verdictOf, madeAnswer}
+use Rattle.settings_seen.specs.Seeing.{begun, seen, verdictOf, madeTold}
 use Rattle.node_settings.proofs.AgreeLaws.{may-fill, agreed}
 use Rattle.node_settings.proofs.Types.{settings, carried, tested}
 use Rattle.settings_seen.proofs.seeing.see_begin as see-begin
@@ -35,7 +38,7 @@ settings-spec 𝓤 H 𝓜 𝓖 𝓡 =
     entered 𝓤 H (tripleOf 𝓤 H (𝓖 .A) this.signature (this.spec 𝓤 H (𝓖 .A) (𝓜 .mem) (𝓡 .run)))
     (tables 𝓤 H 𝓜 𝓡 code.env .C) (tables 𝓤 H 𝓜 𝓡 code.env .Λ) #node-settings·settings code.function (code.unfolded 𝓤 H 𝓜 𝓡)
     (making-meets tested settings carried
-    (making tested (of settings) (of carried) begun seen verdictOf madeOf madeAnswer configured may-fill agreed)
+    (making tested (of settings) (of carried) begun seen verdictOf madeOf madeTold (λ ys m l xs. telling (toldOf (length ys)) (configured ys m l xs)) may-fill agreed)
     see-begin-def.name see-def.name settle-def.name fill-def.name settings-end-def.name 𝓤 H (𝓖 .A) (givenOf 𝓤 H 𝓜 𝓖) (tablesOf 𝓤 H 𝓜 (tables 𝓤 H 𝓜 𝓡 code.env))
     (cited 𝓤 H (tripleOf 𝓤 H (𝓖 .A) see-begin.signature (see-begin.spec 𝓤 H (𝓖 .A) (𝓜 .mem) (𝓡 .run))) 𝓜 𝓡 code.env see-begin-def.name see-begin-def.routine code.calls-settings-seen·seeing·see-begin (see-begin-thm.met 𝓤 H 𝓜 𝓖 𝓡))
     (cited 𝓤 H (tripleOf 𝓤 H (𝓖 .A) see.signature (see.spec 𝓤 H (𝓖 .A) (𝓜 .mem) (𝓡 .run))) 𝓜 𝓡 code.env see-def.name see-def.routine code.calls-node-settings·see (see-thm.met 𝓤 H 𝓜 𝓖 𝓡))
