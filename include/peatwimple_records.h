@@ -58,8 +58,8 @@ enum { PEAT_CONTINUATION = 0, PEAT_FIRST = 1, PEAT_LAST = 2, PEAT_WHOLE = 3 };
 #define PEAT_ACK_OCTETS 12 /* room that a reply needs */
 
 /* ---- records ----
- * The caller fills PeatSettings and PeatNode. PeatChannel is made by peat_settings and changed by the calls alone; its state and reason
- * are for the caller to read. */
+ * The caller fills PeatSettings and PeatNode. PeatChannel is made by peat_settings and changed by the calls alone; its phase's state and
+ * reason are for the caller to read. */
 
 /* The node's own settings, given by value. */
 typedef struct PeatNode {
@@ -97,6 +97,15 @@ typedef struct PeatLone {
     uint16_t tries;
 } PeatLone;
 
+/* Where an opening stands. */
+typedef struct PeatPhase {
+    uint8_t state;
+    uint8_t reason;   /* why the channel last went inactive */
+    uint8_t kept;     /* a Close directive waits for the Open's ack */
+    uint8_t accepted; /* Data was accepted in this opening */
+    PeatLone control; /* a sender's Open or Close */
+} PeatPhase;
+
 /* behind: segments kept before the start (sent and passed, but their unit is not confirmed; or received and not taken). A sender has ahead
  * segments from the start on, of which flight were handed out; way of the receiver's last behind are of a unit that is not finished. */
 typedef struct PeatWindow {
@@ -118,11 +127,7 @@ typedef struct PeatTimers {
 typedef struct PeatChannel {
     PeatAddresses addresses;
     PeatLimits limits;
-    uint8_t state;
-    uint8_t reason;
-    uint8_t kept;     /* a Close directive waits for the Open's ack */
-    uint8_t accepted; /* Data was accepted in this opening */
-    PeatLone control;
+    PeatPhase phase;
     PeatWindow window;
     PeatTimers timers;
     uint8_t marks[PEAT_SLOTS]; /* by place: 0 for a slot not in use, else the segment's flags and 1 more */

@@ -42,6 +42,12 @@ static void parts_of_a_channel(void) {
     FIELD(Lone, state);
     FIELD(Lone, timer);
     FIELD(Lone, tries);
+    WHOLE(Phase);
+    FIELD(Phase, state);
+    FIELD(Phase, reason);
+    FIELD(Phase, kept);
+    FIELD(Phase, accepted);
+    FIELD(Phase, control);
     WHOLE(Window);
     FIELD(Window, start);
     FIELD(Window, place);
@@ -59,11 +65,7 @@ static void channel_and_answer(void) {
     WHOLE(Channel);
     FIELD(Channel, addresses);
     FIELD(Channel, limits);
-    FIELD(Channel, state);
-    FIELD(Channel, reason);
-    FIELD(Channel, kept);
-    FIELD(Channel, accepted);
-    FIELD(Channel, control);
+    FIELD(Channel, phase);
     FIELD(Channel, window);
     FIELD(Channel, timers);
     FIELD(Channel, marks);

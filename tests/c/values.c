@@ -48,15 +48,15 @@ static void a_node(void) {
     memset(table, 0xAA, sizeof table);
     said = peat_settings(LENT, &settings, 1);
     CHECK(said.number == PEAT_DONE && said.reason == 0 && said.length == 0 && said.confirmed == 0);
-    CHECK(table[0].state == PEAT_CLOSED && table[0].addresses.channel == 0x0102 && table[0].limits.payload == 3);
+    CHECK(table[0].phase.state == PEAT_CLOSED && table[0].addresses.channel == 0x0102 && table[0].limits.payload == 3);
     said = peat_open(LENT, 0);
-    CHECK(said.number == PEAT_DONE && table[0].state == PEAT_ENABLED);
+    CHECK(said.number == PEAT_DONE && table[0].phase.state == PEAT_ENABLED);
     said = peat_next_packet(LENT, node, out, sizeof out);
     CHECK(said.number == PEAT_DONE && said.length == 12 && said.confirmed == 0);
     CHECK(out[0] == 65 && out[1] == 238 && out[9] == 64);
     said = peat_tick(LENT);
     CHECK(said.number == PEAT_INACTIVE && said.reason == PEAT_RETRIES && said.length == 0);
-    CHECK(table[0].state == PEAT_CLOSED && table[0].reason == PEAT_RETRIES);
+    CHECK(table[0].phase.state == PEAT_CLOSED && table[0].phase.reason == PEAT_RETRIES);
 }
 
 int main(void) {

@@ -44,7 +44,7 @@ module _ (c : Channel) (lens : List ℕ) (w : c .window ≡ freshWindow) (m : c 
       let t = fit-is (c .limits) f in
       ap (λ (l : List ℕ). getD l i 0) m ∙ getD-replicate 128 i 0 0 (omega arith)
 
-  fresh-stands : named c ≡ true → sided (c .addresses .direction) (c .state) (c .window) ≡ true → Standing c lens
+  fresh-stands : named c ≡ true → sided (c .addresses .direction) (c .phase .state) (c .window) ≡ true → Standing c lens
   fresh-stands n s =
       record {
         fit = f;

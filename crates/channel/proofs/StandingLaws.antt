@@ -135,11 +135,11 @@ counted-flight l w k =
 -- the small numbers
 pub record Named (c : Channel) : Type 0 where
   pub direction : c .addresses .direction ≤ 1
-  pub state : c .state ≤ 3
-  pub reason : c .reason ≤ 5
-  pub kept : c .kept ≤ 1
-  pub accepted : c .accepted ≤ 1
-  pub control : c .control .state ≤ 3
+  pub state : c .phase .state ≤ 3
+  pub reason : c .phase .reason ≤ 5
+  pub kept : c .phase .kept ≤ 1
+  pub accepted : c .phase .accepted ≤ 1
+  pub control : c .phase .control .state ≤ 3
 
 pub named-is : (c : Channel) → named c ≡ true → Named c
 unfolding named

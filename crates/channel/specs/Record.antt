@@ -7,6 +7,7 @@ use Rattle.channel.specs.declared.record.Limits.{Limits}
 use Rattle.channel.specs.declared.record.Settings.{Settings}
 use Rattle.channel.specs.declared.record.Channel.{Channel}
 use Rattle.channel.specs.declared.record.Lone.{Lone}
+use Rattle.channel.specs.declared.record.Phase.{Phase}
 use Rattle.channel.specs.declared.record.Window.{Window}
 use Rattle.channel.specs.declared.record.Timers.{Timers}
 
@@ -80,21 +81,12 @@ noTimers = record { closing = 0; left = replicate 128 0; tries = replicate 128 0
 abbrev pub noMarks : List ℕ
 noMarks = replicate 128 0
 
+abbrev pub freshPhase : ℕ → Lone → Phase
+freshPhase state control = record { state = state; reason = noReason; kept = 0; accepted = 0; control = control }
+
 abbrev pub freshOf : Addresses → Limits → ℕ → Lone → Channel
 freshOf addresses limits state control =
-    record {
-      addresses = addresses;
-      limits = limits;
-      state = state;
-      reason = noReason;
-      kept = 0;
-      accepted = 0;
-      control = control;
-      window = freshWindow;
-      timers = noTimers;
-      marks = noMarks;
-      acked = noMarks;
-    }
+    record { addresses = addresses; limits = limits; phase = freshPhase state control; window = freshWindow; timers = noTimers; marks = noMarks; acked = noMarks }
 
 abbrev pub madeOf : Settings → Channel
 madeOf s = freshOf (s .addresses) (s .limits) closed noLone
@@ -105,146 +97,34 @@ heldIn w = w .behind + w .ahead
 
 -- ---- the record with one part changed
 
-abbrev pub withState : Channel → ℕ → Channel
-withState c x =
-    record {
-      addresses = c .addresses;
-      limits = c .limits;
-      state = x;
-      reason = c .reason;
-      kept = c .kept;
-      accepted = c .accepted;
-      control = c .control;
-      window = c .window;
-      timers = c .timers;
-      marks = c .marks;
-      acked = c .acked;
-    }
-
-abbrev pub withReason : Channel → ℕ → Channel
-withReason c x =
-    record {
-      addresses = c .addresses;
-      limits = c .limits;
-      state = c .state;
-      reason = x;
-      kept = c .kept;
-      accepted = c .accepted;
-      control = c .control;
-      window = c .window;
-      timers = c .timers;
-      marks = c .marks;
-      acked = c .acked;
-    }
-
-abbrev pub withKept : Channel → ℕ → Channel
-withKept c x =
-    record {
-      addresses = c .addresses;
-      limits = c .limits;
-      state = c .state;
-      reason = c .reason;
-      kept = x;
-      accepted = c .accepted;
-      control = c .control;
-      window = c .window;
-      timers = c .timers;
-      marks = c .marks;
-      acked = c .acked;
-    }
-
-abbrev pub withAccepted : Channel → ℕ → Channel
-withAccepted c x =
-    record {
-      addresses = c .addresses;
-      limits = c .limits;
-      state = c .state;
-      reason = c .reason;
-      kept = c .kept;
-      accepted = x;
-      control = c .control;
-      window = c .window;
-      timers = c .timers;
-      marks = c .marks;
-      acked = c .acked;
-    }
-
-abbrev pub withControl : Channel → Lone → Channel
-withControl c x =
-    record {
-      addresses = c .addresses;
-      limits = c .limits;
-      state = c .state;
-      reason = c .reason;
-      kept = c .kept;
-      accepted = c .accepted;
-      control = x;
-      window = c .window;
-      timers = c .timers;
-      marks = c .marks;
-      acked = c .acked;
-    }
+abbrev pub withPhase : Channel → Phase → Channel
+withPhase c x = record { addresses = c .addresses; limits = c .limits; phase = x; window = c .window; timers = c .timers; marks = c .marks; acked = c .acked }
 
 abbrev pub withWindow : Channel → Window → Channel
-withWindow c x =
-    record {
-      addresses = c .addresses;
-      limits = c .limits;
-      state = c .state;
-      reason = c .reason;
-      kept = c .kept;
-      accepted = c .accepted;
-      control = c .control;
-      window = x;
-      timers = c .timers;
-      marks = c .marks;
-      acked = c .acked;
-    }
+withWindow c x = record { addresses = c .addresses; limits = c .limits; phase = c .phase; window = x; timers = c .timers; marks = c .marks; acked = c .acked }
 
 abbrev pub withTimers : Channel → Timers → Channel
-withTimers c x =
-    record {
-      addresses = c .addresses;
-      limits = c .limits;
-      state = c .state;
-      reason = c .reason;
-      kept = c .kept;
-      accepted = c .accepted;
-      control = c .control;
-      window = c .window;
-      timers = x;
-      marks = c .marks;
-      acked = c .acked;
-    }
+withTimers c x = record { addresses = c .addresses; limits = c .limits; phase = c .phase; window = c .window; timers = x; marks = c .marks; acked = c .acked }
 
 abbrev pub withMarks : Channel → List ℕ → Channel
-withMarks c x =
-    record {
-      addresses = c .addresses;
-      limits = c .limits;
-      state = c .state;
-      reason = c .reason;
-      kept = c .kept;
-      accepted = c .accepted;
-      control = c .control;
-      window = c .window;
-      timers = c .timers;
-      marks = x;
-      acked = c .acked;
-    }
+withMarks c x = record { addresses = c .addresses; limits = c .limits; phase = c .phase; window = c .window; timers = c .timers; marks = x; acked = c .acked }
 
 abbrev pub withAcked : Channel → List ℕ → Channel
-withAcked c x =
-    record {
-      addresses = c .addresses;
-      limits = c .limits;
-      state = c .state;
-      reason = c .reason;
-      kept = c .kept;
-      accepted = c .accepted;
-      control = c .control;
-      window = c .window;
-      timers = c .timers;
-      marks = c .marks;
-      acked = x;
-    }
+withAcked c x = record { addresses = c .addresses; limits = c .limits; phase = c .phase; window = c .window; timers = c .timers; marks = c .marks; acked = x }
+
+-- ---- the record with one number of its phase changed
+
+abbrev pub withState : Channel → ℕ → Channel
+withState c x = withPhase c (record { state = x; reason = c .phase .reason; kept = c .phase .kept; accepted = c .phase .accepted; control = c .phase .control })
+
+abbrev pub withReason : Channel → ℕ → Channel
+withReason c x = withPhase c (record { state = c .phase .state; reason = x; kept = c .phase .kept; accepted = c .phase .accepted; control = c .phase .control })
+
+abbrev pub withKept : Channel → ℕ → Channel
+withKept c x = withPhase c (record { state = c .phase .state; reason = c .phase .reason; kept = x; accepted = c .phase .accepted; control = c .phase .control })
+
+abbrev pub withAccepted : Channel → ℕ → Channel
+withAccepted c x = withPhase c (record { state = c .phase .state; reason = c .phase .reason; kept = c .phase .kept; accepted = x; control = c .phase .control })
+
+abbrev pub withControl : Channel → Lone → Channel
+withControl c x = withPhase c (record { state = c .phase .state; reason = c .phase .reason; kept = c .phase .kept; accepted = c .phase .accepted; control = x })

@@ -21,11 +21,11 @@ use Rattle.channel.specs.Settings.{fitLimits}
 unfoldable pub named : Channel → Bool
 named c =
     leb (c .addresses .direction) 1
-    && leb (c .state) 3
-    && leb (c .reason) 5
-    && leb (c .kept) 1
-    && leb (c .accepted) 1
-    && leb (c .control .state) 3
+    && leb (c .phase .state) 3
+    && leb (c .phase .reason) 5
+    && leb (c .phase .kept) 1
+    && leb (c .phase .accepted) 1
+    && leb (c .phase .control .state) 3
 
 -- what is held is within the slots
 unfoldable pub inRing : Limits → Window → Bool
@@ -75,7 +75,7 @@ standing c lens =
     && named c
     && inRing (c .limits) (c .window)
     && inFlight (c .limits) (c .window)
-    && sided (c .addresses .direction) (c .state) (c .window)
+    && sided (c .addresses .direction) (c .phase .state) (c .window)
     && marked (c .limits .slots) (c .window) (c .marks)
     && slotsFit slotOf (eqb (c .addresses .direction) sends) (c .limits .payload) (c .marks) lens (c .limits .slots) 0
 
@@ -87,7 +87,7 @@ pub record Standing (c : Channel) (lens : List ℕ) : Type 0 where
   pub named : named c ≡ true
   pub ring : inRing (c .limits) (c .window) ≡ true
   pub flight : inFlight (c .limits) (c .window) ≡ true
-  pub sided : sided (c .addresses .direction) (c .state) (c .window) ≡ true
+  pub sided : sided (c .addresses .direction) (c .phase .state) (c .window) ≡ true
   pub held : (i : ℕ)
       → i < heldIn (c .window)
       → getD (c .marks) (roundOf (c .limits .slots) (oldestOf (c .limits .slots) (c .window) + i)) 0 ≡ 0

@@ -13,6 +13,7 @@ pub use record::Channel;
 pub use record::Limits;
 pub use record::Lone;
 pub use record::Node;
+pub use record::Phase;
 pub use record::Settings;
 pub use record::Timers;
 pub use record::Window;

@@ -74,6 +74,17 @@ pub struct Lone {
     pub tries: u16,
 }
 
+// Where an opening stands. reason: why the channel last went inactive. kept: a Close directive waits for the Open's ack.
+// accepted: Data was accepted in this opening. control: the Open or Close that is sent.
+#[repr(C)]
+pub struct Phase {
+    pub state: u8,
+    pub reason: u8,
+    pub kept: u8,
+    pub accepted: u8,
+    pub control: Lone,
+}
+
 // The window's first number, and the place on the ring of slots where that segment lies: the number does not tell it.
 // behind: segments kept before the start (sent and passed, but their unit is not confirmed; or received and not taken).
 // A sender has ahead segments from the start on, of which flight were handed out; way of the receiver's last behind are of a
@@ -96,17 +107,12 @@ pub struct Timers {
     pub tries: [u16; 128],
 }
 
-// kept: a Close directive waits for the Open's ack. accepted: Data was accepted in this opening.
 // marks, by place: 0 for a slot not in use, else the segment's flags and 1 more. acked, by place: not 0 once acknowledged.
 #[repr(C)]
 pub struct Channel {
     pub addresses: Addresses,
     pub limits: Limits,
-    pub state: u8,
-    pub reason: u8,
-    pub kept: u8,
-    pub accepted: u8,
-    pub control: Lone,
+    pub phase: Phase,
     pub window: Window,
     pub timers: Timers,
     pub marks: [u8; 128],
@@ -120,11 +126,13 @@ pub fn fresh(addresses: Addresses, limits: Limits, state: u8, control: Lone) -> 
     Channel {
         addresses,
         limits,
-        state,
-        reason: NO_REASON,
-        kept: 0,
-        accepted: 0,
-        control,
+        phase: Phase {
+            state,
+            reason: NO_REASON,
+            kept: 0,
+            accepted: 0,
+            control,
+        },
         window: Window {
             start: 1,
             place: 0,

@@ -35,7 +35,7 @@ pub fn stands(c: Channel, lens: &[u16]) -> bool
     if !is_in_flight(limits, window) {
         return false;
     }
-    if !is_sided(c.addresses.direction, c.state, window) {
+    if !is_sided(c.addresses.direction, c.phase.state, window) {
         return false;
     }
     if !is_marked(limits.slots, window, &marks) {
@@ -57,19 +57,19 @@ fn is_named(c: Channel) -> bool
     if 1 < c.addresses.direction {
         return false;
     }
-    if 3 < c.state {
+    if 3 < c.phase.state {
         return false;
     }
-    if 5 < c.reason {
+    if 5 < c.phase.reason {
         return false;
     }
-    if 1 < c.kept {
+    if 1 < c.phase.kept {
         return false;
     }
-    if 1 < c.accepted {
+    if 1 < c.phase.accepted {
         return false;
     }
-    c.control.state <= 3
+    c.phase.control.state <= 3
 }
 
 // What is held is within the slots.

@@ -22,29 +22,29 @@ unfolding distance numberAt
 distance-on a d h = omega arith
 
 -- a call that leaves the start
-pub counted-same : (n : ℕ) (before c : Channel) → (c .state ≡ state.opened → c .window .start ≡ before .window .start) → countedOn n before c ≡ n
+pub counted-same : (n : ℕ) (before c : Channel) → (c .phase .state ≡ state.opened → c .window .start ≡ before .window .start) → countedOn n before c ≡ n
 counted-same n before c e =
-    by-test (λ (k : ℕ). k ≡ n) (eqb (c .state) state.opened) _ n
+    by-test (λ (k : ℕ). k ≡ n) (eqb (c .phase .state) state.opened) _ n
     (λ q.
     let z : distance (c .window .start) (before .window .start) ≡ 0
-    = ap (λ (w : ℕ). distance w (before .window .start)) (e (eqb-true (c .state) state.opened q)) ∙ distance-none (before .window .start)
+    = ap (λ (w : ℕ). distance w (before .window .start)) (e (eqb-true (c .phase .state) state.opened q)) ∙ distance-none (before .window .start)
     in omega (arith, z))
     (λ q. refl)
 
 -- a call that moves it from the a-th to the b-th segment, in OPEN
 pub counted-on : (n a b : ℕ) (before c : Channel) → n ≡ a → a ≤ b → b < a + 256
-    → (c .state ≡ state.opened → before .window .start ≡ numberAt a)
-    → (c .state ≡ state.opened → c .window .start ≡ numberAt b)
-    → ((c .state ≡ state.opened → ⊥) → a ≡ b)
+    → (c .phase .state ≡ state.opened → before .window .start ≡ numberAt a)
+    → (c .phase .state ≡ state.opened → c .window .start ≡ numberAt b)
+    → ((c .phase .state ≡ state.opened → ⊥) → a ≡ b)
     → countedOn n before c ≡ b
 counted-on n a b before c at low high old new still =
-    by-test (λ (k : ℕ). k ≡ b) (eqb (c .state) state.opened) _ n
+    by-test (λ (k : ℕ). k ≡ b) (eqb (c .phase .state) state.opened) _ n
     (λ q.
-    let is : c .state ≡ state.opened = eqb-true (c .state) state.opened q in
+    let is : c .phase .state ≡ state.opened = eqb-true (c .phase .state) state.opened q in
     let sum : a + (b - a) ≡ b = omega arith in
     let z : distance (c .window .start) (before .window .start) ≡ b - a
     = ap (λ (w : ℕ). distance w (before .window .start)) (new is ∙ ap numberAt (sym sum))
     ∙ ap (λ (w : ℕ). distance (numberAt (a + (b - a))) w) (old is)
     ∙ distance-on a (b - a) (omega arith)
     in omega (arith, z))
-    (λ q. at ∙ still (eqb-false (c .state) state.opened q))
+    (λ q. at ∙ still (eqb-false (c .phase .state) state.opened q))

@@ -66,7 +66,7 @@ module _ (node : Node) (c : Channel) (rank : ℕ) where
 
 -- a Control packet is no Data
 pub control-kind : (node : Node) (c : Channel) → controlFields node c .kind ≡ 0 → ⊥
-control-kind node c = go (eqb (c .state) enabled)
+control-kind node c = go (eqb (c .phase .state) enabled)
   where
     go : (b : Bool) → _≡_ {A = ℕ} (if b then 2 else 3) 0 → ⊥
     go true e = omega arith
@@ -114,7 +114,7 @@ module _ (node : Node) (c : Channel) (mem lens : List ℕ) (a : Asked c mem lens
           let zero = eqb-true rank 0 e in
           let p : length (nextPayload c lens mem rank) ≡ 0 = ap length (payload-control c mem lens rank zero) in (
             subst (λ (f : Fields). Plain f (length (nextPayload c lens mem rank))) (sym (next-control node c rank zero))
-                (subst (λ (n : ℕ). Plain (controlFields node c) n) (sym p) (control-plain node (c .addresses) (c .state))),
+                (subst (λ (n : ℕ). Plain (controlFields node c) n) (sym p) (control-plain node (c .addresses) (c .phase .state))),
             ap (λ (n : ℕ). 12 + n) (sym p),
           )
       go false e =

@@ -120,7 +120,7 @@ module _ {h s : End} {past : List Event} {x : Sender} {y : Receiver} {t : List C
       (λ q. let w : rank (z .phase) ≡ 2 = ap rank (is-open q) in means .window (omega arith) (omega arith) .number)
       (λ q. still (λ p. q (means .state ∙ ap (λ v. stateOf v) p)))
     where
-      is-open : c .state ≡ state.opened → z .phase ≡ opened
+      is-open : c .phase .state ≡ state.opened → z .phase ≡ opened
       is-open q = state-opened (z .phase) (sym (means .state) ∙ q)
 
   -- the same start, and OPEN only from ENABLED or OPEN

@@ -83,9 +83,9 @@ module _ {h s : End} {past : List Event} {x : Sender} {y : Receiver} {t : List C
 -- ---- the Open directive
 
 -- done it leads to ENABLED
-open-enables : (c : Channel) → eqb (numberOf (sender.openStep c .answer)) 0 ≡ true → sender.openStep c .channel .state ≡ state.enabled
+open-enables : (c : Channel) → eqb (numberOf (sender.openStep c .answer)) 0 ≡ true → sender.openStep c .channel .phase .state ≡ state.enabled
 open-enables c =
-    open-cases c (λ (s : Stepped). eqb (numberOf (s .answer)) 0 ≡ true → s .channel .state ≡ state.enabled)
+    open-cases c (λ (s : Stepped). eqb (numberOf (s .answer)) 0 ≡ true → s .channel .phase .state ≡ state.enabled)
     (λ e. absurd (true≢false (sym e))) (λ e. absurd (true≢false (sym e))) (λ e. refl)
 
 module _ {h s : End} {past : List Event} {x : Sender} {y : Receiver} {t : List Channel} {mem lens : List ℕ} {n : ℕ}

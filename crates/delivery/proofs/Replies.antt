@@ -63,7 +63,7 @@ control-twelve c opens number = control-cases c (λ (s : Stepped). Twelve (s .an
 -- a sender's steps have none
 data-ack-silent : (c : Channel) (number : ℕ) → lengthOf (dataAckStep c number .answer) ≡ 0
 unfolding dataAckStep
-data-ack-silent c number = go (not (eqb (c .state) opened)) (not (isAwaited c (awayOf c number)))
+data-ack-silent c number = go (not (eqb (c .phase .state) opened)) (not (isAwaited c (awayOf c number)))
   where
     go : (a b : Bool)
         → lengthOf
@@ -75,7 +75,7 @@ data-ack-silent c number = go (not (eqb (c .state) opened)) (not (isAwaited c (a
 
 control-ack-silent : (c : Channel) (number : ℕ) → lengthOf (controlAckStep c number .answer) ≡ 0
 unfolding controlAckStep
-control-ack-silent c number = go (not (eqb (c .state) enabled || eqb (c .state) closing)) (not (eqb number 0)) (not (isOut (c .control)))
+control-ack-silent c number = go (not (eqb (c .phase .state) enabled || eqb (c .phase .state) closing)) (not (eqb number 0)) (not (isOut (c .phase .control)))
   where
     go : (a b d : Bool)
         → lengthOf

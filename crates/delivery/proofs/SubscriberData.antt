@@ -231,12 +231,12 @@ module _ {h s : End} {past : List Event} {x : Sender} {y : Receiver} {t : List C
     -- ---- in any state: out of OPEN it is refused
 
     pub data-next : Left (Next w request copy) (works made (dataMem c (f .number) p m) (dataLens c (f .number) p l) (outOf (made .answer)))
-    data-next = by (eqb (c .state) state.opened) refl
+    data-next = by (eqb (c .phase .state) state.opened) refl
       where
-        by : (b : Bool) → eqb (c .state) state.opened ≡ b → Left (Next w request copy) (works made (dataMem c (f .number) p m) (dataLens c (f .number) p l) (outOf (made .answer)))
-        by true e = data-open (opened-rank (y .phase) (sym (w .now .means .state) ∙ eqb-true (c .state) state.opened e))
+        by : (b : Bool) → eqb (c .phase .state) state.opened ≡ b → Left (Next w request copy) (works made (dataMem c (f .number) p m) (dataLens c (f .number) p l) (outOf (made .answer)))
+        by true e = data-open (opened-rank (y .phase) (sym (w .now .means .state) ∙ eqb-true (c .phase .state) state.opened e))
         by false e =
-            let other = eqb-false (c .state) state.opened e in
+            let other = eqb-false (c .phase .state) state.opened e in
             subst₃ (λ (k : Stepped) (a b : List ℕ). Left (Next w request copy) (works k a b (outOf (k .answer))))
             (sym (data-state c (f .number) other (f .flags))) (sym (state-mem c (f .number) other p m)) (sym (state-lens c (f .number) other p l))
             (quiet w request copy (Refused refusal.State) buffer refl refl (unwritten w request copy (Refused refusal.State) buffer refl))

@@ -135,7 +135,7 @@ module _ {h s : End} {past : List Event} {x : Sender} {y : Receiver} {t : List C
       (λ e. q .within (omega (arith, open-then e)) in-time .start)
       (λ e. still in-time (λ z2. e (q .state ∙ rank-opened (z .phase) z2)))
     where
-      open-then : k .state ≡ state.opened → rank (z .phase) ≡ 2
+      open-then : k .phase .state ≡ state.opened → rank (z .phase) ≡ 2
       open-then e = opened-rank (z .phase) (sym (q .state) ∙ e)
 
   module _ (r : Request) (copy : ℕ) (a : Answer) (o : List ℕ) where

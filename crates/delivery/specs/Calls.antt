@@ -70,7 +70,7 @@ unitsOf e = unitsHeld (channelOf e) (ownMem (e .table) (e .index) (e .mem)) (own
 -- The record has the window's start modulo 256 only. It is counted on: in OPEN, by as much as a call has moved it round.
 abbrev pub countedOn : ℕ → Channel → Channel → ℕ
 countedOn n before after =
-    if eqb (after .state) state.opened then n + distance (after .window .start) (before .window .start) else n
+    if eqb (after .phase .state) state.opened then n + distance (after .window .start) (before .window .start) else n
 
 abbrev pub afterCall : End → Called Answer Channel → End
 afterCall e g =

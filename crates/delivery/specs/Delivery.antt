@@ -33,7 +33,7 @@ pub record Fresh (e : End) : Type 0 where
       → j < length (e .table)
       → (j ≡ e .index → ⊥)
       → clash (recordAt (e .table) j .addresses) (channelOf e .addresses) ≡ false
-  pub state : channelOf e .state ≡ closed
+  pub state : channelOf e .phase .state ≡ closed
   pub empty : heldIn (channelOf e .window) ≡ 0
   pub start : e .start ≡ 0
 

@@ -133,11 +133,7 @@ standingAt s i accepted timers acked =
     record {
       addresses = s .addresses;
       limits = s .limits;
-      state = opened;
-      reason = 0;
-      kept = 0;
-      accepted = accepted;
-      control = noLone;
+      phase = record { state = opened; reason = 0; kept = 0; accepted = accepted; control = noLone };
       window = record { start = (i + 1) % 256; place = 0; behind = 0; ahead = 0; flight = 0; way = 0 };
       timers = timers;
       marks = noMarks;

@@ -149,7 +149,7 @@ module _ (c : Channel) (rank : ℕ) (mem lens out : List ℕ) where
   unfolding reclaimFor reclaimStep
   reclaim-silent =
       by-test (Silent out) (c .addresses .direction) sends _ _
-      (λ e. absurd (go (eqb (c .state) closedState) (eqb (c .window .ahead) 0) (ltb (length out) (sizeAt c lens)) e))
+      (λ e. absurd (go (eqb (c .phase .state) closedState) (eqb (c .window .ahead) 0) (ltb (length out) (sizeAt c lens)) e))
       (λ e. refl)
     where
       go : (a b d : Bool)

@@ -84,7 +84,7 @@ module _ (t : List Channel) (mem lens : List ℕ) (s : List Settings) where
 
 -- a record as its settings make it: CLOSED, nothing held, and their addresses and limits
 pub record ClosedBy (s : Settings) (c : Channel) : Type 0 where
-  pub state : c .state ≡ closed
+  pub state : c .phase .state ≡ closed
   pub held : heldIn (c .window) ≡ 0
   pub addresses : c .addresses ≡ s .addresses
   pub limits : c .limits ≡ s .limits

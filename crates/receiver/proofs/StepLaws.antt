@@ -24,80 +24,80 @@ use Rattle.receiver.specs.Receiving.{ackLength, ackKind, leaving, shutFo
 -- ---- the Open directive
 
 module _ (c : Channel) where
-  pub open-state : (c .state ≡ closed → ⊥) → openStep c ≡ refusing c refusal.State
+  pub open-state : (c .phase .state ≡ closed → ⊥) → openStep c ≡ refusing c refusal.State
   unfolding openStep
   open-state h = simp (ne-eqb _ _ h)
 
-  pub open-untaken : c .state ≡ closed → (heldIn (c .window) ≡ 0 → ⊥) → openStep c ≡ refusing c refusal.Untaken
+  pub open-untaken : c .phase .state ≡ closed → (heldIn (c .window) ≡ 0 → ⊥) → openStep c ≡ refusing c refusal.Untaken
   unfolding openStep
   open-untaken h k = simp (eq-eqb _ _ h, ne-eqb _ _ k)
 
-  pub open-done : c .state ≡ closed → heldIn (c .window) ≡ 0 → openStep c ≡ doing (enabledOf c noLone) 0
+  pub open-done : c .phase .state ≡ closed → heldIn (c .window) ≡ 0 → openStep c ≡ doing (enabledOf c noLone) 0
   unfolding openStep
   open-done h k = simp (eq-eqb _ _ h, eq-eqb _ _ k)
 
   -- ---- an Open
 
-  pub open-opens : c .state ≡ enabled → openArrives c ≡ doing (withState c opened) ackLength
+  pub open-opens : c .phase .state ≡ enabled → openArrives c ≡ doing (withState c opened) ackLength
   unfolding openArrives
   open-opens h = simp (eq-eqb _ _ h)
 
-  pub open-other : (c .state ≡ enabled → ⊥) → (c .state ≡ opened → ⊥) → openArrives c ≡ refusing c refusal.State
+  pub open-other : (c .phase .state ≡ enabled → ⊥) → (c .phase .state ≡ opened → ⊥) → openArrives c ≡ refusing c refusal.State
   unfolding openArrives
   open-other h k = simp (ne-eqb _ _ h, ne-eqb _ _ k)
 
-  pub open-again : (c .state ≡ enabled → ⊥) → c .state ≡ opened → c .accepted ≡ 0 → openArrives c ≡ repeating c ackLength
+  pub open-again : (c .phase .state ≡ enabled → ⊥) → c .phase .state ≡ opened → c .phase .accepted ≡ 0 → openArrives c ≡ repeating c ackLength
   unfolding openArrives
   open-again h k a = simp (ne-eqb _ _ h, eq-eqb _ _ k, eq-eqb _ _ a)
 
-  pub open-late : (c .state ≡ enabled → ⊥) → c .state ≡ opened → (c .accepted ≡ 0 → ⊥) → openArrives c ≡ failing (shutFor c lateOpen) lateOpen
+  pub open-late : (c .phase .state ≡ enabled → ⊥) → c .phase .state ≡ opened → (c .phase .accepted ≡ 0 → ⊥) → openArrives c ≡ failing (shutFor c lateOpen) lateOpen
   unfolding openArrives
   open-late h k a = simp (ne-eqb _ _ h, eq-eqb _ _ k, ne-eqb _ _ a)
 
   -- ---- a Close
 
-  pub close-closes : c .state ≡ opened → closeArrives c ≡ doing (leaving c closing (c .limits .closing)) ackLength
+  pub close-closes : c .phase .state ≡ opened → closeArrives c ≡ doing (leaving c closing (c .limits .closing)) ackLength
   unfolding closeArrives
   close-closes h = simp (eq-eqb _ _ h)
 
-  pub close-again : (c .state ≡ opened → ⊥) → c .state ≡ closing → closeArrives c ≡ repeating c ackLength
+  pub close-again : (c .phase .state ≡ opened → ⊥) → c .phase .state ≡ closing → closeArrives c ≡ repeating c ackLength
   unfolding closeArrives
   close-again h k = simp (ne-eqb _ _ h, eq-eqb _ _ k)
 
-  pub close-other : (c .state ≡ opened → ⊥) → (c .state ≡ closing → ⊥) → closeArrives c ≡ refusing c refusal.State
+  pub close-other : (c .phase .state ≡ opened → ⊥) → (c .phase .state ≡ closing → ⊥) → closeArrives c ≡ refusing c refusal.State
   unfolding closeArrives
   close-other h k = simp (ne-eqb _ _ h, ne-eqb _ _ k)
 
   -- ---- a Control packet
 
   module _ (opens : Bool) (number : ℕ) where
-    pub control-closed : c .state ≡ closed → controlStep c opens number ≡ refusing c refusal.State
+    pub control-closed : c .phase .state ≡ closed → controlStep c opens number ≡ refusing c refusal.State
     unfolding controlStep
     control-closed h = simp (eq-eqb _ _ h)
 
-    pub control-number : (c .state ≡ closed → ⊥) → (number ≡ 0 → ⊥) → controlStep c opens number ≡ failing (shutFor c controlNumber) controlNumber
+    pub control-number : (c .phase .state ≡ closed → ⊥) → (number ≡ 0 → ⊥) → controlStep c opens number ≡ failing (shutFor c controlNumber) controlNumber
     unfolding controlStep
     control-number h k = simp (ne-eqb _ _ h, ne-eqb _ _ k)
 
-    pub control-open : (c .state ≡ closed → ⊥) → number ≡ 0 → opens ≡ true → controlStep c opens number ≡ openArrives c
+    pub control-open : (c .phase .state ≡ closed → ⊥) → number ≡ 0 → opens ≡ true → controlStep c opens number ≡ openArrives c
     unfolding controlStep
     control-open h k o = simp (ne-eqb _ _ h, eq-eqb _ _ k, o)
 
-    pub control-close : (c .state ≡ closed → ⊥) → number ≡ 0 → opens ≡ false → controlStep c opens number ≡ closeArrives c
+    pub control-close : (c .phase .state ≡ closed → ⊥) → number ≡ 0 → opens ≡ false → controlStep c opens number ≡ closeArrives c
     unfolding controlStep
     control-close h k o = simp (ne-eqb _ _ h, eq-eqb _ _ k, o)
 
   -- ---- a tick
 
-  pub tick-idle : (c .state ≡ closing → ⊥) → tickStep c ≡ c
+  pub tick-idle : (c .phase .state ≡ closing → ⊥) → tickStep c ≡ c
   unfolding tickStep
   tick-idle h = simp (ne-eqb _ _ h)
 
-  pub tick-falls : c .state ≡ closing → 2 ≤ c .timers .closing → tickStep c ≡ withTimers c (withClosing (c .timers) (c .timers .closing - 1))
+  pub tick-falls : c .phase .state ≡ closing → 2 ≤ c .timers .closing → tickStep c ≡ withTimers c (withClosing (c .timers) (c .timers .closing - 1))
   unfolding tickStep
   tick-falls h k = simp (eq-eqb _ _ h, le-leb _ _ k)
 
-  pub tick-ends : c .state ≡ closing → c .timers .closing < 2 → tickStep c ≡ withState (withTimers c (withClosing (c .timers) 0)) closed
+  pub tick-ends : c .phase .state ≡ closing → c .timers .closing < 2 → tickStep c ≡ withState (withTimers c (withClosing (c .timers) 0)) closed
   unfolding tickStep
   tick-ends h k = simp (eq-eqb _ _ h, lt-leb _ _ k)
 

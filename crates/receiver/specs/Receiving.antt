@@ -57,7 +57,7 @@ shutFor c why = withReason (leaving c closed 0) why
 -- an Open directive in CLOSED leads to ENABLED, with nothing untaken (10); any other directive gives 5
 unfoldable pub openStep : Channel → Stepped
 openStep c =
-    if not (eqb (c .state) closed) then refusing c refusal.State
+    if not (eqb (c .phase .state) closed) then refusing c refusal.State
     else if not (eqb (heldIn (c .window)) 0) then refusing c refusal.Untaken
     else doing (enabledOf c noLone) 0
 
@@ -69,22 +69,22 @@ closeStep c = refusing c refusal.State
 -- in ENABLED it leads to OPEN; in OPEN it is acknowledged while no Data was accepted, and makes the channel inactive after that
 unfoldable pub openArrives : Channel → Stepped
 openArrives c =
-    if eqb (c .state) enabled then doing (withState c opened) ackLength
-    else if not (eqb (c .state) opened) then refusing c refusal.State
-    else if eqb (c .accepted) 0 then repeating c ackLength
+    if eqb (c .phase .state) enabled then doing (withState c opened) ackLength
+    else if not (eqb (c .phase .state) opened) then refusing c refusal.State
+    else if eqb (c .phase .accepted) 0 then repeating c ackLength
     else failing (shutFor c lateOpen) lateOpen
 
 -- in OPEN it leads to CLOSING, and the close timer starts; there further ones are acknowledged
 unfoldable pub closeArrives : Channel → Stepped
 closeArrives c =
-    if eqb (c .state) opened then doing (leaving c closing (c .limits .closing)) ackLength
-    else if eqb (c .state) closing then repeating c ackLength
+    if eqb (c .phase .state) opened then doing (leaving c closing (c .limits .closing)) ackLength
+    else if eqb (c .phase .state) closing then repeating c ackLength
     else refusing c refusal.State
 
 -- a number other than 0 makes the channel inactive but in CLOSED (000, 4.5.3.4 (2) d)
 unfoldable pub controlStep : Channel → Bool → ℕ → Stepped
 controlStep c opens number =
-    if eqb (c .state) closed then refusing c refusal.State
+    if eqb (c .phase .state) closed then refusing c refusal.State
     else if not (eqb number 0) then failing (shutFor c controlNumber) controlNumber
     else if opens then openArrives c
     else closeArrives c
@@ -93,6 +93,6 @@ controlStep c opens number =
 
 unfoldable pub tickStep : Channel → Channel
 tickStep c =
-    if not (eqb (c .state) closing) then c
+    if not (eqb (c .phase .state) closing) then c
     else if leb 2 (c .timers .closing) then withTimers c (withClosing (c .timers) (c .timers .closing - 1))
     else withState (withTimers c (withClosing (c .timers) 0)) closed

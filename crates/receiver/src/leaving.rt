@@ -22,7 +22,7 @@ pub fn leave(c: Channel, state: u8, ticks: u16) -> Channel
     let held = c.marks;
     let marks = ring::clear(held, slots, slots - kept, place);
     let mut d = c;
-    d.state = state;
+    d.phase.state = state;
     d.window.start = 1;
     d.window.place = place;
     d.window.behind = kept;
@@ -38,7 +38,7 @@ pub fn shut(c: Channel, why: u8) -> Channel
     ensures { λ r. ⌜ r ≡ shutFor c why ⌝ }
 {
     let mut d = leave(c, CLOSED, 0);
-    d.reason = why;
+    d.phase.reason = why;
     d
 }
 

@@ -8,7 +8,7 @@ ghost use Rattle.receiver.specs.Receiving.{tickStep};
 pub fn tick_step(c: Channel) -> Channel
     ensures { λ r. ⌜ r ≡ tickStep c ⌝ }
 {
-    if c.state != CLOSING {
+    if c.phase.state != CLOSING {
         return c;
     }
     let mut d = c;
@@ -19,6 +19,6 @@ pub fn tick_step(c: Channel) -> Channel
         return d;
     }
     d.timers.closing = 0;
-    d.state = CLOSED;
+    d.phase.state = CLOSED;
     d
 }

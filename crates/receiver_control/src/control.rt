@@ -24,7 +24,7 @@ ghost use Rattle.receiver.specs.Receiving.{openStep, closeStep, openArrives, cl
 pub fn open_step(c: Channel) -> Stepped
     ensures { λ r. ⌜ r ≡ openStep c ⌝ }
 {
-    if c.state != CLOSED {
+    if c.phase.state != CLOSED {
         return refused(c, Refusal::State);
     }
     if c.window.behind != 0 {
@@ -53,15 +53,15 @@ fn open_arrives(c: Channel) -> Stepped
     requires { ⌜ Ringed (c .limits) (c .window) ⌝ }
     ensures { λ r. ⌜ r ≡ openArrives c ⌝ }
 {
-    if c.state == ENABLED {
+    if c.phase.state == ENABLED {
         let mut d = c;
-        d.state = OPEN;
+        d.phase.state = OPEN;
         return done(d, ACK);
     }
-    if c.state != OPEN {
+    if c.phase.state != OPEN {
         return refused(c, Refusal::State);
     }
-    if c.accepted == 0 {
+    if c.phase.accepted == 0 {
         return repeated(c);
     }
     failed(c, LATE_OPEN)
@@ -72,10 +72,10 @@ fn close_arrives(c: Channel) -> Stepped
     requires { ⌜ Ringed (c .limits) (c .window) ⌝ }
     ensures { λ r. ⌜ r ≡ closeArrives c ⌝ }
 {
-    if c.state == OPEN {
+    if c.phase.state == OPEN {
         return done(leave(c, CLOSING, c.limits.closing), ACK);
     }
-    if c.state == CLOSING {
+    if c.phase.state == CLOSING {
         return repeated(c);
     }
     refused(c, Refusal::State)
@@ -86,7 +86,7 @@ pub fn control_step(c: Channel, opens: bool, number: u8) -> Stepped
     requires { ⌜ Ringed (c .limits) (c .window) ⌝ }
     ensures { λ r. ⌜ r ≡ controlStep c opens number ⌝ }
 {
-    if c.state == CLOSED {
+    if c.phase.state == CLOSED {
         return refused(c, Refusal::State);
     }
     if number != 0 {

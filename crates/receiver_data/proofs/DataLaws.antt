@@ -58,7 +58,7 @@ module _ (c : Channel) (d : ℕ) where
 
 -- ---- Data: not in OPEN, and in OPEN by its sort
 
-module _ (c : Channel) (number : ℕ) (h : c .state ≡ opened → ⊥) where
+module _ (c : Channel) (number : ℕ) (h : c .phase .state ≡ opened → ⊥) where
   pub data-state : (flags : ℕ) → dataStep c number flags ≡ refusing c refusal.State
   unfolding dataStep
   data-state flags = simp (ne-eqb _ _ h)
@@ -75,7 +75,7 @@ module _ (c : Channel) (number : ℕ) (h : c .state ≡ opened → ⊥) where
   unfolding dataLens
   state-lens p lens = passed-by (isFiled c number) _ _ not-filed
 
-module _ (c : Channel) (number : ℕ) (s : Sort) (h : c .state ≡ opened) (e : sortOf c number ≡ s) where
+module _ (c : Channel) (number : ℕ) (s : Sort) (h : c .phase .state ≡ opened) (e : sortOf c number ≡ s) where
   pub data-by : (flags : ℕ) → dataStep c number flags ≡ dataBy s c (awayOf c number) flags
   unfolding dataStep
   data-by flags = simp (eq-eqb _ _ h) (ap (λ (x : Sort). dataBy x c (awayOf c number) flags) e)

@@ -49,7 +49,7 @@ sortOf c number = sortAt (c .limits) (c .window) (c .marks) (awayOf c number)
 
 unfoldable pub dataStep : Channel → ℕ → ℕ → Stepped
 dataStep c number flags =
-    if eqb (c .state) opened then dataBy (sortOf c number) c (awayOf c number) flags
+    if eqb (c .phase .state) opened then dataBy (sortOf c number) c (awayOf c number) flags
     else refusing c refusal.State
 
 -- the segment is filed: new, with room, in OPEN
@@ -67,7 +67,7 @@ abbrev pub lensBy : Sort → Channel → ℕ → List ℕ → List ℕ → List 
 lensBy sort c d p lens = if filesBy sort c d then set lens (slotOf (placeAt (c .limits) (c .window) d)) (length p) else lens
 
 unfoldable pub isFiled : Channel → ℕ → Bool
-isFiled c number = if eqb (c .state) opened then filesBy (sortOf c number) c (awayOf c number) else false
+isFiled c number = if eqb (c .phase .state) opened then filesBy (sortOf c number) c (awayOf c number) else false
 
 abbrev pub placeOf : Channel → ℕ → ℕ
 placeOf c number = placeAt (c .limits) (c .window) (awayOf c number)

@@ -27,7 +27,7 @@ fn mark(c: Channel, place: usize, flags: u8) -> Channel
     ensures { λ r. ⌜ r ≡ marking c place flags ⌝ }
 {
     let mut d = c;
-    d.accepted = 1;
+    d.phase.accepted = 1;
     d.marks[place] = flags + 1;
     d
 }
@@ -86,7 +86,7 @@ pub fn data_step(
     requires { ⌜ DataAsked c flags (now part) (now mem) (now lens) ⌝ }
     ensures { λ r. ⌜ (r ≡ dataStep c number flags) × (now (mem .exit) ≡ dataMem c number (now (part .entry)) (now (mem .entry))) × (now (lens .exit) ≡ dataLens c number (now (part .entry)) (now (lens .entry))) ⌝ }
 {
-    if c.state != OPEN {
+    if c.phase.state != OPEN {
         return refused(c, Refusal::State);
     }
     let d = away(number, c.window.start) as usize;

@@ -30,18 +30,18 @@ pub open-cases : (c : Channel) (P : Stepped → Type 0)
     → P (openStep c)
 unfolding openStep
 open-cases c P state untaken done =
-    either P (not (eqb (c .state) closed)) _ _ state (either P (not (eqb (heldIn (c .window)) 0)) _ _ untaken done)
+    either P (not (eqb (c .phase .state) closed)) _ _ state (either P (not (eqb (heldIn (c .window)) 0)) _ _ untaken done)
 
 module _ (c : Channel) (P : Stepped → Type 0) (refused : P (refusing c refusal.State)) (repeated : P (repeating c ackLength)) where
   open-arrives-cases : P (doing (withState c opened) ackLength) → P (failing (shutFor c lateOpen) lateOpen) → P (openArrives c)
   unfolding openArrives
   open-arrives-cases opens late =
-      either P (eqb (c .state) enabled) _ _ opens
-      (either P (not (eqb (c .state) opened)) _ _ refused (either P (eqb (c .accepted) 0) _ _ repeated late))
+      either P (eqb (c .phase .state) enabled) _ _ opens
+      (either P (not (eqb (c .phase .state) opened)) _ _ refused (either P (eqb (c .phase .accepted) 0) _ _ repeated late))
 
   close-arrives-cases : P (doing (leaving c closing (c .limits .closing)) ackLength) → P (closeArrives c)
   unfolding closeArrives
-  close-arrives-cases closes = either P (eqb (c .state) opened) _ _ closes (either P (eqb (c .state) closing) _ _ repeated refused)
+  close-arrives-cases closes = either P (eqb (c .phase .state) opened) _ _ closes (either P (eqb (c .phase .state) closing) _ _ repeated refused)
 
   pub control-cases : (opens : Bool) (number : ℕ)
       → P (doing (withState c opened) ackLength)
@@ -51,7 +51,7 @@ module _ (c : Channel) (P : Stepped → Type 0) (refused : P (refusing c refusal
       → P (controlStep c opens number)
   unfolding controlStep
   control-cases opens number opening closes late other =
-      either P (eqb (c .state) closed) _ _ refused
+      either P (eqb (c .phase .state) closed) _ _ refused
       (either P (not (eqb number 0)) _ _ other (either P opens _ _ (open-arrives-cases opening late) (close-arrives-cases closes)))
 
 pub take-cases : (c : Channel) (lens : List ℕ) (n : ℕ) (P : Stepped → Type 0)
@@ -70,7 +70,7 @@ pub tick-cases : (c : Channel) (P : Channel → Type 0)
     → P (withState (withTimers c (withClosing (c .timers) 0)) closed)
     → P (tickStep c)
 unfolding tickStep
-tick-cases c P idle falls ends = either P (not (eqb (c .state) closing)) _ _ idle (either P (leb 2 (c .timers .closing)) _ _ falls ends)
+tick-cases c P idle falls ends = either P (not (eqb (c .phase .state) closing)) _ _ idle (either P (leb 2 (c .timers .closing)) _ _ falls ends)
 
 -- ---- Data
 
@@ -97,7 +97,7 @@ module _ (c : Channel) (number flags : ℕ) (p mem lens : List ℕ) (P : Stepped
   sort-cases Behind = repeated
   sort-cases Other = failed
 
-  state-cases : (t : Bool) → eqb (c .state) opened ≡ t → P (dataStep c number flags) (dataMem c number p mem) (dataLens c number p lens)
+  state-cases : (t : Bool) → eqb (c .phase .state) opened ≡ t → P (dataStep c number flags) (dataMem c number p mem) (dataLens c number p lens)
   state-cases true e =
       let h = eqb-true _ _ e in
       let s = sortOf c number in
@@ -107,7 +107,7 @@ module _ (c : Channel) (number flags : ℕ) (p mem lens : List ℕ) (P : Stepped
       subst₃ P (sym (data-state c number h flags)) (sym (state-mem c number h p mem)) (sym (state-lens c number h p lens)) refused
 
   pub data-cases : P (dataStep c number flags) (dataMem c number p mem) (dataLens c number p lens)
-  data-cases = state-cases (eqb (c .state) opened) refl
+  data-cases = state-cases (eqb (c .phase .state) opened) refl
 
 -- a segment accepted: at a break, or done
 pub accept-cases : (c : Channel) (place flags : ℕ) (P : Stepped → Type 0)

@@ -58,7 +58,7 @@ pub receives-is : (c : Channel) (lens : List ℕ) → c .addresses .direction �
 receives-is c lens d h =
     let n = counted-is (c .limits) (c .window) (h .ring) (h .flight) in
     let q = ring-is (c .limits) (c .window) (h .ring) in
-    let a = none-ahead (c .addresses .direction) (c .state) (c .window) d (h .sided) in
+    let a = none-ahead (c .addresses .direction) (c .phase .state) (c .window) d (h .sided) in
     record {
       fit = h .fit;
       count = h .count;
@@ -88,7 +88,7 @@ receives-stands c lens r =
       named = is-named c (r .small);
       ring = counted-ring (c .limits) (c .window) n;
       flight = counted-flight (c .limits) (c .window) n;
-      sided = sided-true (c .addresses .direction) (c .state) (c .window) (r .direction) (r .window .ahead);
+      sided = sided-true (c .addresses .direction) (c .phase .state) (c .window) (r .direction) (r .window .ahead);
       held = λ i l. r .held i (omega (arith, r .window .ahead));
       slots = λ i l. ap (λ (t : Bool). slotFit t (c .limits .payload) (getD (c .marks) i 0) (getD lens (slotOf i) 0)) (not-sending c (r .direction)) ∙ r .slots i l;
     }

@@ -8,7 +8,7 @@ use Rattle.ring.specs.Ring.{roundOf}
 use Rattle.slots.specs.Units.{segmentsOf}
 use Rattle.channel.specs.declared.record.Channel.{Channel}
 use Rattle.channel.specs.Answers.{numberOf}
-use Rattle.channel.specs.Record.{receives, opened, noReason, noLone, noTimers, noMarks}
+use Rattle.channel.specs.Record.{receives, opened, freshPhase, noLone, noTimers, noMarks}
 use Rattle.receiver_sorting.specs.Sorting.{isHeld, sortAt}
 use Rattle.receiver_window.specs.Moving.{movedBy}
 use Rattle.receiver_data.specs.Data.{acceptStep, dataStep}
@@ -19,11 +19,7 @@ openAt start k =
     record {
       addresses = record { channel = 1; remote = 65; direction = receives };
       limits = record { window = k; slots = 128; payload = 16; segments = 4; timeout = 4; closing = 4; retries = 2 };
-      state = opened;
-      reason = noReason;
-      kept = 0;
-      accepted = 0;
-      control = noLone;
+      phase = freshPhase opened noLone;
       window = record { start = start; place = 0; behind = 0; ahead = 0; flight = 0; way = 0 };
       timers = noTimers;
       marks = noMarks;

@@ -115,9 +115,9 @@ module _ (c : Channel) (mem lens : List ℕ) (r : Receiver) (asked : Asked c mem
       }
 
   pub open-receives : (numberOf (openStep c .answer) ≡ 0 → r .phase ≡ fresh) → Opens c (openStep c .channel) mem lens r
-  open-receives first = by (eqb (c .state) record-of.closed) refl (eqb (heldIn (c .window)) 0) refl
+  open-receives first = by (eqb (c .phase .state) record-of.closed) refl (eqb (heldIn (c .window)) 0) refl
     where
-      by : (b : Bool) → eqb (c .state) record-of.closed ≡ b → (u : Bool) → eqb (heldIn (c .window)) 0 ≡ u → Opens c (openStep c .channel) mem lens r
+      by : (b : Bool) → eqb (c .phase .state) record-of.closed ≡ b → (u : Bool) → eqb (heldIn (c .window)) 0 ≡ u → Opens c (openStep c .channel) mem lens r
       by false e u z = subst (λ (s : Stepped). Opens c (s .channel) mem lens r) (sym (law.open-state c (eqb-false _ _ e))) stands
       by true e false z = subst (λ (s : Stepped). Opens c (s .channel) mem lens r) (sym (law.open-untaken c (eqb-true _ _ e) (eqb-false _ _ z))) stands
       by true e true z =
@@ -172,11 +172,11 @@ module _ (c : Channel) (mem lens : List ℕ) (r : Receiver) (asked : Asked c mem
     abbrev Goal : Stepped → Type 0
     Goal s = Moves c (s .channel) mem lens r
 
-    state-is : (p : Phase) → r .phase ≡ p → c .state ≡ stateOf p
+    state-is : (p : Phase) → r .phase ≡ p → c .phase .state ≡ stateOf p
     state-is p e = t .state ∙ ap stateOf e
 
     -- a number other than 0
-    numbered : 1 ≤ rank (r .phase) → rank (r .phase) < 4 → (c .state ≡ record-of.closed → ⊥)
+    numbered : 1 ≤ rank (r .phase) → rank (r .phase) < 4 → (c .phase .state ≡ record-of.closed → ⊥)
         → (number ≡ 0 → (b : Bool) → opens ≡ b → Goal (controlStep c opens number))
         → Goal (controlStep c opens number)
     numbered was less up rest = by (eqb number 0) refl
@@ -190,8 +190,8 @@ module _ (c : Channel) (mem lens : List ℕ) (r : Receiver) (asked : Asked c mem
     control-by shut e = subst Goal (sym (law.control-closed c opens number (state-is shut e))) idle
     control-by enabled e =
         let was : rank (r .phase) ≡ 1 = ap rank e in
-        let now : c .state ≡ 1 = state-is enabled e in
-        let up : c .state ≡ 0 → ⊥ = λ z. omega arith in
+        let now : c .phase .state ≡ 1 = state-is enabled e in
+        let up : c .phase .state ≡ 0 → ⊥ = λ z. omega arith in
         numbered (omega arith) (omega arith) up
         (λ zero-is b. elim b [
           | true ↦ λ q. subst Goal (sym (law.control-open c opens number up zero-is q ∙ law.open-opens c now)) (opens-now e)
@@ -199,9 +199,9 @@ module _ (c : Channel) (mem lens : List ℕ) (r : Receiver) (asked : Asked c mem
         ])
     control-by opened e =
         let was : rank (r .phase) ≡ 2 = ap rank e in
-        let now : c .state ≡ 2 = state-is opened e in
-        let up : c .state ≡ 0 → ⊥ = λ z. omega arith in
-        let again : (b : Bool) → eqb (c .accepted) 0 ≡ b → number ≡ 0 → opens ≡ true → Goal (controlStep c opens number)
+        let now : c .phase .state ≡ 2 = state-is opened e in
+        let up : c .phase .state ≡ 0 → ⊥ = λ z. omega arith in
+        let again : (b : Bool) → eqb (c .phase .accepted) 0 ≡ b → number ≡ 0 → opens ≡ true → Goal (controlStep c opens number)
         = λ b. elim b [
           | true ↦ λ a zero-is q.
               subst Goal (sym (law.control-open c opens number up zero-is q ∙ law.open-again c (λ z. omega arith) now (eqb-true _ _ a))) idle
@@ -212,14 +212,14 @@ module _ (c : Channel) (mem lens : List ℕ) (r : Receiver) (asked : Asked c mem
         in
         numbered (omega arith) (omega arith) up
         (λ zero-is b. elim b [
-          | true ↦ λ q. again (eqb (c .accepted) 0) refl zero-is q
+          | true ↦ λ q. again (eqb (c .phase .accepted) 0) refl zero-is q
           | false ↦ λ q.
               subst Goal (sym (law.control-close c opens number up zero-is q ∙ law.close-closes c now)) (leaves (c .limits .closing) (omega arith) (omega arith))
         ])
     control-by closing e =
         let was : rank (r .phase) ≡ 3 = ap rank e in
-        let now : c .state ≡ 3 = state-is closing e in
-        let up : c .state ≡ 0 → ⊥ = λ z. omega arith in
+        let now : c .phase .state ≡ 3 = state-is closing e in
+        let up : c .phase .state ≡ 0 → ⊥ = λ z. omega arith in
         numbered (omega arith) (omega arith) up
         (λ zero-is b. elim b [
           | true ↦ λ q. subst Goal (sym (law.control-open c opens number up zero-is q ∙ law.open-other c (λ z. omega arith) (λ z. omega arith))) idle
@@ -245,7 +245,7 @@ module _ (c : Channel) (mem lens : List ℕ) (r : Receiver) (asked : Asked c mem
               state = t .state;
               before = λ z. absurd (omega arith);
               within = λ p q. absurd (omega arith);
-              after = λ p. after-state c mem lens (r .oldest) (r .passed) (c .state) timers (t .after p);
+              after = λ p. after-state c mem lens (r .oldest) (r .passed) (c .phase .state) timers (t .after p);
             });
         waits = λ z. z;
       }
@@ -257,7 +257,7 @@ module _ (c : Channel) (mem lens : List ℕ) (r : Receiver) (asked : Asked c mem
   tick-by shut e = subst To (sym (law.tick-idle c (λ z. omega (arith, t .state ∙ ap stateOf e)))) idle
   tick-by closing e = by (leb 2 (c .timers .closing)) refl
     where
-      now : c .state ≡ record-of.closing
+      now : c .phase .state ≡ record-of.closing
       now = t .state ∙ ap stateOf e
 
       was : rank (r .phase) ≡ 3

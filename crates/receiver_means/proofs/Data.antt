@@ -74,7 +74,7 @@ module _ (c : Channel) (mem lens : List ℕ) (r : Receiver) (asked : Asked c mem
     phase-is : rank (r .phase) ≡ 2
     phase-is = open-is (r .phase) open-now .0
 
-    state-is : c .state ≡ record-of.opened
+    state-is : c .phase .state ≡ record-of.opened
     state-is = t .state ∙ open-is (r .phase) open-now .1
 
     within : Within c mem lens (r .oldest) (r .passed) (r .filed)
@@ -244,7 +244,7 @@ module _ (c : Channel) (mem lens : List ℕ) (r : Receiver) (asked : Asked c mem
         (receiver.arrived L b r (distance number (numberAt (startOf r))) (carried flags p))
     by-phase true e = in-open number flags p short e
     by-phase false e =
-        let other : c .state ≡ record-of.opened → ⊥ = λ z. not-open (r .phase) e (sym (t .state) ∙ z) in
+        let other : c .phase .state ≡ record-of.opened → ⊥ = λ z. not-open (r .phase) e (sym (t .state) ∙ z) in
         subst₃ (λ (s : Stepped) (m l : List ℕ). Result s m l (r, say 5))
         (sym (data-state c number other flags)) (sym (state-mem c number other p mem)) (sym (state-lens c number other p lens)) (t, refl)
 

@@ -53,13 +53,13 @@ pub record After (c : Channel) (mem lens : List ℕ) (base : ℕ) (l : List Segm
   pub way : c .window .way ≡ 0
 
 pub record Receives (c : Channel) (mem lens : List ℕ) (r : Receiver) : Type 0 where
-  pub state : c .state ≡ stateOf (r .phase)
+  pub state : c .phase .state ≡ stateOf (r .phase)
   pub before : rank (r .phase) ≡ 0 → Before c r
   pub within : 1 ≤ rank (r .phase) → rank (r .phase) ≤ 2 → Within c mem lens (r .oldest) (r .passed) (r .filed)
   pub after : 3 ≤ rank (r .phase) → After c mem lens (r .oldest) (r .passed)
 
 -- a record in CLOSED with nothing held is one that was never opened
-pub fresh-receives : (c : Channel) (mem lens : List ℕ) → c .state ≡ record-of.closed → heldIn (c .window) ≡ 0 → Receives c mem lens freshReceiver
+pub fresh-receives : (c : Channel) (mem lens : List ℕ) → c .phase .state ≡ record-of.closed → heldIn (c .window) ≡ 0 → Receives c mem lens freshReceiver
 fresh-receives c mem lens s h =
     record {
       state = s;
@@ -69,7 +69,7 @@ fresh-receives c mem lens s h =
     }
 
 module _ (c : Channel) (mem lens : List ℕ) (r : Receiver) (asked : Asked c mem lens) (receiving : c .addresses .direction ≡ receives) (t : Receives c mem lens r) where
-  pub receives-state : c .state ≡ stateOf (r .phase)
+  pub receives-state : c .phase .state ≡ stateOf (r .phase)
   receives-state = t .state
 
   pub receives-start : 1 ≤ rank (r .phase) → rank (r .phase) ≤ 2 → c .window .start ≡ numberAt (startOf r)

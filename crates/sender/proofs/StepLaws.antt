@@ -21,49 +21,49 @@ use Rattle.sender.specs.Ticking.{lowered, spentNow, anySpent, controlTic
 module _ (c : Channel) where
   -- ---- directives
 
-  pub open-state : (c .state ≡ closed → ⊥) → openStep c ≡ refusing c refusal.State
+  pub open-state : (c .phase .state ≡ closed → ⊥) → openStep c ≡ refusing c refusal.State
   unfolding openStep
   open-state h = simp (ne-eqb _ _ h)
 
-  pub open-untaken : c .state ≡ closed → (heldIn (c .window) ≡ 0 → ⊥) → openStep c ≡ refusing c refusal.Untaken
+  pub open-untaken : c .phase .state ≡ closed → (heldIn (c .window) ≡ 0 → ⊥) → openStep c ≡ refusing c refusal.Untaken
   unfolding openStep
   open-untaken h k = simp (eq-eqb _ _ h, ne-eqb _ _ k)
 
-  pub open-done : c .state ≡ closed → heldIn (c .window) ≡ 0 → openStep c ≡ doing (enabledOf c readyLone) 0
+  pub open-done : c .phase .state ≡ closed → heldIn (c .window) ≡ 0 → openStep c ≡ doing (enabledOf c readyLone) 0
   unfolding openStep
   open-done h k = simp (eq-eqb _ _ h, eq-eqb _ _ k)
 
-  pub close-open : c .state ≡ opened → closeStep c ≡ doing (parked c closing readyLone) 0
+  pub close-open : c .phase .state ≡ opened → closeStep c ≡ doing (parked c closing readyLone) 0
   unfolding closeStep
   close-open h = simp (eq-eqb _ _ h)
 
-  pub close-state : (c .state ≡ opened → ⊥) → (c .state ≡ enabled → ⊥) → closeStep c ≡ refusing c refusal.State
+  pub close-state : (c .phase .state ≡ opened → ⊥) → (c .phase .state ≡ enabled → ⊥) → closeStep c ≡ refusing c refusal.State
   unfolding closeStep
   close-state h k = simp (ne-eqb _ _ h, ne-eqb _ _ k)
 
-  pub close-twice : (c .state ≡ opened → ⊥) → c .state ≡ enabled → (c .kept ≡ 0 → ⊥) → closeStep c ≡ refusing c refusal.State
+  pub close-twice : (c .phase .state ≡ opened → ⊥) → c .phase .state ≡ enabled → (c .phase .kept ≡ 0 → ⊥) → closeStep c ≡ refusing c refusal.State
   unfolding closeStep
   close-twice h k a = simp (ne-eqb _ _ h, eq-eqb _ _ k, ne-eqb _ _ a)
 
-  pub close-kept : (c .state ≡ opened → ⊥) → c .state ≡ enabled → c .kept ≡ 0 → closeStep c ≡ doing (withKept c 1) 0
+  pub close-kept : (c .phase .state ≡ opened → ⊥) → c .phase .state ≡ enabled → c .phase .kept ≡ 0 → closeStep c ≡ doing (withKept c 1) 0
   unfolding closeStep
   close-kept h k a = simp (ne-eqb _ _ h, eq-eqb _ _ k, eq-eqb _ _ a)
 
   -- ---- a tick
 
-  pub tick-open : c .state ≡ opened → tickStep c ≡ dataTick c
+  pub tick-open : c .phase .state ≡ opened → tickStep c ≡ dataTick c
   unfolding tickStep
   tick-open h = simp (eq-eqb _ _ h)
 
-  pub tick-enabled : (c .state ≡ opened → ⊥) → c .state ≡ enabled → tickStep c ≡ controlTick c (fallen (c .control))
+  pub tick-enabled : (c .phase .state ≡ opened → ⊥) → c .phase .state ≡ enabled → tickStep c ≡ controlTick c (fallen (c .phase .control))
   unfolding tickStep
   tick-enabled h k = simp (ne-eqb _ _ h, eq-eqb _ _ k)
 
-  pub tick-closing : (c .state ≡ opened → ⊥) → (c .state ≡ enabled → ⊥) → c .state ≡ closing → tickStep c ≡ controlTick c (fallen (c .control))
+  pub tick-closing : (c .phase .state ≡ opened → ⊥) → (c .phase .state ≡ enabled → ⊥) → c .phase .state ≡ closing → tickStep c ≡ controlTick c (fallen (c .phase .control))
   unfolding tickStep
   tick-closing h k l = simp (ne-eqb _ _ h, ne-eqb _ _ k, eq-eqb _ _ l)
 
-  pub tick-idle : (c .state ≡ opened → ⊥) → (c .state ≡ enabled → ⊥) → (c .state ≡ closing → ⊥) → tickStep c ≡ record { channel = c; inactive = false }
+  pub tick-idle : (c .phase .state ≡ opened → ⊥) → (c .phase .state ≡ enabled → ⊥) → (c .phase .state ≡ closing → ⊥) → tickStep c ≡ record { channel = c; inactive = false }
   unfolding tickStep
   tick-idle h k l = simp (ne-eqb _ _ h, ne-eqb _ _ k, ne-eqb _ _ l)
 

@@ -38,14 +38,14 @@ shutFor c why = withReason (parked c closed noLone) why
 -- CLOSED: an Open directive leads to ENABLED, an Open becomes ready; not while units are unreclaimed (10)
 unfoldable pub openStep : Channel → Stepped
 openStep c =
-    if not (eqb (c .state) closed) then refusing c refusal.State
+    if not (eqb (c .phase .state) closed) then refusing c refusal.State
     else if not (eqb (heldIn (c .window)) 0) then refusing c refusal.Untaken
     else doing (enabledOf c readyLone) 0
 
 -- a Close directive in ENABLED is kept until the Open is acknowledged; in OPEN, CLOSING at once; others, a second Close too, give 5
 unfoldable pub closeStep : Channel → Stepped
 closeStep c =
-    if eqb (c .state) opened then doing (parked c closing readyLone) 0
-    else if not (eqb (c .state) enabled) then refusing c refusal.State
-    else if eqb (c .kept) 0 then doing (withKept c 1) 0
+    if eqb (c .phase .state) opened then doing (parked c closing readyLone) 0
+    else if not (eqb (c .phase .state) enabled) then refusing c refusal.State
+    else if eqb (c .phase .kept) 0 then doing (withKept c 1) 0
     else refusing c refusal.State

@@ -43,6 +43,6 @@ dataTick c =
 
 unfoldable pub tickStep : Channel → Ticked
 tickStep c =
-    if eqb (c .state) opened then dataTick c
-    else if eqb (c .state) enabled || eqb (c .state) closing then controlTick c (fallen (c .control))
+    if eqb (c .phase .state) opened then dataTick c
+    else if eqb (c .phase .state) enabled || eqb (c .phase .state) closing then controlTick c (fallen (c .phase .control))
     else record { channel = c; inactive = false }

@@ -54,11 +54,13 @@ pub fn park(c: Channel, state: u8, control: Lone) -> Channel
         flight: 0,
         way: c.window.way,
     };
+    let mut phase = c.phase;
+    phase.state = state;
+    phase.control = control;
+    phase.kept = 0;
     let mut d = c;
-    d.state = state;
+    d.phase = phase;
     d.window = window;
-    d.control = control;
-    d.kept = 0;
     d
 }
 
@@ -68,7 +70,7 @@ pub fn shut(c: Channel, why: u8) -> Channel
     ensures { λ r. ⌜ r ≡ shutFor c why ⌝ }
 {
     let mut d = park(c, CLOSED, none());
-    d.reason = why;
+    d.phase.reason = why;
     d
 }
 
@@ -77,7 +79,7 @@ pub fn open_step(c: Channel) -> Stepped
     requires { ⌜ Ringed (c .limits) (c .window) ⌝ }
     ensures { λ r. ⌜ r ≡ openStep c ⌝ }
 {
-    if c.state != CLOSED {
+    if c.phase.state != CLOSED {
         return refused(c, Refusal::State);
     }
     if c.window.behind + c.window.ahead != 0 {
@@ -91,16 +93,16 @@ pub fn close_step(c: Channel) -> Stepped
     requires { ⌜ Ringed (c .limits) (c .window) ⌝ }
     ensures { λ r. ⌜ r ≡ closeStep c ⌝ }
 {
-    if c.state == OPEN {
+    if c.phase.state == OPEN {
         return done(park(c, CLOSING, ready()), 0);
     }
-    if c.state != ENABLED {
+    if c.phase.state != ENABLED {
         return refused(c, Refusal::State);
     }
-    if c.kept != 0 {
+    if c.phase.kept != 0 {
         return refused(c, Refusal::State);
     }
     let mut d = c;
-    d.kept = 1;
+    d.phase.kept = 1;
     done(d, 0)
 }

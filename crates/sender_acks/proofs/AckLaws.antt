@@ -26,13 +26,13 @@ use Rattle.sender_acks.specs.Acks.{controlAcked, controlAckStep, awayOf,
 -- ---- acks
 
 module _ (c : Channel) where
-  pub acked-closing : c .state ≡ closing → controlAcked c ≡ parked c closed noLone
+  pub acked-closing : c .phase .state ≡ closing → controlAcked c ≡ parked c closed noLone
   acked-closing h = simp (eq-eqb _ _ h)
 
-  pub acked-kept : (c .state ≡ closing → ⊥) → (c .kept ≡ 0 → ⊥) → controlAcked c ≡ parked c closing readyLone
+  pub acked-kept : (c .phase .state ≡ closing → ⊥) → (c .phase .kept ≡ 0 → ⊥) → controlAcked c ≡ parked c closing readyLone
   acked-kept h k = simp (ne-eqb _ _ h, ne-eqb _ _ k)
 
-  pub acked-open : (c .state ≡ closing → ⊥) → c .kept ≡ 0 → controlAcked c ≡ withControl (withState c opened) noLone
+  pub acked-open : (c .phase .state ≡ closing → ⊥) → c .phase .kept ≡ 0 → controlAcked c ≡ withControl (withState c opened) noLone
   acked-open h k = simp (ne-eqb _ _ h, eq-eqb _ _ k)
 
   pub freed-none : (done : ℕ) → done ≡ 0 → freedMarks c done ≡ c .marks
@@ -59,36 +59,36 @@ module _ (c : Channel) where
       (em ∙ ap (freedMarks c) whole)
 
 module _ (c : Channel) (number : ℕ) where
-  pub control-ack-state : (eqb (c .state) enabled || eqb (c .state) closing) ≡ false → controlAckStep c number ≡ refusing c refusal.State
+  pub control-ack-state : (eqb (c .phase .state) enabled || eqb (c .phase .state) closing) ≡ false → controlAckStep c number ≡ refusing c refusal.State
   unfolding controlAckStep
-  control-ack-state h = chosen (not (eqb (c .state) enabled || eqb (c .state) closing)) _ _ (ap not h)
+  control-ack-state h = chosen (not (eqb (c .phase .state) enabled || eqb (c .phase .state) closing)) _ _ (ap not h)
 
-  module _ (h : (eqb (c .state) enabled || eqb (c .state) closing) ≡ true) where
+  module _ (h : (eqb (c .phase .state) enabled || eqb (c .phase .state) closing) ≡ true) where
     pub control-ack-number : (number ≡ 0 → ⊥) → controlAckStep c number ≡ refusing c refusal.Ignored
     unfolding controlAckStep
-    control-ack-number k = passed-by (not (eqb (c .state) enabled || eqb (c .state) closing)) _ _ (ap not h) ∙ simp (ne-eqb _ _ k)
+    control-ack-number k = passed-by (not (eqb (c .phase .state) enabled || eqb (c .phase .state) closing)) _ _ (ap not h) ∙ simp (ne-eqb _ _ k)
 
-    pub control-ack-early : number ≡ 0 → isOut (c .control) ≡ false → controlAckStep c number ≡ refusing c refusal.Ignored
+    pub control-ack-early : number ≡ 0 → isOut (c .phase .control) ≡ false → controlAckStep c number ≡ refusing c refusal.Ignored
     unfolding controlAckStep
     control-ack-early k o =
-        passed-by (not (eqb (c .state) enabled || eqb (c .state) closing)) _ _ (ap not h)
-        ∙ simp (eq-eqb _ _ k) (chosen (not (isOut (c .control))) _ _ (ap not o))
+        passed-by (not (eqb (c .phase .state) enabled || eqb (c .phase .state) closing)) _ _ (ap not h)
+        ∙ simp (eq-eqb _ _ k) (chosen (not (isOut (c .phase .control))) _ _ (ap not o))
 
-    pub control-ack-done : number ≡ 0 → isOut (c .control) ≡ true → controlAckStep c number ≡ doing (controlAcked c) 0
+    pub control-ack-done : number ≡ 0 → isOut (c .phase .control) ≡ true → controlAckStep c number ≡ doing (controlAcked c) 0
     unfolding controlAckStep
     control-ack-done k o =
-        passed-by (not (eqb (c .state) enabled || eqb (c .state) closing)) _ _ (ap not h)
-        ∙ simp (eq-eqb _ _ k) (passed-by (not (isOut (c .control))) _ _ (ap not o))
+        passed-by (not (eqb (c .phase .state) enabled || eqb (c .phase .state) closing)) _ _ (ap not h)
+        ∙ simp (eq-eqb _ _ k) (passed-by (not (isOut (c .phase .control))) _ _ (ap not o))
 
-  pub data-ack-state : (c .state ≡ opened → ⊥) → dataAckStep c number ≡ refusing c refusal.State
+  pub data-ack-state : (c .phase .state ≡ opened → ⊥) → dataAckStep c number ≡ refusing c refusal.State
   unfolding dataAckStep
   data-ack-state h = simp (ne-eqb _ _ h)
 
-  pub data-ack-ignored : c .state ≡ opened → isAwaited c (awayOf c number) ≡ false → dataAckStep c number ≡ refusing c refusal.Ignored
+  pub data-ack-ignored : c .phase .state ≡ opened → isAwaited c (awayOf c number) ≡ false → dataAckStep c number ≡ refusing c refusal.Ignored
   unfolding dataAckStep
   data-ack-ignored h k = simp (eq-eqb _ _ h, k)
 
-  pub data-ack-done : c .state ≡ opened → isAwaited c (awayOf c number) ≡ true
+  pub data-ack-done : c .phase .state ≡ opened → isAwaited c (awayOf c number) ≡ true
       → dataAckStep c number
       ≡ record { channel = advanced (recorded c (awayOf c number)); answer = Done 0 (confirmedAt (recorded c (awayOf c number))) }
   unfolding dataAckStep
@@ -96,7 +96,7 @@ module _ (c : Channel) (number : ℕ) where
 
   -- from what the calls gave
   pub data-ack-is : (d : ℕ) (k : Channel) (n u : ℕ) (r : Channel)
-      → c .state ≡ opened
+      → c .phase .state ≡ opened
       → isAwaited c d ≡ true
       → d ≡ awayOf c number
       → k ≡ recorded c d

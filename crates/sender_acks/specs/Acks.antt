@@ -23,15 +23,15 @@ use Rattle.sender.specs.Directives.{placeAt, parked}
 -- to OPEN, or with a Close kept to CLOSING at once; from CLOSING to CLOSED
 abbrev pub controlAcked : Channel → Channel
 controlAcked c =
-    if eqb (c .state) closing then parked c closed noLone
-    else if eqb (c .kept) 0 then withControl (withState c opened) noLone
+    if eqb (c .phase .state) closing then parked c closed noLone
+    else if eqb (c .phase .kept) 0 then withControl (withState c opened) noLone
     else parked c closing readyLone
 
 unfoldable pub controlAckStep : Channel → ℕ → Stepped
 controlAckStep c number =
-    if not (eqb (c .state) enabled || eqb (c .state) closing) then refusing c refusal.State
+    if not (eqb (c .phase .state) enabled || eqb (c .phase .state) closing) then refusing c refusal.State
     else if not (eqb number 0) then refusing c refusal.Ignored
-    else if not (isOut (c .control)) then refusing c refusal.Ignored
+    else if not (isOut (c .phase .control)) then refusing c refusal.Ignored
     else doing (controlAcked c) 0
 
 -- ---- Data Acks belong to OPEN: for a number sent, in the window and not yet acknowledged, else ignored
@@ -83,6 +83,6 @@ advanced c = withMarks (withWindow c (movedWindow (c .window) (placeAt c (runAt 
 -- with the number of units confirmed: those whose last segment the start has passed
 unfoldable pub dataAckStep : Channel → ℕ → Stepped
 dataAckStep c number =
-    if not (eqb (c .state) opened) then refusing c refusal.State
+    if not (eqb (c .phase .state) opened) then refusing c refusal.State
     else if not (isAwaited c (awayOf c number)) then refusing c refusal.Ignored
     else record { channel = advanced (recorded c (awayOf c number)); answer = Done 0 (confirmedAt (recorded c (awayOf c number))) }

@@ -27,16 +27,18 @@ fn control_acked(c: Channel) -> Channel
     requires { ⌜ Ringed (c .limits) (c .window) ⌝ }
     ensures { λ r. ⌜ r ≡ controlAcked c ⌝ }
 {
-    if c.state == CLOSING {
+    if c.phase.state == CLOSING {
         return park(c, CLOSED, none());
     }
-    if c.kept != 0 {
+    if c.phase.kept != 0 {
         return park(c, CLOSING, ready());
     }
     let control = none();
+    let mut phase = c.phase;
+    phase.state = OPEN;
+    phase.control = control;
     let mut d = c;
-    d.state = OPEN;
-    d.control = control;
+    d.phase = phase;
     d
 }
 
@@ -54,13 +56,13 @@ pub fn control_ack_step(c: Channel, number: u8) -> Stepped
     requires { ⌜ Ringed (c .limits) (c .window) ⌝ }
     ensures { λ r. ⌜ r ≡ controlAckStep c number ⌝ }
 {
-    if !awaits_control(c.state) {
+    if !awaits_control(c.phase.state) {
         return refused(c, Refusal::State);
     }
     if number != 0 {
         return refused(c, Refusal::Ignored);
     }
-    if !is_out(c.control) {
+    if !is_out(c.phase.control) {
         return refused(c, Refusal::Ignored);
     }
     done(control_acked(c), 0)

@@ -70,7 +70,7 @@ pub fn data_ack_step(c: Channel, number: u8) -> Stepped
     requires { ⌜ Ringed (c .limits) (c .window) ⌝ }
     ensures { λ r. ⌜ r ≡ dataAckStep c number ⌝ }
 {
-    if c.state != OPEN {
+    if c.phase.state != OPEN {
         return refused(c, Refusal::State);
     }
     let d = away(number, c.window.start) as usize;

@@ -55,7 +55,7 @@ fn control_kind(state: u8) -> u8
 fn hand_control(node: Node, c: Channel, out: &mut [u8]) -> Stepped
     ensures { λ r. ⌜ (r ≡ sentStep c (controlOut c) 0 (length (now (out .entry)))) × (now (out .exit) ≡ sentOut (controlFields node c) [] (now (out .entry))) ⌝ }
 {
-    let kind = control_kind(c.state);
+    let kind = control_kind(c.phase.state);
     let fields = outgoing(node, c.addresses, kind, WHOLE, 0);
     let nothing: [u8; 0] = [];
     send(c, control_out(c), fields, &nothing, out)

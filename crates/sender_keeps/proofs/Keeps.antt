@@ -49,7 +49,7 @@ module _ (direction state : ℕ) (w : Window) (s : direction ≡ sends) where
 -- ---- a channel that stands, from its parts
 
 pub stand : (c : Channel) (lens : List ℕ) → fitLimits (c .limits) ≡ true → length lens ≡ c .limits .slots → Named c → Counted (c .limits) (c .window)
-    → sided (c .addresses .direction) (c .state) (c .window) ≡ true
+    → sided (c .addresses .direction) (c .phase .state) (c .window) ≡ true
     → ((i : ℕ) → i < heldIn (c .window) → getD (c .marks) (roundOf (c .limits .slots) (oldestOf (c .limits .slots) (c .window) + i)) 0 ≡ 0 → ⊥)
     → ((i : ℕ) → i < c .limits .slots → slotFit (eqb (c .addresses .direction) sends) (c .limits .payload) (getD (c .marks) i 0) (getD lens (slotOf i) 0) ≡ true)
     → Standing c lens

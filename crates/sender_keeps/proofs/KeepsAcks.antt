@@ -29,7 +29,7 @@ abbrev onward : Window → ℕ → ℕ → ℕ → Window
 onward w place n behind =
     record { start = (w .start + n) % 256; place = place; behind = behind; ahead = w .ahead - n; flight = w .flight - n; way = w .way }
 
-module _ (c : Channel) (lens : List ℕ) (h : Standing c lens) (s : c .addresses .direction ≡ sends) (o : c .state ≡ opened) (n : ℕ)
+module _ (c : Channel) (lens : List ℕ) (h : Standing c lens) (s : c .addresses .direction ≡ sends) (o : c .phase .state ≡ opened) (n : ℕ)
     (few : n ≤ c .window .flight) where
   -- no unit is confirmed: all that is passed stays
   none-confirmed : Standing (withMarks (withWindow c (onward (c .window) (placeAt c n) n (c .window .behind + n))) (c .marks)) lens
@@ -38,7 +38,7 @@ module _ (c : Channel) (lens : List ℕ) (h : Standing c lens) (s : c .addresses
       let slots = c .limits .slots in
       let small = named-is c (h .named) in
       let k = counted-is (c .limits) w (h .ring) (h .flight) in
-      let z = sided-way (c .addresses .direction) (c .state) w s (h .sided) in
+      let z = sided-way (c .addresses .direction) (c .phase .state) w s (h .sided) in
       let old = oldestOf slots w in
       let p = back-lt slots (w .place) (w .behind) (k .place) in
       let all : w .behind + n ≤ slots = omega (arith, k .held, k .flight) in
@@ -54,7 +54,7 @@ module _ (c : Channel) (lens : List ℕ) (h : Standing c lens) (s : c .addresses
         way = omega (arith, z);
         unit = k .unit;
       })
-      (open-sided (c .addresses .direction) (c .state) (onward w (placeAt c n) n (w .behind + n)) s z o)
+      (open-sided (c .addresses .direction) (c .phase .state) (onward w (placeAt c n) n (w .behind + n)) s z o)
       (λ i less q. h .held i (omega (arith, k .flight)) (ap (λ (x : ℕ). getD (c .marks) (roundOf slots (x + i)) 0) (sym same) ∙ q))
       (h .slots)
 
@@ -69,7 +69,7 @@ module _ (c : Channel) (lens : List ℕ) (h : Standing c lens) (s : c .addresses
       let slots = c .limits .slots in
       let small = named-is c (h .named) in
       let k = counted-is (c .limits) w (h .ring) (h .flight) in
-      let z = sided-way (c .addresses .direction) (c .state) w s (h .sided) in
+      let z = sided-way (c .addresses .direction) (c .phase .state) w s (h .sided) in
       let old = oldestOf slots w in
       let p = back-lt slots (w .place) (w .behind) (k .place) in
       let all : w .behind + n ≤ slots = omega (arith, k .held, k .flight) in
@@ -93,7 +93,7 @@ module _ (c : Channel) (lens : List ℕ) (h : Standing c lens) (s : c .addresses
         way = omega (arith, z);
         unit = k .unit;
       })
-      (open-sided (c .addresses .direction) (c .state) (onward w (placeAt c n) n (n - done)) s z o)
+      (open-sided (c .addresses .direction) (c .phase .state) (onward w (placeAt c n) n (n - done)) s z o)
       (λ i less q.
       let far : gone + i < slots = omega (arith, k .held, k .flight) in
       h .held (gone + i) (omega (arith, k .flight))
@@ -103,7 +103,7 @@ module _ (c : Channel) (lens : List ℕ) (h : Standing c lens) (s : c .addresses
       ∙ q))
       (cleared-fit (eqb (c .addresses .direction) sends) (c .limits .payload) (c .marks) lens slots gone old p (h .slots))
 
-advanced-stands : (c : Channel) (lens : List ℕ) → Standing c lens → c .addresses .direction ≡ sends → c .state ≡ opened → Standing (advanced c) lens
+advanced-stands : (c : Channel) (lens : List ℕ) → Standing c lens → c .addresses .direction ≡ sends → c .phase .state ≡ opened → Standing (advanced c) lens
 unfolding advanced
 advanced-stands c lens h s o = go (eqb done 0)
   where

@@ -48,27 +48,27 @@ module _ (c : Channel) (lens : List ℕ) (h : Standing c lens) where
   pub timers-stand : (t : Timers) → Standing (withTimers c t) lens
   timers-stand t =
       let n = named-is c (h .named) in
-      changed-stands (c .reason) (c .kept) (c .control) t (c .acked) (n .reason) (n .kept) (n .control)
+      changed-stands (c .phase .reason) (c .phase .kept) (c .phase .control) t (c .acked) (n .reason) (n .kept) (n .control)
 
   pub acked-stand : (a : List ℕ) → Standing (withAcked c a) lens
   acked-stand a =
       let n = named-is c (h .named) in
-      changed-stands (c .reason) (c .kept) (c .control) (c .timers) a (n .reason) (n .kept) (n .control)
+      changed-stands (c .phase .reason) (c .phase .kept) (c .phase .control) (c .timers) a (n .reason) (n .kept) (n .control)
 
   pub control-stands : (l : Lone) → l .state ≤ 3 → Standing (withControl c l) lens
   control-stands l small =
       let n = named-is c (h .named) in
-      changed-stands (c .reason) (c .kept) l (c .timers) (c .acked) (n .reason) (n .kept) small
+      changed-stands (c .phase .reason) (c .phase .kept) l (c .timers) (c .acked) (n .reason) (n .kept) small
 
   pub kept-stands : (k : ℕ) → k ≤ 1 → Standing (withKept c k) lens
   kept-stands k small =
       let n = named-is c (h .named) in
-      changed-stands (c .reason) k (c .control) (c .timers) (c .acked) (n .reason) small (n .control)
+      changed-stands (c .phase .reason) k (c .phase .control) (c .timers) (c .acked) (n .reason) small (n .control)
 
   pub reason-stands : (why : ℕ) → why ≤ 5 → Standing (withReason c why) lens
   reason-stands why small =
       let n = named-is c (h .named) in
-      changed-stands why (c .kept) (c .control) (c .timers) (c .acked) small (n .kept) (n .control)
+      changed-stands why (c .phase .kept) (c .phase .control) (c .timers) (c .acked) small (n .kept) (n .control)
 
   -- ---- leaving OPEN, and going to it
 
@@ -78,7 +78,7 @@ module _ (c : Channel) (lens : List ℕ) (h : Standing c lens) where
     parked-stands state control small lone =
         let n = named-is c (h .named) in
         let k = counted-is (c .limits) (c .window) (h .ring) (h .flight) in
-        let z = sided-way (c .addresses .direction) (c .state) (c .window) s (h .sided) in
+        let z = sided-way (c .addresses .direction) (c .phase .state) (c .window) s (h .sided) in
         let slots = c .limits .slots in
         let o = back-lt slots (c .window .place) (c .window .behind) (k .place) in
         stand (parked c state control) lens (h .fit) (h .count)
@@ -94,7 +94,7 @@ module _ (c : Channel) (lens : List ℕ) (h : Standing c lens) where
     opened-stands =
         let n = named-is c (h .named) in
         let k = counted-is (c .limits) (c .window) (h .ring) (h .flight) in
-        let z = sided-way (c .addresses .direction) (c .state) (c .window) s (h .sided) in
+        let z = sided-way (c .addresses .direction) (c .phase .state) (c .window) s (h .sided) in
         stand (withControl (withState c opened) noLone) lens (h .fit) (h .count)
         (record { direction = n .direction; state = omega arith; reason = n .reason; kept = n .kept; accepted = n .accepted; control = omega arith })
         k
@@ -149,5 +149,5 @@ tick-stands c lens h s =
     let shut = shut-stands c lens h s retriesOut (omega arith) in
     tick-cases c (λ (k : Channel). Standing k lens) (λ e. shut) (λ e. shut) (λ e. shut)
     (timers-stand c lens h _)
-    (control-stands c lens h (fallen (c .control) .lone) (fallen-state (c .control) (named-is c (h .named) .control)))
+    (control-stands c lens h (fallen (c .phase .control) .lone) (fallen-state (c .phase .control) (named-is c (h .named) .control)))
     h

@@ -23,14 +23,14 @@ use Rattle.sender_keeps.proofs.KeepsDirectives.{timers-stand, control-s
 
 module _ (c : Channel) (lens : List ℕ) (h : Standing c lens) (s : c .addresses .direction ≡ sends) where
   -- one more in flight
-  new-stands : c .state ≡ opened → c .window .flight < c .window .ahead → c .window .flight < c .limits .window → Standing (newOut c) lens
+  new-stands : c .phase .state ≡ opened → c .window .flight < c .window .ahead → c .window .flight < c .limits .window → Standing (newOut c) lens
   new-stands o a b =
       let n = named-is c (h .named) in
       let k = counted-is (c .limits) (c .window) (h .ring) (h .flight) in
       stand (newOut c) lens (h .fit) (h .count)
       (record { direction = n .direction; state = n .state; reason = n .reason; kept = n .kept; accepted = n .accepted; control = n .control })
       (record { place = k .place; held = k .held; flight = omega arith; window = omega arith; way = k .way; unit = k .unit })
-      (open-sided (c .addresses .direction) (c .state) (oneMore (c .window)) s (sided-way (c .addresses .direction) (c .state) (c .window) s (h .sided)) o)
+      (open-sided (c .addresses .direction) (c .phase .state) (oneMore (c .window)) s (sided-way (c .addresses .direction) (c .phase .state) (c .window) s (h .sided)) o)
       (h .held)
       (h .slots)
 
@@ -40,7 +40,7 @@ module _ (c : Channel) (lens : List ℕ) (h : Standing c lens) (s : c .addresses
     where
       go : (a : Bool) → eqb rank 0 ≡ a → (b : Bool) → eqb rank 1 ≡ b
           → Standing (if a then controlOut c else if b then againOut c else newOut c) lens
-      go true p b q = control-stands c lens h (handedOut (c .control) (c .limits .timeout) (c .limits .retries)) (omega arith)
+      go true p b q = control-stands c lens h (handedOut (c .phase .control) (c .limits .timeout) (c .limits .retries)) (omega arith)
       go false p true q = timers-stand c lens h (againOut c .timers)
       go false p false q =
           let x = eqb-false rank 0 p in

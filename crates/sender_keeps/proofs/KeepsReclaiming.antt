@@ -19,15 +19,15 @@ use Rattle.sender_keeps.proofs.Cases.{reclaim-cases}
 use Rattle.sender_keeps.proofs.Keeps.{sided-way, sided-still, still-sided, stand, back-none, cleared-fit}
 
 -- the oldest n segments are gone
-dropped-stands : (c : Channel) (lens : List ℕ) → Standing c lens → c .addresses .direction ≡ sends → (c .state ≡ opened → ⊥)
+dropped-stands : (c : Channel) (lens : List ℕ) → Standing c lens → c .addresses .direction ≡ sends → (c .phase .state ≡ opened → ⊥)
     → (n : ℕ) → n ≤ c .window .ahead → Standing (dropped c n) lens
 dropped-stands c lens h s shut n l =
     let w = c .window in
     let slots = c .limits .slots in
     let small = named-is c (h .named) in
     let k = counted-is (c .limits) w (h .ring) (h .flight) in
-    let z = sided-way (c .addresses .direction) (c .state) w s (h .sided) in
-    let still = sided-still (c .addresses .direction) (c .state) w s shut (h .sided) in
+    let z = sided-way (c .addresses .direction) (c .phase .state) w s (h .sided) in
+    let still = sided-still (c .addresses .direction) (c .phase .state) w s shut (h .sided) in
     let from = roundOf slots (w .place + n) in
     let f : from < slots = round-lt slots (w .place + n) (omega (arith, k .place, k .held)) in
     let old : backOf slots (w .place) (w .behind) ≡ w .place = ap (backOf slots (w .place)) (still .0) ∙ back-none slots (w .place) (k .place) in
@@ -42,7 +42,7 @@ dropped-stands c lens h s shut n l =
       way = k .way;
       unit = k .unit;
     })
-    (still-sided (c .addresses .direction) (c .state) (dropped c n .window) s z (still .0) (still .1))
+    (still-sided (c .addresses .direction) (c .phase .state) (dropped c n .window) s z (still .0) (still .1))
     (λ i less q.
     let far : n + i < slots = omega (arith, still .0, k .held) in
     let on : roundOf slots (from + i) ≡ roundOf slots (w .place + (n + i)) = round-add slots (w .place) n i (omega (arith, k .place)) in

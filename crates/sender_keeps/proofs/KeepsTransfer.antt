@@ -89,7 +89,7 @@ module _ (c : Channel) (u lens : List ℕ) (h : Standing c lens) (s : c .address
       let f = fit-is (c .limits) (h .fit) in
       let n = named-is c (h .named) in
       let k = counted-is (c .limits) w (h .ring) (h .flight) in
-      let z = sided-way (c .addresses .direction) (c .state) w s (h .sided) in
+      let z = sided-way (c .addresses .direction) (c .phase .state) w s (h .sided) in
       let old = oldestOf slots w in
       let p = back-lt slots (w .place) (w .behind) (k .place) in
       let from = freeAt c in
@@ -106,7 +106,7 @@ module _ (c : Channel) (u lens : List ℕ) (h : Standing c lens) (s : c .address
       stand (filedUnit c (length u)) lengths (h .fit) (filed-lens-length slotOf most slots u lens count 0 from ∙ h .count)
       (record { direction = n .direction; state = n .state; reason = n .reason; kept = n .kept; accepted = n .accepted; control = n .control })
       (record { place = k .place; held = omega arith; flight = omega (arith, k .flight); window = k .window; way = k .way; unit = k .unit })
-      (open-sided (c .addresses .direction) (c .state) (longer w count) s z (t .0))
+      (open-sided (c .addresses .direction) (c .phase .state) (longer w count) s z (t .0))
       (λ i less zero-mark.
       ⊎-elim
       (λ before.

@@ -128,7 +128,7 @@ module _ (c : Channel) (mem lens : List ℕ) (s : Sender) (a : Asked c mem lens)
   away-is e = ap (distance number) (sym e)
 
   module _ (o : isOpen (s .phase) ≡ true) where
-    in-open : c .state ≡ record-of.opened
+    in-open : c .phase .state ≡ record-of.opened
     in-open = r .state ∙ open-state (s .phase) o
 
     second : rank (s .phase) ≡ 2
@@ -187,7 +187,7 @@ module _ (c : Channel) (mem lens : List ℕ) (s : Sender) (a : Asked c mem lens)
         giveCount (endings gone),
       )
 
-  same-state : (k : Channel) → advanced k .state ≡ k .state
+  same-state : (k : Channel) → advanced k .phase .state ≡ k .phase .state
   unfolding advanced
   same-state k = refl
 

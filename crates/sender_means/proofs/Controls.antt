@@ -121,13 +121,13 @@ module _ (c : Channel) (mem lens : List ℕ) (s : Sender) (a : Asked c mem lens)
 
   -- ---- the phase of a state
 
-  is-opened : c .state ≡ record-of.opened → rank (s .phase) ≡ 2
+  is-opened : c .phase .state ≡ record-of.opened → rank (s .phase) ≡ 2
   is-opened e = ap rank (state-opened (s .phase) (sym (r .state) ∙ e))
 
-  is-enabled : c .state ≡ record-of.enabled → s .phase ≡ enabled
+  is-enabled : c .phase .state ≡ record-of.enabled → s .phase ≡ enabled
   is-enabled e = state-enabled (s .phase) (sym (r .state) ∙ e)
 
-  is-closing : c .state ≡ record-of.closing → rank (s .phase) ≡ 3
+  is-closing : c .phase .state ≡ record-of.closing → rank (s .phase) ≡ 3
   is-closing e = ap rank (state-closing (s .phase) (sym (r .state) ∙ e))
 
   -- inactive
@@ -135,7 +135,7 @@ module _ (c : Channel) (mem lens : List ℕ) (s : Sender) (a : Asked c mem lens)
   shuts h l why =
       let q = parked c record-of.closed noLone in
       goes (shutFor c why) mem lens s c shut h l
-      (changed-sends q mem lens (inPhase s shut) why (q .kept) (q .control) (q .timers) (leaves shut record-of.closed noLone refl (omega arith) h))
+      (changed-sends q mem lens (inPhase s shut) why (q .phase .kept) (q .phase .control) (q .timers) (leaves shut record-of.closed noLone refl (omega arith) h))
 
   -- the Open is acknowledged
   opens : s .phase ≡ enabled → Sends (withControl (withState c record-of.opened) noLone) mem lens (inPhase s opened)
@@ -189,7 +189,7 @@ module _ (c : Channel) (mem lens : List ℕ) (s : Sender) (a : Asked c mem lens)
       let z = is-opened e in
       goes (parked c record-of.closing readyLone) mem lens s c closing (omega arith) (omega arith)
       (leaves closing record-of.closing readyLone refl (omega arith) (omega arith)))
-      (stays (withKept c 1) mem lens s c (changed-sends c mem lens s (c .reason) 1 (c .control) (c .timers) r))
+      (stays (withKept c 1) mem lens s c (changed-sends c mem lens s (c .phase .reason) 1 (c .phase .control) (c .timers) r))
 
   pub control-ack-sends : (number : ℕ) → Moves c (controlAckStep c number .channel) mem lens s
   control-ack-sends number =
@@ -213,9 +213,9 @@ module _ (c : Channel) (mem lens : List ℕ) (s : Sender) (a : Asked c mem lens)
       (λ e. let z = is-opened e in shuts (omega arith) (omega arith) retriesOut)
       (λ e. let z : rank (s .phase) ≡ 1 = ap rank (is-enabled e) in shuts (omega arith) (omega arith) retriesOut)
       (λ e. let z = is-closing e in shuts (omega arith) (omega arith) retriesOut)
-      (stays (withTimers c timers) mem lens s c (changed-sends c mem lens s (c .reason) (c .kept) (c .control) timers r))
-      (stays (withControl c (fallen (c .control) .lone)) mem lens s c
-      (changed-sends c mem lens s (c .reason) (c .kept) (fallen (c .control) .lone) (c .timers) r))
+      (stays (withTimers c timers) mem lens s c (changed-sends c mem lens s (c .phase .reason) (c .phase .kept) (c .phase .control) timers r))
+      (stays (withControl c (fallen (c .phase .control) .lone)) mem lens s c
+      (changed-sends c mem lens s (c .phase .reason) (c .phase .kept) (fallen (c .phase .control) .lone) (c .timers) r))
       (stays c mem lens s c r)
 
   pub open-sends : (numberOf (openStep c .answer) ≡ 0 → s .phase ≡ fresh) → Opens c (openStep c .channel) mem lens s

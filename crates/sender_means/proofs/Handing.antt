@@ -62,7 +62,7 @@ nextAt s n = record { phase = s .phase; line = s .line; oldest = s .oldest; star
 
 -- what is shown of the hand-out of Data of a rank, where it is the rank of the packet that is ready
 pub record DataOut (c : Channel) (mem lens : List ℕ) (s : Sender) (rank : ℕ) : Type 0 where
-  pub opened : c .state ≡ record-of.opened
+  pub opened : c .phase .state ≡ record-of.opened
   pub away : segmentFor c rank < 128
   pub may : mayHandOut (limitsOf (c .limits)) s (s .start + segmentFor c rank) ≡ true
   pub related : Sends (nextOut c rank) mem lens (handedOut true s (s .start + segmentFor c rank) .0)
@@ -74,9 +74,9 @@ module _ (c : Channel) (mem lens : List ℕ) (s : Sender) (a : Asked c mem lens)
   pub control-out-sends : Sends (nextOut c 0) mem lens s
   unfolding nextOut
   control-out-sends =
-      changed-sends c mem lens s (c .reason) (c .kept) (lone.handedOut (c .control) (c .limits .timeout) (c .limits .retries)) (c .timers) r
+      changed-sends c mem lens s (c .phase .reason) (c .phase .kept) (lone.handedOut (c .phase .control) (c .limits .timeout) (c .limits .retries)) (c .timers) r
 
-  module _ (o : c .state ≡ record-of.opened) where
+  module _ (o : c .phase .state ≡ record-of.opened) where
     is-open : s .phase ≡ ends-of.opened
     is-open = state-opened (s .phase) (sym (r .state) ∙ o)
 
@@ -150,7 +150,7 @@ module _ (c : Channel) (mem lens : List ℕ) (s : Sender) (a : Asked c mem lens)
             (sym (y .noted k (omega (arith, n .flight))) ∙ eq-eqb _ _ unacked);
         related = subst (λ (i : ℕ). Sends (againOut c) mem lens (nextAt s i))
             (sym (passed-by (eqb (s .start + k) (s .next)) (suc (s .start + k)) (s .next) (ne-eqb (s .start + k) (s .next) (λ q. omega (arith, y .flight)))))
-            (changed-sends c mem lens s (c .reason) (c .kept) (c .control) (againOut c .timers) r);
+            (changed-sends c mem lens s (c .phase .reason) (c .phase .kept) (c .phase .control) (againOut c .timers) r);
         segment = carried-is c mem lens (s .line) (s .oldest) (s .start) (s .next) (s .acked) a x y k (omega (arith, n .flight));
       }
 

@@ -40,11 +40,11 @@ use Rattle.sender_means.proofs.Holding.{held-length, held-lies, Complet
 -- ---- what a reclaim that is answered with 0 has shown
 
 given : (c : Channel) (lens : List ℕ) (n : ℕ) → numberOf (reclaimStep c lens n .answer) ≡ 0
-    → (c .state ≡ record-of.closed) × (c .window .ahead ≡ 0 → ⊥) × (reclaimStep c lens n .channel ≡ dropped c (unitAt c))
+    → (c .phase .state ≡ record-of.closed) × (c .window .ahead ≡ 0 → ⊥) × (reclaimStep c lens n .channel ≡ dropped c (unitAt c))
 given c lens n =
     reclaim-cases c
     (λ (x : Stepped). numberOf (x .answer) ≡ 0
-    → (c .state ≡ record-of.closed) × (c .window .ahead ≡ 0 → ⊥) × (x .channel ≡ dropped c (unitAt c))) lens n
+    → (c .phase .state ≡ record-of.closed) × (c .window .ahead ≡ 0 → ⊥) × (x .channel ≡ dropped c (unitAt c))) lens n
     (λ e. absurd (omega arith)) (λ e. absurd (omega arith)) (λ e. absurd (omega arith)) (λ is some e. (is, some, refl))
 
 -- ---- the oldest segments are gone
@@ -176,5 +176,5 @@ module _ (c : Channel) (mem lens : List ℕ) (s : Sender) (a : Asked c mem lens)
   reclaim-sends e =
       let g = given c lens n e in
       let later = not-begun (g .1) in
-      let still = sided-still (c .addresses .direction) (c .state) (c .window) d (λ o. omega (arith, g .0)) (a .standing .sided) in
+      let still = sided-still (c .addresses .direction) (c .phase .state) (c .window) d (λ o. omega (arith, g .0)) (a .standing .sided) in
       is-given (state-closed (s .phase) (sym (r .state) ∙ g .0) later) (g .2) (r .held later) (still .0) (pos-of-ne-zero (g .1))

@@ -54,7 +54,7 @@ pub record Windowed (c : Channel) (oldest start next : ℕ) (acked : ℕ → Boo
 
 -- the record means the sender. Out of OPEN the window is brought back to the oldest segment, and then it has no meaning
 pub record Sends (c : Channel) (mem lens : List ℕ) (s : Sender) : Type 0 where
-  pub state : c .state ≡ stateOf (s .phase)
+  pub state : c .phase .state ≡ stateOf (s .phase)
   pub before : s .phase ≡ fresh → Before c s
   pub held : 1 ≤ rank (s .phase) → Holds c mem lens (s .line) (s .oldest)
   pub window : 1 ≤ rank (s .phase) → rank (s .phase) ≤ 2 → Windowed c (s .oldest) (s .start) (s .next) (s .acked)
@@ -103,14 +103,14 @@ state-closed shut e h = refl
 -- ---- what it says at once
 
 module _ (c : Channel) (mem lens : List ℕ) (s : Sender) (a : Asked c mem lens) (d : c .addresses .direction ≡ sends) (r : Sends c mem lens s) where
-  pub sends-state : c .state ≡ stateOf (s .phase)
+  pub sends-state : c .phase .state ≡ stateOf (s .phase)
   sends-state = r .state
 
   pub sends-start : 1 ≤ rank (s .phase) → rank (s .phase) ≤ 2 → c .window .start ≡ numberAt (s .start)
   sends-start h k = r .window h k .number
 
 -- a record in CLOSED that holds nothing means a sender before its Open directive
-pub fresh-sends : (c : Channel) (mem lens : List ℕ) → c .state ≡ record-of.closed → heldIn (c .window) ≡ 0 → Sends c mem lens freshSender
+pub fresh-sends : (c : Channel) (mem lens : List ℕ) → c .phase .state ≡ record-of.closed → heldIn (c .window) ≡ 0 → Sends c mem lens freshSender
 fresh-sends c mem lens e n =
     record {
       state = e;

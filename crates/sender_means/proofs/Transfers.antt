@@ -229,20 +229,20 @@ module _ (c : Channel) (mem lens : List ℕ) (s : Sender) (a : Asked c mem lens)
       → leb (length (s .line) - s .oldest + length (cut (c .limits .payload) u)) (c .limits .slots) ≡ b
       → Both (transferred o m b s (cut (c .limits .payload) u))
   go false m b p q t =
-      let closed : c .state ≡ record-of.opened → ⊥
+      let closed : c .phase .state ≡ record-of.opened → ⊥
       = λ e. yes-no (ap isOpen (state-opened (s .phase) (sym (r .state) ∙ e))) p
       in
       let f = closed-accepts c (length u) closed in
       refused refusal.State (transfer-no c u mem lens f ∙ would-state c (length u) closed) f
   go true false b p q t =
-      let o : c .state ≡ record-of.opened = r .state ∙ open-state (s .phase) p in
+      let o : c .phase .state ≡ record-of.opened = r .state ∙ open-state (s .phase) p in
       let long : c .limits .segments < count₁
       = omega (arith, leb-false (length (cut (c .limits .payload) u)) (c .limits .segments) q, cut-length (c .limits .payload) u)
       in
       let f = not-accepted c (length u) count₁ refl o long in
       refused refusal.Long (transfer-no c u mem lens f ∙ would-long c (length u) count₁ refl o long) f
   go true true false p q t =
-      let o : c .state ≡ record-of.opened = r .state ∙ open-state (s .phase) p in
+      let o : c .phase .state ≡ record-of.opened = r .state ∙ open-state (s .phase) p in
       let z : rank (s .phase) ≡ 2 = ap rank (state-opened (s .phase) (sym (r .state) ∙ o)) in
       let x = r .held (omega arith) in
       let len = cut-length (c .limits .payload) u in
@@ -255,7 +255,7 @@ module _ (c : Channel) (mem lens : List ℕ) (s : Sender) (a : Asked c mem lens)
       let f = accepted-by c (length u) count₁ refl o few ∙ lt-leb (heldIn (c .window) + count₁) (c .limits .slots) full in
       refused refusal.NoRoom (transfer-no c u mem lens f ∙ would-room c (length u) count₁ refl o few full) f
   go true true true p q t =
-      let o : c .state ≡ record-of.opened = r .state ∙ open-state (s .phase) p in
+      let o : c .phase .state ≡ record-of.opened = r .state ∙ open-state (s .phase) p in
       let z : rank (s .phase) ≡ 2 = ap rank (state-opened (s .phase) (sym (r .state) ∙ o)) in
       let x = r .held (omega arith) in
       let w = r .window (omega arith) (omega arith) in

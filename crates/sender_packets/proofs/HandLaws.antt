@@ -35,20 +35,20 @@ module _ (c : Channel) where
   unfolding rankOf ready
   rank-control h = chosen (readyControl c) _ _ h
 
-  pub rank-state : readyControl c ≡ false → (c .state ≡ opened → ⊥) → rankOf c ≡ 3
+  pub rank-state : readyControl c ≡ false → (c .phase .state ≡ opened → ⊥) → rankOf c ≡ 3
   unfolding rankOf ready
   rank-state h k = passed-by (readyControl c) _ _ h ∙ simp (ne-eqb _ _ k)
 
-  pub rank-again : readyControl c ≡ false → c .state ≡ opened → againAt c < c .window .flight → rankOf c ≡ 1
+  pub rank-again : readyControl c ≡ false → c .phase .state ≡ opened → againAt c < c .window .flight → rankOf c ≡ 1
   unfolding rankOf ready
   rank-again h k a = passed-by (readyControl c) _ _ h ∙ simp (eq-eqb _ _ k, lt-ltb _ _ a)
 
-  pub rank-new : readyControl c ≡ false → c .state ≡ opened → c .window .flight ≤ againAt c → nextInWindow (c .limits) (c .window) ≡ true
+  pub rank-new : readyControl c ≡ false → c .phase .state ≡ opened → c .window .flight ≤ againAt c → nextInWindow (c .limits) (c .window) ≡ true
       → rankOf c ≡ 2
   unfolding rankOf ready
   rank-new h k a n = passed-by (readyControl c) _ _ h ∙ simp (eq-eqb _ _ k, le-ltb _ _ a) (chosen (nextInWindow (c .limits) (c .window)) _ _ n)
 
-  pub rank-none : readyControl c ≡ false → c .state ≡ opened → c .window .flight ≤ againAt c → nextInWindow (c .limits) (c .window) ≡ false
+  pub rank-none : readyControl c ≡ false → c .phase .state ≡ opened → c .window .flight ≤ againAt c → nextInWindow (c .limits) (c .window) ≡ false
       → rankOf c ≡ 3
   unfolding rankOf ready
   rank-none h k a n = passed-by (readyControl c) _ _ h ∙ simp (eq-eqb _ _ k, le-ltb _ _ a) (passed-by (nextInWindow (c .limits) (c .window)) _ _ n)
@@ -97,23 +97,23 @@ module _ (c : Channel) where
       go (suc (suc (suc k))) l false p false q false s e = absurd (omega arith)
 
   -- ranks 1 and 2 are of OPEN
-  pub rank-open : (r : ℕ) → rankOf c ≡ r → (0 ≡ r → ⊥) → (3 ≡ r → ⊥) → c .state ≡ opened
+  pub rank-open : (r : ℕ) → rankOf c ≡ r → (0 ≡ r → ⊥) → (3 ≡ r → ⊥) → c .phase .state ≡ opened
   unfolding rankOf ready
   rank-open r e z t = go (readyAgain c) refl (readyNew c) refl (not-first (readyControl c) _ _ _ e z .1)
     where
-      go : (x : Bool) → readyAgain c ≡ x → (y : Bool) → readyNew c ≡ y → (if x then 1 else if y then 2 else 3) ≡ r → c .state ≡ opened
-      go true p y q e = eqb-true _ _ (both (eqb (c .state) opened) _ p .0)
-      go false p true q e = eqb-true _ _ (both (eqb (c .state) opened) _ q .0)
+      go : (x : Bool) → readyAgain c ≡ x → (y : Bool) → readyNew c ≡ y → (if x then 1 else if y then 2 else 3) ≡ r → c .phase .state ≡ opened
+      go true p y q e = eqb-true _ _ (both (eqb (c .phase .state) opened) _ p .0)
+      go false p true q e = eqb-true _ _ (both (eqb (c .phase .state) opened) _ q .0)
       go false p false q e = absurd (t e)
 
   pub rank-1-is : rankOf c ≡ 1 → againAt c < c .window .flight
   unfolding ready
-  rank-1-is e = ltb-true _ _ (both (eqb (c .state) opened) _ (rank-ready 1 e (omega arith)) .1)
+  rank-1-is e = ltb-true _ _ (both (eqb (c .phase .state) opened) _ (rank-ready 1 e (omega arith)) .1)
 
   pub rank-2-is : rankOf c ≡ 2 → (c .window .flight < c .window .ahead) × (c .window .flight < c .limits .window)
   unfolding ready
   rank-2-is e =
-      let q = both _ _ (both (eqb (c .state) opened) (nextInWindow (c .limits) (c .window)) (rank-ready 2 e (omega arith)) .1) in
+      let q = both _ _ (both (eqb (c .phase .state) opened) (nextInWindow (c .limits) (c .window)) (rank-ready 2 e (omega arith)) .1) in
       (ltb-true _ _ (q .0), ltb-true _ _ (q .1))
 
 -- ---- segments that wait to be resent: at one that does, at one that does not, and at their end

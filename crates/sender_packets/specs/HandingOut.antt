@@ -37,17 +37,17 @@ againAt c = againIn (c .acked) (c .timers .left) (c .limits .slots) (c .window .
 
 -- the Open in ENABLED, the Close in CLOSING
 abbrev pub readyControl : Channel → Bool
-readyControl c = (eqb (c .state) enabled || eqb (c .state) closing) && isReady (c .control)
+readyControl c = (eqb (c .phase .state) enabled || eqb (c .phase .state) closing) && isReady (c .phase .control)
 
 abbrev pub readyAgain : Channel → Bool
-readyAgain c = eqb (c .state) opened && ltb (againAt c) (c .window .flight)
+readyAgain c = eqb (c .phase .state) opened && ltb (againAt c) (c .window .flight)
 
 -- there is a segment that was not yet handed out, and only the k numbers from the window start may be sent
 abbrev pub nextInWindow : Limits → Window → Bool
 nextInWindow l w = ltb (w .flight) (w .ahead) && ltb (w .flight) (l .window)
 
 abbrev pub readyNew : Channel → Bool
-readyNew c = eqb (c .state) opened && nextInWindow (c .limits) (c .window)
+readyNew c = eqb (c .phase .state) opened && nextInWindow (c .limits) (c .window)
 
 -- a packet of this rank is ready
 unfoldable pub ready : ℕ → Channel → Bool
@@ -65,7 +65,7 @@ rankOf c = if ready 0 c then 0 else if ready 1 c then 1 else if ready 2 c then 2
 
 -- an Open in ENABLED, a Close in CLOSING, both numbered 0
 abbrev pub controlFields : Node → Channel → Fields
-controlFields node c = outgoingOf node (c .addresses) (if eqb (c .state) enabled then 2 else 3) 3 0
+controlFields node c = outgoingOf node (c .addresses) (if eqb (c .phase .state) enabled then 2 else 3) 3 0
 
 -- the i-th segment from the start on: its flags are its mark less 1, its number counts on from the start
 abbrev pub dataFields : Node → Channel → ℕ → Fields
@@ -87,7 +87,7 @@ oneMore w =
     record { start = w .start; place = w .place; behind = w .behind; ahead = w .ahead; flight = w .flight + 1; way = w .way }
 
 abbrev pub controlOut : Channel → Channel
-controlOut c = withControl c (handedOut (c .control) (c .limits .timeout) (c .limits .retries))
+controlOut c = withControl c (handedOut (c .phase .control) (c .limits .timeout) (c .limits .retries))
 
 abbrev pub againOut : Channel → Channel
 againOut c = timedAt c (placeAt c (againAt c)) (getD (c .timers .tries) (placeAt c (againAt c)) 0 - 1)

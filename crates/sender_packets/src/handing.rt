@@ -84,10 +84,10 @@ pub fn rank_of(c: Channel) -> usize
     requires { ⌜ Ringed (c .limits) (c .window) ⌝ }
     ensures { λ r. ⌜ r ≡ rankOf c ⌝ }
 {
-    if is_control_ready(c.state, c.control) {
+    if is_control_ready(c.phase.state, c.phase.control) {
         return 0;
     }
-    if c.state != OPEN {
+    if c.phase.state != OPEN {
         return 3;
     }
     if again_at(c) < c.window.flight {
@@ -121,9 +121,11 @@ fn start_timer(c: Channel, place: usize, tries: u16) -> Channel
 pub fn control_out(c: Channel) -> Channel
     ensures { λ r. ⌜ r ≡ controlOut c ⌝ }
 {
-    let control = hand_out(c.control, c.limits.timeout, c.limits.retries);
+    let control = hand_out(c.phase.control, c.limits.timeout, c.limits.retries);
+    let mut phase = c.phase;
+    phase.control = control;
     let mut d = c;
-    d.control = control;
+    d.phase = phase;
     d
 }
 

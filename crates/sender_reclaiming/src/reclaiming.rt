@@ -34,7 +34,7 @@ pub fn reclaim_step(c: Channel, mem: &[u8], lens: &[u16], out: &mut [u8]) -> Ste
     requires { ⌜ Asked c (now mem) (now lens) ⌝ }
     ensures { λ r. ⌜ (r ≡ reclaimStep c (now (lens .entry)) (length (now (out .entry)))) × (now (out .exit) ≡ reclaimOut c (now (lens .entry)) (now (mem .entry)) (now (out .entry))) ⌝ }
 {
-    if c.state != CLOSED {
+    if c.phase.state != CLOSED {
         return refused(c, Refusal::State);
     }
     let ahead = c.window.ahead;

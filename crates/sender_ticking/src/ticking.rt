@@ -81,9 +81,9 @@ fn data_tick(c: Channel) -> Ticked
 // In ENABLED and CLOSING the control packet's timer falls.
 fn control_tick(c: Channel) -> Ticked
     requires { ⌜ Ringed (c .limits) (c .window) ⌝ }
-    ensures { λ r. ⌜ r ≡ controlTick c (fallen (c .control)) ⌝ }
+    ensures { λ r. ⌜ r ≡ controlTick c (fallen (c .phase .control)) ⌝ }
 {
-    let fallen = fall(c.control);
+    let fallen = fall(c.phase.control);
     if fallen.spent {
         return Ticked {
             channel: shut(c, RETRIES),
@@ -91,8 +91,10 @@ fn control_tick(c: Channel) -> Ticked
         };
     }
     let lone = fallen.lone;
+    let mut phase = c.phase;
+    phase.control = lone;
     let mut d = c;
-    d.control = lone;
+    d.phase = phase;
     Ticked {
         channel: d,
         inactive: false,
@@ -103,13 +105,13 @@ pub fn tick_step(c: Channel) -> Ticked
     requires { ⌜ Ringed (c .limits) (c .window) ⌝ }
     ensures { λ r. ⌜ r ≡ tickStep c ⌝ }
 {
-    if c.state == OPEN {
+    if c.phase.state == OPEN {
         return data_tick(c);
     }
-    if c.state == ENABLED {
+    if c.phase.state == ENABLED {
         return control_tick(c);
     }
-    if c.state == CLOSING {
+    if c.phase.state == CLOSING {
         return control_tick(c);
     }
     Ticked {

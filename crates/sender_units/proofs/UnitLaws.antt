@@ -26,7 +26,7 @@ use Rattle.sender.proofs.AskedLaws.{mark-fits}
 -- ---- transfer
 
 module _ (c : Channel) (n count : ℕ) (e : count ≡ segmentsOf (c .limits .payload) n) where
-  module _ (h : c .state ≡ opened) where
+  module _ (h : c .phase .state ≡ opened) where
     pub would-long : c .limits .segments < count → wouldTransfer c n ≡ refusing c refusal.Long
     unfolding wouldTransfer
     would-long k = simp (eq-eqb _ _ h, ← e, lt-ltb _ _ k)
@@ -47,7 +47,7 @@ module _ (c : Channel) (n count : ℕ) (e : count ≡ segmentsOf (c .limits .pay
     unfolding isAccepted
     accepted-by k = simp (eq-eqb _ _ h, ← e, le-leb _ _ k)
 
-pub would-state : (c : Channel) (n : ℕ) → (c .state ≡ opened → ⊥) → wouldTransfer c n ≡ refusing c refusal.State
+pub would-state : (c : Channel) (n : ℕ) → (c .phase .state ≡ opened → ⊥) → wouldTransfer c n ≡ refusing c refusal.State
 unfolding wouldTransfer
 would-state c n h = simp (ne-eqb _ _ h)
 
@@ -55,7 +55,7 @@ would-state c n h = simp (ne-eqb _ _ h)
 pub would-same : (c : Channel) (n : ℕ) → wouldTransfer c n .channel ≡ c
 unfolding wouldTransfer
 would-same c n =
-    go (eqb (c .state) opened) (ltb (c .limits .segments) (segmentsOf (c .limits .payload) n))
+    go (eqb (c .phase .state) opened) (ltb (c .limits .segments) (segmentsOf (c .limits .payload) n))
     (ltb (c .limits .slots) (heldIn (c .window) + segmentsOf (c .limits .payload) n))
   where
     go : (a b d : Bool)
@@ -69,12 +69,12 @@ would-same c n =
     go true false true = refl
     go true false false = refl
 
-pub closed-accepts : (c : Channel) (n : ℕ) → (c .state ≡ opened → ⊥) → isAccepted c n ≡ false
+pub closed-accepts : (c : Channel) (n : ℕ) → (c .phase .state ≡ opened → ⊥) → isAccepted c n ≡ false
 unfolding isAccepted
 closed-accepts c n h = simp (ne-eqb _ _ h)
 
 pub accepted-is : (c : Channel) (n : ℕ) → isAccepted c n ≡ true
-    → (c .state ≡ opened) × (segmentsOf (c .limits .payload) n ≤ c .limits .segments) × (heldIn (c .window) + segmentsOf (c .limits .payload) n ≤ c .limits .slots)
+    → (c .phase .state ≡ opened) × (segmentsOf (c .limits .payload) n ≤ c .limits .segments) × (heldIn (c .window) + segmentsOf (c .limits .payload) n ≤ c .limits .slots)
 unfolding isAccepted
 accepted-is c n e =
     let p = both _ _ e in
@@ -129,15 +129,15 @@ filed-is c n count from ahead marks acked ec ef ea em ek =
 -- ---- a unit reclaimed
 
 module _ (c : Channel) (lens mem out : List ℕ) where
-  pub reclaim-state : (c .state ≡ closed → ⊥) → reclaimStep c lens (length out) ≡ refusing c refusal.State
+  pub reclaim-state : (c .phase .state ≡ closed → ⊥) → reclaimStep c lens (length out) ≡ refusing c refusal.State
   unfolding reclaimStep
   reclaim-state h = simp (ne-eqb _ _ h)
 
-  pub reclaim-state-out : (c .state ≡ closed → ⊥) → reclaimOut c lens mem out ≡ out
+  pub reclaim-state-out : (c .phase .state ≡ closed → ⊥) → reclaimOut c lens mem out ≡ out
   unfolding reclaimOut
   reclaim-state-out h = simp (ne-eqb _ _ h)
 
-  module _ (h : c .state ≡ closed) where
+  module _ (h : c .phase .state ≡ closed) where
     pub reclaim-none : c .window .ahead ≡ 0 → reclaimStep c lens (length out) ≡ refusing c refusal.Nothing
     unfolding reclaimStep
     reclaim-none k = simp (eq-eqb _ _ h, eq-eqb _ _ k)

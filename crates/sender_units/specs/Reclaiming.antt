@@ -38,14 +38,14 @@ dropped c n =
 
 unfoldable pub reclaimStep : Channel → List ℕ → ℕ → Stepped
 reclaimStep c lens n =
-    if not (eqb (c .state) closed) then refusing c refusal.State
+    if not (eqb (c .phase .state) closed) then refusing c refusal.State
     else if eqb (c .window .ahead) 0 then refusing c refusal.Nothing
     else if ltb n (sizeAt c lens) then refusing c (refusal.Small (sizeAt c lens))
     else doing (dropped c (unitAt c)) (sizeAt c lens)
 
 unfoldable pub reclaimOut : Channel → List ℕ → List ℕ → List ℕ → List ℕ
 reclaimOut c lens mem out =
-    if not (eqb (c .state) closed) then out
+    if not (eqb (c .phase .state) closed) then out
     else if eqb (c .window .ahead) 0 then out
     else if ltb (length out) (sizeAt c lens) then out
     else laid out 0 (octetsIn slotOf (c .limits .payload) mem lens (c .limits .slots) (unitAt c) (c .window .place))

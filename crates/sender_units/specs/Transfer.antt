@@ -20,14 +20,14 @@ use Rattle.sender.specs.Directives.{placeAt}
 -- units are accepted in OPEN only; over M segments gives 6; slots held + slots needed > slots gives 7
 unfoldable pub wouldTransfer : Channel → ℕ → Stepped
 wouldTransfer c n =
-    if not (eqb (c .state) opened) then refusing c refusal.State
+    if not (eqb (c .phase .state) opened) then refusing c refusal.State
     else if ltb (c .limits .segments) (segmentsOf (c .limits .payload) n) then refusing c refusal.Long
     else if ltb (c .limits .slots) (heldIn (c .window) + segmentsOf (c .limits .payload) n) then refusing c refusal.NoRoom
     else doing c 0
 
 unfoldable pub isAccepted : Channel → ℕ → Bool
 isAccepted c n =
-    eqb (c .state) opened
+    eqb (c .phase .state) opened
     && leb (segmentsOf (c .limits .payload) n) (c .limits .segments)
     && leb (heldIn (c .window) + segmentsOf (c .limits .payload) n) (c .limits .slots)
 

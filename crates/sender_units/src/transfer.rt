@@ -15,7 +15,7 @@ pub fn would_transfer(c: Channel, n: usize) -> Stepped
     requires { ⌜ Ringed (c .limits) (c .window) ⌝ }
     ensures { λ r. ⌜ r ≡ wouldTransfer c n ⌝ }
 {
-    if c.state != OPEN {
+    if c.phase.state != OPEN {
         return refused(c, Refusal::State);
     }
     let needed = slots::segments(c.limits.payload, n);
@@ -32,7 +32,7 @@ fn is_accepted(c: Channel, n: usize) -> bool
     requires { ⌜ Ringed (c .limits) (c .window) ⌝ }
     ensures { λ r. ⌜ r ≡ isAccepted c n ⌝ }
 {
-    if c.state != OPEN {
+    if c.phase.state != OPEN {
         return false;
     }
     let count = slots::segments(c.limits.payload, n);

@@ -57,7 +57,7 @@ fn opened(direction: u8, start: u8) -> Channel {
             retries: 2,
         },
     });
-    c.state = OPEN;
+    c.phase.state = OPEN;
     c.window.start = start;
     c
 }

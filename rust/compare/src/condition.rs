@@ -44,11 +44,11 @@ fn stands(record: &Channel, lengths: &[u16]) -> bool {
 
 fn is_named(record: &Channel) -> bool {
     record.addresses.direction <= 1
-        && record.state <= 3
-        && record.reason <= 5
-        && record.kept <= 1
-        && record.accepted <= 1
-        && record.control.state <= 3
+        && record.phase.state <= 3
+        && record.phase.reason <= 5
+        && record.phase.kept <= 1
+        && record.phase.accepted <= 1
+        && record.phase.control.state <= 3
 }
 
 /// `inRing`, `inFlight` and `sided`.
@@ -63,7 +63,7 @@ fn is_counted(record: &Channel) -> bool {
         && window.way < limits.segments;
     let sided = if record.addresses.direction == direction::SENDS {
         let rests = window.behind == 0 && window.flight == 0;
-        window.way == 0 && (record.state == state::OPEN || rests)
+        window.way == 0 && (record.phase.state == state::OPEN || rests)
     } else {
         window.ahead == 0
     };

@@ -45,16 +45,16 @@ pub fn assert_same(record: &Channel, settings: &Settings, direction: Direction, 
     }
     assert_eq!(record.window, window);
     assert_marks(record, &sight.held);
-    assert_eq!(record.kept, u8::from(sight.close_kept));
+    assert_eq!(record.phase.kept, u8::from(sight.close_kept));
     assert_eq!(
         u32::from(record.timers.closing),
         sight.close_timer.unwrap_or(0)
     );
-    assert_eq!(record.control, control(sight.control, record));
+    assert_eq!(record.phase.control, control(sight.control, record));
     if sends && sight.start.is_some() {
         assert_courses(record, &sight.held);
     } else if sight.start.is_some() {
-        assert_eq!(record.accepted, u8::from(sight.accepted));
+        assert_eq!(record.phase.accepted, u8::from(sight.accepted));
     }
 }
 

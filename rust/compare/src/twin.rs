@@ -144,7 +144,10 @@ impl Twin {
             let record = &self.table[index];
             let state = self.peer.state(index).map(state_number);
             let reason = self.peer.reason(index).map(reason_number);
-            assert_eq!((Some(record.state), Some(record.reason)), (state, reason));
+            assert_eq!(
+                (Some(record.phase.state), Some(record.phase.reason)),
+                (state, reason)
+            );
             let sight = self.peer.sight(index).expect("a record");
             assert_same(record, settings, self.direction(index), &sight);
         }

@@ -15,7 +15,7 @@ mod words;
 pub use answer::{Answer, Refusal};
 pub use c::{Fields, Reading, Said, Writing};
 pub use node_table::{storage, NodeTable};
-pub use record::{Addresses, Channel, Limits, Lone, Node, Settings, Timers, Window};
+pub use record::{Addresses, Channel, Limits, Lone, Node, Phase, Settings, Timers, Window};
 pub use words::{Reason, State};
 
 /// The check sum over these octets.

@@ -61,14 +61,14 @@ impl<'a> NodeTable<'a> {
     pub fn state(&self, index: usize) -> Option<State> {
         self.table
             .get(index)
-            .and_then(|record| State::of(record.state))
+            .and_then(|record| State::of(record.phase.state))
     }
 
     /// Why a channel went inactive, if there is one of this index and it did.
     pub fn reason(&self, index: usize) -> Option<Reason> {
         self.table
             .get(index)
-            .and_then(|record| Reason::of(record.reason))
+            .and_then(|record| Reason::of(record.phase.reason))
     }
 
     /// An Open directive.

@@ -69,6 +69,22 @@ pub struct Lone {
     pub tries: u16,
 }
 
+/// `PeatPhase`: where an opening stands.
+#[repr(C)]
+#[derive(Clone, Copy, Debug, Default, PartialEq, Eq)]
+pub struct Phase {
+    /// One of [`state`].
+    pub state: u8,
+    /// One of [`reason`].
+    pub reason: u8,
+    /// Not 0: a Close directive waits for the Open's ack.
+    pub kept: u8,
+    /// Not 0: Data was accepted in this opening.
+    pub accepted: u8,
+    /// The Open or the Close of a sender.
+    pub control: Lone,
+}
+
 /// `PeatWindow`: the window's first number, and what lies before it and from it
 /// on.
 #[repr(C)]
@@ -110,16 +126,8 @@ pub struct Channel {
     pub addresses: Addresses,
     /// What it is allowed.
     pub limits: Limits,
-    /// One of [`state`].
-    pub state: u8,
-    /// One of [`reason`].
-    pub reason: u8,
-    /// Not 0: a Close directive waits for the Open's ack.
-    pub kept: u8,
-    /// Not 0: Data was accepted in this opening.
-    pub accepted: u8,
-    /// The Open or the Close of a sender.
-    pub control: Lone,
+    /// Where an opening stands.
+    pub phase: Phase,
     /// Where the window stands, and what is held.
     pub window: Window,
     /// What runs.
@@ -160,14 +168,16 @@ impl Channel {
                 closing: 0,
                 retries: 0,
             },
-            state: state::CLOSED,
-            reason: reason::NONE,
-            kept: 0,
-            accepted: 0,
-            control: Lone {
-                state: lone::NONE,
-                timer: 0,
-                tries: 0,
+            phase: Phase {
+                state: state::CLOSED,
+                reason: reason::NONE,
+                kept: 0,
+                accepted: 0,
+                control: Lone {
+                    state: lone::NONE,
+                    timer: 0,
+                    tries: 0,
+                },
             },
             window: Window {
                 start: 0,

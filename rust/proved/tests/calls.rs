@@ -71,7 +71,7 @@ fn nine_with_its_reason_then_reclaimed() {
         ..Said::default()
     };
     assert_eq!(host.tick(), inactive);
-    assert_eq!(host.record().reason, reason::RETRIES);
+    assert_eq!(host.record().phase.reason, reason::RETRIES);
     assert_eq!(host.open(), refused(10));
     assert_eq!(host.reclaim(), (done(4, 0), b"held".to_vec()));
     assert_eq!(host.reclaim().0, refused(12));
@@ -93,7 +93,7 @@ fn closed_by_its_ack() {
     };
     assert_eq!(station.arrival(&close), (repeated, ack.clone()));
     assert_eq!(host.arrival(&ack).0, done(0, 0));
-    assert_eq!(host.record().state, state::CLOSED);
+    assert_eq!(host.record().phase.state, state::CLOSED);
 }
 
 #[test]

@@ -3,7 +3,7 @@
 //! That the library reads and writes them at these places is shown by the tests
 //! beside this one, `written` and `read`.
 
-use proved::{Addresses, Channel, Fields, Limits, Lone, Node, Reading, Said};
+use proved::{Addresses, Channel, Fields, Limits, Lone, Node, Phase, Reading, Said};
 use proved::{Settings, Timers, Window, Writing};
 use std::mem::{align_of, offset_of, size_of};
 
@@ -40,9 +40,10 @@ fn records_lie_as_the_table_says() {
         Limits: window slots payload segments timeout closing retries;
         Settings: addresses limits;
         Lone: state timer tries;
+        Phase: state reason kept accepted control;
         Window: start place behind ahead flight way;
         Timers: closing left tries;
-        Channel: addresses limits state reason kept accepted control window timers marks acked;
+        Channel: addresses limits phase window timers marks acked;
         Said: number reason length confirmed;
         Fields: destination protocol version secondary flags kind channel number reserved prefix source;
         Reading: answer fields start length;

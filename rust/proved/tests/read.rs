@@ -68,11 +68,11 @@ fn what_the_condition_bounds() {
         |record| record.limits.timeout = 0,
         |record| record.limits.closing = 0,
         |record| record.limits.retries = 256,
-        |record| record.state = 4,
-        |record| record.reason = 6,
-        |record| record.kept = 2,
-        |record| record.accepted = 2,
-        |record| record.control.state = 4,
+        |record| record.phase.state = 4,
+        |record| record.phase.reason = 6,
+        |record| record.phase.kept = 2,
+        |record| record.phase.accepted = 2,
+        |record| record.phase.control.state = 4,
     ];
     all_refused(sending, &either);
     all_refused(receiving, &either);
@@ -154,12 +154,12 @@ fn every_timer_and_its_tries() {
 fn what_the_condition_leaves_free() {
     let mut host = End::enabled(HOST, STATION, direction::SENDS, LIMITS);
     host.packet();
-    host.record().control.timer = 1;
+    host.record().phase.control.timer = 1;
     assert_eq!(host.tick(), done(0, 0));
-    assert_eq!(host.record().control.state, lone::AGAIN);
+    assert_eq!(host.record().phase.control.state, lone::AGAIN);
     host.packet();
-    host.record().control.timer = 1;
-    host.record().control.tries = 0;
+    host.record().phase.control.timer = 1;
+    host.record().phase.control.tries = 0;
     assert_eq!(host.tick(), INACTIVE);
     let (mut host, mut station) = both_open(LIMITS);
     host.record().window.start = 250;
@@ -171,10 +171,10 @@ fn what_the_condition_leaves_free() {
     assert_eq!(packet[0], 77);
     host.close();
     host.packet();
-    station.record().state = state::CLOSING;
+    station.record().phase.state = state::CLOSING;
     station.record().timers.closing = 1;
     assert_eq!(station.tick(), done(0, 0));
-    assert_eq!(station.record().state, state::CLOSED);
+    assert_eq!(station.record().phase.state, state::CLOSED);
 }
 
 #[test]

@@ -12,7 +12,7 @@ mod ends;
 
 use ends::{both_open, done, End, HOST, LIMITS, STATION};
 use proved::record::{direction, lone, state, SLOTS};
-use proved::{calls, Addresses, Channel, Limits, Lone, Settings, Timers, Window};
+use proved::{calls, Addresses, Channel, Limits, Lone, Phase, Settings, Timers, Window};
 
 const SPOILT_LIMITS: Limits = Limits {
     window: usize::MAX - 1,
@@ -41,14 +41,16 @@ const SPOILT: Channel = Channel {
         direction: 0xA4,
     },
     limits: SPOILT_LIMITS,
-    state: 0xD1,
-    reason: 0xD2,
-    kept: 0xD3,
-    accepted: 0xD4,
-    control: Lone {
-        state: 0xD5,
-        timer: 0xD6D7,
-        tries: 0xD8D9,
+    phase: Phase {
+        state: 0xD1,
+        reason: 0xD2,
+        kept: 0xD3,
+        accepted: 0xD4,
+        control: Lone {
+            state: 0xD5,
+            timer: 0xD6D7,
+            tries: 0xD8D9,
+        },
     },
     window: SPOILT_WINDOW,
     timers: Timers {
@@ -100,23 +102,23 @@ fn a_sender_opens() {
     let mut host = End::made(HOST, STATION, direction::SENDS, LIMITS);
     let mut expected = *host.record();
     host.open();
-    expected.state = state::ENABLED;
-    expected.control.state = lone::READY;
+    expected.phase.state = state::ENABLED;
+    expected.phase.control.state = lone::READY;
     // The resends left are said by the hand-out alone.
-    expected.control.tries = host.record().control.tries;
+    expected.phase.control.tries = host.record().phase.control.tries;
     assert_eq!(*host.record(), expected);
     host.packet();
-    expected.control = Lone {
+    expected.phase.control = Lone {
         state: lone::OUT,
         timer: LIMITS.timeout,
         tries: LIMITS.retries,
     };
     assert_eq!(*host.record(), expected);
     host.tick();
-    expected.control.timer -= 1;
+    expected.phase.control.timer -= 1;
     assert_eq!(*host.record(), expected);
     host.close();
-    expected.kept = 1;
+    expected.phase.kept = 1;
     assert_eq!(*host.record(), expected);
 }
 
@@ -185,13 +187,13 @@ fn a_receiver_holds_and_closes() {
     let window = &mut expected.window;
     (window.start, window.place, window.behind, window.way) = (4, 3, 2, 1);
     assert_eq!(*station.record(), expected);
-    assert_eq!((expected.accepted, expected.kept), (1, 0));
+    assert_eq!((expected.phase.accepted, expected.phase.kept), (1, 0));
     assert_eq!(station.lengths, [1, 1, 16, 0, 8, 0, 0, 0]);
     // A Close drops what is not complete, and starts the close timer.
     host.close();
     assert_eq!(station.arrival(&host.packet()).0, done(12, 0));
     let seen = *station.record();
-    assert_eq!((seen.state, seen.timers.closing), (state::CLOSING, 7));
+    assert_eq!((seen.phase.state, seen.timers.closing), (state::CLOSING, 7));
     assert_eq!((seen.window.behind, seen.window.way), (1, 0));
     assert_eq!(seen.marks[..5], [0, 4, 0, 0, 0]);
 }

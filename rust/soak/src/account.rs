@@ -26,7 +26,7 @@ impl Account {
     /// Follows the window start of an end, 0 the host and 1 the subscriber. In one
     /// call it moves by less than 256.
     pub fn follow(&mut self, end: usize, record: &Channel) {
-        if record.state == state::OPEN {
+        if record.phase.state == state::OPEN {
             let moved = record.window.start.wrapping_sub(self.starts[end] as u8);
             self.starts[end] += u64::from(moved);
         }

@@ -125,8 +125,8 @@ impl Node {
     /// closed.
     pub fn held(&self, index: usize) -> Vec<Vec<u8>> {
         let mut copy = self.clone();
-        while copy.table[index].state != state::CLOSED {
-            if copy.table[index].state == state::OPEN {
+        while copy.table[index].phase.state != state::CLOSED {
+            if copy.table[index].phase.state == state::OPEN {
                 assert_eq!(copy.close(index).number, 0);
             }
             while copy.next_packet().is_some() {}

@@ -88,12 +88,12 @@ impl World {
 
     /// The state of an end.
     pub fn state(&self, place: Place) -> u8 {
-        self.nodes[place.node].record(place.index).state
+        self.nodes[place.node].record(place.index).phase.state
     }
 
     fn states(&self, node: usize) -> Vec<u8> {
         let records = 0..self.accounts.len();
-        let state = |index| self.nodes[node].record(index).state;
+        let state = |index| self.nodes[node].record(index).phase.state;
         records.map(state).collect()
     }
 
@@ -101,8 +101,8 @@ impl World {
     fn note_closed(&mut self, node: usize, before: &[u8]) {
         for (index, &state) in before.iter().enumerate() {
             let record = self.nodes[node].record(index);
-            if state != state::CLOSED && record.state == state::CLOSED {
-                match record.reason {
+            if state != state::CLOSED && record.phase.state == state::CLOSED {
+                match record.phase.reason {
                     0 => self.counts.closed += 1,
                     reason => self.counts.inactive[usize::from(reason) - 1] += 1,
                 }

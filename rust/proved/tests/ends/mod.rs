@@ -149,7 +149,7 @@ pub fn both_open(limits: Limits) -> (End, End) {
     let (said, ack) = station.arrival(&host.packet());
     assert_eq!(said, done(12, 0));
     assert_eq!(host.arrival(&ack), (done(0, 0), vec![]));
-    assert_eq!(host.record().state, state::OPEN);
-    assert_eq!(station.record().state, state::OPEN);
+    assert_eq!(host.record().phase.state, state::OPEN);
+    assert_eq!(station.record().phase.state, state::OPEN);
     (host, station)
 }

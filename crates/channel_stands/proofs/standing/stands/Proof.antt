@@ -91,7 +91,7 @@ returns-6 c =
     let n : named (a .c) ≡ true = sym (c .before .before .before .before .before .before .before .is-named .ensures) ∙ not-false _ (c .before .before .before .before .before .before .if3 .left) in
     let r : inRing (a .c .limits) (a .c .window) ≡ true = sym (c .before .before .before .before .before .is-in-ring .ensures) ∙ not-false _ (c .before .before .before .before .if4 .left) in
     let g : inFlight (a .c .limits) (a .c .window) ≡ true = sym (c .before .before .before .is-in-flight .ensures) ∙ not-false _ (c .before .before .if5 .left) in
-    let s : sided (a .c .addresses .direction) (a .c .state) (a .c .window) ≡ false = sym (c .before .is-sided .ensures) ∙ not-true _ (c .if6 .taken) in
+    let s : sided (a .c .addresses .direction) (a .c .phase .state) (a .c .window) ≡ false = sym (c .before .is-sided .ensures) ∙ not-true _ (c .if6 .taken) in
     simp (f, l, n, r, g, s)
 
 is-marked-requires : tie.Need-is-marked-requires
@@ -112,7 +112,7 @@ returns-7 c =
     let n : named (a .c) ≡ true = sym (c .before .before .before .before .before .before .before .before .before .before .is-named .ensures) ∙ not-false _ (c .before .before .before .before .before .before .before .before .before .if3 .left) in
     let r : inRing (a .c .limits) (a .c .window) ≡ true = sym (c .before .before .before .before .before .before .before .before .is-in-ring .ensures) ∙ not-false _ (c .before .before .before .before .before .before .before .if4 .left) in
     let g : inFlight (a .c .limits) (a .c .window) ≡ true = sym (c .before .before .before .before .before .before .is-in-flight .ensures) ∙ not-false _ (c .before .before .before .before .before .if5 .left) in
-    let s : sided (a .c .addresses .direction) (a .c .state) (a .c .window) ≡ true = sym (c .before .before .before .before .is-sided .ensures) ∙ not-false _ (c .before .before .before .if6 .left) in
+    let s : sided (a .c .addresses .direction) (a .c .phase .state) (a .c .window) ≡ true = sym (c .before .before .before .before .is-sided .ensures) ∙ not-false _ (c .before .before .before .if6 .left) in
     let m : marked (a .c .limits .slots) (a .c .window) (a .c .marks) ≡ false = sym (c .before .is-marked .ensures) ∙ not-true _ (c .if7 .taken) in
     simp (f, l, n, r, g, s, m)
 
@@ -132,7 +132,7 @@ returns-8 c =
     let n : named (a .c) ≡ true = sym (c .before .before .before .before .before .before .before .before .before .before .before .before .before .is-named .ensures) ∙ not-false _ (c .before .before .before .before .before .before .before .before .before .before .before .before .if3 .left) in
     let r : inRing (a .c .limits) (a .c .window) ≡ true = sym (c .before .before .before .before .before .before .before .before .before .before .before .is-in-ring .ensures) ∙ not-false _ (c .before .before .before .before .before .before .before .before .before .before .if4 .left) in
     let g : inFlight (a .c .limits) (a .c .window) ≡ true = sym (c .before .before .before .before .before .before .before .before .before .is-in-flight .ensures) ∙ not-false _ (c .before .before .before .before .before .before .before .before .if5 .left) in
-    let s : sided (a .c .addresses .direction) (a .c .state) (a .c .window) ≡ true = sym (c .before .before .before .before .before .before .before .is-sided .ensures) ∙ not-false _ (c .before .before .before .before .before .before .if6 .left) in
+    let s : sided (a .c .addresses .direction) (a .c .phase .state) (a .c .window) ≡ true = sym (c .before .before .before .before .before .before .before .is-sided .ensures) ∙ not-false _ (c .before .before .before .before .before .before .if6 .left) in
     let m : marked (a .c .limits .slots) (a .c .window) (a .c .marks) ≡ true = sym (c .before .before .before .before .is-marked .ensures) ∙ not-false _ (c .before .before .before .if7 .left) in
     simp (f, l, n, r, g, s, m) (c .slots-fit .ensures)
 

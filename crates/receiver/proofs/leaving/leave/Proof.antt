@@ -24,7 +24,7 @@ clear-requires c κs = let a = c .before .before .before .args .c in let p = c .
 
 returns : tie.Need-returns
 unfolding leaving
-returns c = rw (c .before .before .before .before .before .clear .ensures, c .before .before .before .before .before .before .before .back .ensures)
+returns c = rw (c .before .before .before .before .before .before .clear .ensures, c .before .before .before .before .before .before .before .before .back .ensures)
 
 pub leave-spec : {M : Type 1} → statement M
 leave-spec = tie.close (tie.spec sub-kept back-requires sub-clear clear-requires returns)

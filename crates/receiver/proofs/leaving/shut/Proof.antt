@@ -11,7 +11,7 @@ leave-requires : tie.Need-leave-requires
 leave-requires c κs = search needs
 
 returns : tie.Need-returns
-returns c = rw (c .leave .ensures)
+returns c = rw (c .before .leave .ensures)
 
 pub shut-spec : {M : Type 1} → statement M
 shut-spec = tie.close (tie.spec leave-requires returns)

@@ -19,7 +19,7 @@ returns-2 : tie.Need-returns-2
 returns-2 c = sym (tick-falls (c .before .before .before .before .args .c) (c .before .before .if1 .left) (c .before .if2 .taken))
 
 returns-3 : tie.Need-returns-3
-returns-3 c = sym (tick-ends (c .before .before .before .before .args .c) (c .before .before .if1 .left) (omega (arith, c .before .if2 .left)))
+returns-3 c = sym (tick-ends (c .before .before .before .before .before .args .c) (c .before .before .before .if1 .left) (omega (arith, c .before .before .if2 .left)))
 
 pub tick-step-spec : {M : Type 1} → statement M
 tick-step-spec = tie.close (tie.spec returns sub-left returns-2 returns-3)

@@ -16,7 +16,7 @@ done-requires : tie.Need-done-requires
 done-requires c κs = tt
 
 returns : tie.Need-returns
-returns c = c .done .ensures ∙ sym (open-opens (c .before .before .before .args .c) (c .before .if1 .taken))
+returns c = c .done .ensures ∙ sym (open-opens (c .before .before .before .before .args .c) (c .before .before .if1 .taken))
 
 refused-requires : tie.Need-refused-requires
 refused-requires c κs = search needs

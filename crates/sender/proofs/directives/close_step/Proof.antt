@@ -47,7 +47,7 @@ done-requires-2 : tie.Need-done-requires-2
 done-requires-2 c κs = search needs
 
 returns-4 : tie.Need-returns-4
-returns-4 c = c .done2 .ensures ∙ sym (close-kept (c .before .before .before .before .before .before .before .args .c) (c .before .before .before .before .before .if1 .left) (c .before .before .before .if2 .left) (c .before .if3 .left))
+returns-4 c = c .done2 .ensures ∙ sym (close-kept (c .before .before .before .before .before .before .before .before .args .c) (c .before .before .before .before .before .before .if1 .left) (c .before .before .before .before .if2 .left) (c .before .before .if3 .left))
 
 pub close-step-spec : {M : Type 1} → statement M
 close-step-spec =

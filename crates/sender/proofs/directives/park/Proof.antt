@@ -16,7 +16,7 @@ add-ahead c = search needs
 
 returns : tie.Need-returns
 unfolding parked
-returns c = rw (c .before .back .ensures)
+returns c = rw (c .before .before .back .ensures)
 
 pub park-spec : {M : Type 1} → statement M
 park-spec = tie.close (tie.spec back-requires add-ahead returns)

@@ -15,7 +15,7 @@ park-requires : tie.Need-park-requires
 park-requires c κs = search needs
 
 returns : tie.Need-returns
-returns c = rw (c .park .ensures, c .before .none .ensures)
+returns c = rw (c .before .park .ensures, c .before .before .none .ensures)
 
 pub shut-spec : {M : Type 1} → statement M
 shut-spec = tie.close (tie.spec none-requires park-requires returns)

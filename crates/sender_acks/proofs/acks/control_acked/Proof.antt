@@ -38,8 +38,8 @@ none-requires-2 c κs = search needs
 
 returns-3 : tie.Need-returns-3
 returns-3 c =
-    ap (λ (x : Lone). withControl (withState (c .before .before .before .before .before .args .c) opened) x) (c .none2 .ensures)
-    ∙ sym (acked-open (c .before .before .before .before .before .args .c) (c .before .before .before .if1 .left) (c .before .if2 .left))
+    ap (λ (x : Lone). withControl (withState (c .before .before .before .before .before .before .args .c) opened) x) (c .before .none2 .ensures)
+    ∙ sym (acked-open (c .before .before .before .before .before .before .args .c) (c .before .before .before .before .if1 .left) (c .before .before .if2 .left))
 
 pub control-acked-spec : {M : Type 1} → statement M
 control-acked-spec =

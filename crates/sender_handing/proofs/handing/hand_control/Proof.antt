@@ -38,7 +38,7 @@ send-requires c κs =
     let a = c .before .before .before .before .before .before .args in
     subst (λ (f : Fields). Plain f 0)
     (sym (c .before .before .before .outgoing .ensures ∙ ap (λ (k : ℕ). outgoingOf (a .node) (a .c .addresses) k 3 0) (c .before .before .before .before .control-kind .ensures)))
-    (control-plain (a .node) (a .c .addresses) (a .c .state))
+    (control-plain (a .node) (a .c .addresses) (a .c .phase .state))
 
 same-length : tie.Need-same-length
 same-length c = search needs

@@ -11,7 +11,7 @@ hand-out-requires : tie.Need-hand-out-requires
 hand-out-requires c κs = search needs
 
 returns : tie.Need-returns
-returns c = rw (c .hand-out .ensures)
+returns c = rw (c .before .hand-out .ensures)
 
 pub control-out-spec : {M : Type 1} → statement M
 control-out-spec = tie.close (tie.spec hand-out-requires returns)

@@ -26,7 +26,7 @@ returns c =
     ∙ ap (controlTick (c .before .before .before .args .c)) (c .before .before .fall .ensures)
 
 returns-2 : tie.Need-returns-2
-returns-2 c = sym (control-falls (c .before .before .before .args .c) (c .before .before .fall .result) (c .before .if1 .left)) ∙ ap (controlTick (c .before .before .before .args .c)) (c .before .before .fall .ensures)
+returns-2 c = sym (control-falls (c .before .before .before .before .args .c) (c .before .before .before .fall .result) (c .before .before .if1 .left)) ∙ ap (controlTick (c .before .before .before .before .args .c)) (c .before .before .before .fall .ensures)
 
 pub control-tick-spec : {M : Type 1} → statement M
 control-tick-spec = tie.close (tie.spec fall-requires shut-requires returns returns-2)
