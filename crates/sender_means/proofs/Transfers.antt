@@ -16,9 +16,10 @@ use Rattle.laws.proofs.Numbers.{lt-cases}
 use Rattle.ring.specs.Ring.{roundOf, cleared}
 use Rattle.ring.proofs.Laws.{round-lt, round-add, round-apart, back-lt, cleared-in, cleared-out, cleared-length}
 use Rattle.slots.specs.Marks.{markOf}
-use Rattle.slots.specs.Slots.{slotOf, segmentIn}
+use Rattle.slots.specs.Slots.{segmentIn}
+use Rattle.channel.specs.Places.{slotOf}
 use Rattle.slots.specs.Units.{segmentsOf, segmentOf, flagsOf}
-use Rattle.slots.proofs.Laws.{slotted}
+use Rattle.channel.proofs.PlaceLaws.{slotted}
 use Rattle.store.specs.Store.{filedMem, filedLens, filedMarks}
 use Rattle.store.proofs.Laws.{filed-marks-in, filed-marks-out, filed-marks-length, filed-octets-in, filed-octets-out}
 use Rattle.channel.specs.declared.record.Channel.{Channel}
@@ -68,10 +69,10 @@ module _ (c : Channel) (mem lens : List ℕ) (a : Asked c mem lens) (line : List
   first = oldestOf slots (c .window)
 
   abbrev mem₁ : List ℕ
-  mem₁ = filedMem slotOf most slots u mem count 0 (freeAt c)
+  mem₁ = filedMem (slotOf c) most slots u mem count 0 (freeAt c)
 
   abbrev lens₁ : List ℕ
-  lens₁ = filedLens slotOf most slots u lens count 0 (freeAt c)
+  lens₁ = filedLens (slotOf c) most slots u lens count 0 (freeAt c)
 
   place-in : c .window .place < slots
   place-in = counted-is (c .limits) (c .window) (a .standing .ring) (a .standing .flight) .place
@@ -112,18 +113,18 @@ module _ (c : Channel) (mem lens : List ℕ) (a : Asked c mem lens) (line : List
       let h = a .standing in
       let here = heldAt c j in
       let in-ring : here < slots = round-lt slots (first + j) (omega (arith, first-in)) in
-      let short : getD lens (slotOf here) 0 ≤ most
-      = slot-bounds (eqb (c .addresses .direction) sends) most (getD (c .marks) here 0) (getD lens (slotOf here) 0) (h .slots here in-ring) (h .held j l) .1
+      let short : getD lens (slotOf c here) 0 ≤ most
+      = slot-bounds (eqb (c .addresses .direction) sends) most (getD (c .marks) here 0) (getD lens (slotOf c here) 0) (h .slots here in-ring) (h .held j l) .1
       in
       lying-same c (filedUnit c (length u)) mem lens mem₁ lens₁ here
       (ap (λ (p : ℕ). getD (filedMarks slots count (c .marks) count 0 (freeAt c)) p 0) (sym (o .1))
       ∙ filed-marks-out slots count (c .marks) count 0 (freeAt c) (off j) free-in (o .0) (off-far j l)
       ∙ ap (λ (p : ℕ). getD (c .marks) p 0) (o .1))
       (λ used.
-      ap (λ (p : ℕ). segmentIn most mem₁ lens₁ (slotOf p)) (sym (o .1))
-      ∙ filed-octets-out slotOf slots most slots u (slotted slots) mem lens count 0 (freeAt c) (off j) (a .sized) free-in (o .0) (off-far j l)
-      (subst (λ (p : ℕ). getD lens (slotOf p) 0 ≤ most) (sym (o .1)) short)
-      ∙ ap (λ (p : ℕ). segmentIn most mem lens (slotOf p)) (o .1))
+      ap (λ (p : ℕ). segmentIn most mem₁ lens₁ (slotOf c p)) (sym (o .1))
+      ∙ filed-octets-out (slotOf c) slots most slots u (slotted (c .limits)) mem lens count 0 (freeAt c) (off j) (a .sized) free-in (o .0) (off-far j l)
+      (subst (λ (p : ℕ). getD lens (slotOf c p) 0 ≤ most) (sym (o .1)) short)
+      ∙ ap (λ (p : ℕ). segmentIn most mem lens (slotOf c p)) (o .1))
 
   new-lying : (j : ℕ) → j < count → lying (filedUnit c (length u)) mem₁ lens₁ (heldAt c (all + j)) ≡ some (getD (cut most u) j blank)
   new-lying j l =
@@ -137,8 +138,8 @@ module _ (c : Channel) (mem lens : List ℕ) (a : Asked c mem lens) (line : List
       ∙ ap (λ (i : ℕ). markOf (flagsOf count i)) (zero-add j)
       in
       let octets : octetsAt k mem₁ lens₁ here ≡ segmentOf most u j
-      = ap (λ (p : ℕ). segmentIn most mem₁ lens₁ (slotOf p)) (sym at)
-      ∙ filed-octets-in slotOf slots most slots u (slotted slots) mem lens count 0 (freeAt c) j (a .sized) free-in (omega arith) l
+      = ap (λ (p : ℕ). segmentIn most mem₁ lens₁ (slotOf c p)) (sym at)
+      ∙ filed-octets-in (slotOf c) slots most slots u (slotted (c .limits)) mem lens count 0 (freeAt c) j (a .sized) free-in (omega arith) l
       ∙ ap (segmentOf most u) (zero-add j)
       in
       lying-some k mem₁ lens₁ here (λ z. let y : markOf (flagsOf count j) ≡ 0 = sym mark ∙ z in omega arith)
@@ -270,8 +271,8 @@ module _ (c : Channel) (mem lens : List ℕ) (s : Sender) (a : Asked c mem lens)
       let e = transfer-done c u mem lens f in
       let to = transferred true true true s (cut (c .limits .payload) u) .0 in
       let done : Sends (filedUnit c (length u))
-      (filedMem slotOf (c .limits .payload) (c .limits .slots) u mem count₁ 0 (freeAt c))
-      (filedLens slotOf (c .limits .payload) (c .limits .slots) u lens count₁ 0 (freeAt c))
+      (filedMem (slotOf c) (c .limits .payload) (c .limits .slots) u mem count₁ 0 (freeAt c))
+      (filedLens (slotOf c) (c .limits .payload) (c .limits .slots) u lens count₁ 0 (freeAt c))
       to
       = record {
         state = r .state;

@@ -11,7 +11,8 @@ use lib.ListN.{length}
 use Rattle.laws.specs.Choice.{if_then_else_}
 use Rattle.laws.proofs.Choice.{chosen, passed-by, both}
 use Rattle.ring.specs.Ring.{cleared}
-use Rattle.slots.specs.Slots.{slotOf, laid}
+use Rattle.slots.specs.Slots.{laid}
+use Rattle.channel.specs.Places.{slotOf}
 use Rattle.slots.specs.Units.{segmentsOf}
 use Rattle.store.specs.Store.{sizeIn, octetsIn, filedMem, filedLens, filedMarks, EachFits}
 use Rattle.channel.specs.declared.record.Channel.{Channel}
@@ -100,11 +101,11 @@ module _ (c : Channel) (u mem lens : List ℕ) where
     unfolding transferStep
     transfer-done = chosen (isAccepted c (length u)) _ _ e
 
-    pub transfer-done-mem : transferMem c u mem ≡ filedMem slotOf (c .limits .payload) (c .limits .slots) u mem (segmentsOf (c .limits .payload) (length u)) 0 (freeAt c)
+    pub transfer-done-mem : transferMem c u mem ≡ filedMem (slotOf c) (c .limits .payload) (c .limits .slots) u mem (segmentsOf (c .limits .payload) (length u)) 0 (freeAt c)
     unfolding transferMem
     transfer-done-mem = chosen (isAccepted c (length u)) _ _ e
 
-    pub transfer-done-lens : transferLens c u lens ≡ filedLens slotOf (c .limits .payload) (c .limits .slots) u lens (segmentsOf (c .limits .payload) (length u)) 0 (freeAt c)
+    pub transfer-done-lens : transferLens c u lens ≡ filedLens (slotOf c) (c .limits .payload) (c .limits .slots) u lens (segmentsOf (c .limits .payload) (length u)) 0 (freeAt c)
     unfolding transferLens
     transfer-done-lens = chosen (isAccepted c (length u)) _ _ e
 
@@ -146,9 +147,9 @@ module _ (c : Channel) (lens mem out : List ℕ) where
     unfolding reclaimOut
     reclaim-none-out k = simp (eq-eqb _ _ h, eq-eqb _ _ k)
 
-    module _ (k : c .window .ahead ≡ 0 → ⊥) (n size : ℕ) (en : n ≡ unitAt c) (es : size ≡ sizeIn slotOf lens (c .limits .slots) n (c .window .place)) where
+    module _ (k : c .window .ahead ≡ 0 → ⊥) (n size : ℕ) (en : n ≡ unitAt c) (es : size ≡ sizeIn (slotOf c) lens (c .limits .slots) n (c .window .place)) where
       size-is : size ≡ sizeAt c lens
-      size-is = es ∙ ap (λ (m : ℕ). sizeIn slotOf lens (c .limits .slots) m (c .window .place)) en
+      size-is = es ∙ ap (λ (m : ℕ). sizeIn (slotOf c) lens (c .limits .slots) m (c .window .place)) en
 
       fits-not : length out < size → ltb (length out) (sizeAt c lens) ≡ true
       fits-not l = ap (ltb (length out)) (sym size-is) ∙ lt-ltb _ _ l
@@ -169,13 +170,13 @@ module _ (c : Channel) (lens mem out : List ℕ) where
       reclaim-done l = ap₂ (λ (m s : ℕ). doing (dropped c m) s) en size-is ∙ sym (simp (eq-eqb _ _ h, ne-eqb _ _ k, fits l))
 
       pub reclaim-done-out : size ≤ length out
-          → laid out 0 (octetsIn slotOf (c .limits .payload) mem lens (c .limits .slots) n (c .window .place)) ≡ reclaimOut c lens mem out
+          → laid out 0 (octetsIn (slotOf c) (c .limits .payload) mem lens (c .limits .slots) n (c .window .place)) ≡ reclaimOut c lens mem out
       unfolding reclaimOut
       reclaim-done-out l =
-          ap (λ (m : ℕ). laid out 0 (octetsIn slotOf (c .limits .payload) mem lens (c .limits .slots) m (c .window .place))) en
+          ap (λ (m : ℕ). laid out 0 (octetsIn (slotOf c) (c .limits .payload) mem lens (c .limits .slots) m (c .window .place))) en
           ∙ sym (simp (eq-eqb _ _ h, ne-eqb _ _ k, fits l))
 
 -- the oldest unit: each of its segments has at most P octets
 pub unit-fits : (c : Channel) (mem lens : List ℕ) → Asked c mem lens → (n : ℕ) → n ≤ c .window .ahead
-    → EachFits slotOf (c .limits .payload) lens (c .limits .slots) n (c .window .place)
+    → EachFits (slotOf c) (c .limits .payload) lens (c .limits .slots) n (c .window .place)
 unit-fits c mem lens a n h i l = mark-fits c lens (a .standing) i (omega arith) .1

@@ -6,7 +6,7 @@ use lib.Dec.{ltb, leb, eqb}
 use lib.ListN.{length}
 use Rattle.laws.specs.Choice.{if_then_else_}
 use Rattle.ring.specs.Ring.{cleared}
-use Rattle.slots.specs.Slots.{slotOf}
+use Rattle.channel.specs.Places.{slotOf}
 use Rattle.slots.specs.Units.{segmentsOf}
 use Rattle.store.specs.Store.{filedMem, filedLens, filedMarks}
 use Rattle.channel.specs.declared.record.Window.{Window}
@@ -53,11 +53,11 @@ transferStep c n = if isAccepted c n then doing (filedUnit c n) 0 else wouldTran
 unfoldable pub transferMem : Channel → List ℕ → List ℕ → List ℕ
 transferMem c u mem =
     if isAccepted c (length u)
-    then filedMem slotOf (c .limits .payload) (c .limits .slots) u mem (segmentsOf (c .limits .payload) (length u)) 0 (freeAt c)
+    then filedMem (slotOf c) (c .limits .payload) (c .limits .slots) u mem (segmentsOf (c .limits .payload) (length u)) 0 (freeAt c)
     else mem
 
 unfoldable pub transferLens : Channel → List ℕ → List ℕ → List ℕ
 transferLens c u lens =
     if isAccepted c (length u)
-    then filedLens slotOf (c .limits .payload) (c .limits .slots) u lens (segmentsOf (c .limits .payload) (length u)) 0 (freeAt c)
+    then filedLens (slotOf c) (c .limits .payload) (c .limits .slots) u lens (segmentsOf (c .limits .payload) (length u)) 0 (freeAt c)
     else lens

@@ -56,7 +56,7 @@ pub fn transfer_step(c: Channel, unit: &[u8], mem: &mut [u8], lens: &mut [u16]) 
     let count = slots::segments(most, unit.len());
     let from = ring::round(c.window.place + c.window.ahead, slots);
     let held = c.marks;
-    let marks = store::file_unit(mem, lens, held, slots, most, from, unit, count);
+    let marks = store::file_unit(c.limits, mem, lens, held, from, unit, count);
     let known = c.acked;
     let acked = ring::clear(known, slots, count, from);
     let ahead = c.window.ahead + count;

@@ -22,9 +22,18 @@ pub struct Seen {
 pub fn see_begin() -> Seen
     ensures { λ r. ⌜ r ≡ begun ⌝ }
 {
-    let none = Addresses { channel: 0, remote: 0, direction: 0 };
+    let none = Addresses {
+        channel: 0,
+        remote: 0,
+        direction: 0,
+    };
     let addresses = [none; 16];
-    Seen { sound: true, slots: 0, octets: 0, addresses }
+    Seen {
+        sound: true,
+        slots: 0,
+        octets: 0,
+        addresses,
+    }
 }
 
 // Something is not as it must be: nothing after it counts.

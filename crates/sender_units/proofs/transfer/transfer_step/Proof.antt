@@ -19,7 +19,7 @@ use Rattle.sender_units.proofs.transfer.transfer_step.Lts as lts
 use Rattle.channel.proofs.step.done.Reads as done-reads
 use Rattle.ring.proofs.clear.Reads as clear-reads
 use Rattle.ring.proofs.round.Reads as round-reads
-use Rattle.slots.specs.Slots.{slotOf}
+use Rattle.channel.specs.Places.{slotOf}
 use Rattle.sender_units.proofs.transfer.is_accepted.Reads as is-accepted-reads
 use Rattle.sender_units.proofs.transfer.would_transfer.Reads as would-transfer-reads
 use Rattle.slots.proofs.segments.Reads as segments-reads
@@ -94,10 +94,10 @@ returns-2 c =
           (filed-is k (length (a .unit .now)) (c .before .before .before .before .before .before .before .before .before .before .before .before .before .before .before .segments .result) (c .before .before .before .before .before .before .before .before .before .before .before .before .before .round .result) _ (c .before .before .before .before .before .before .before .before .before .file-unit .result) (c .before .before .before .clear .result) (c .before .before .before .before .before .before .before .before .before .before .before .before .before .before .before .segments .ensures) (c .before .before .before .before .before .before .before .before .before .before .before .before .before .round .ensures) refl (f .0) (c .before .before .before .clear .ensures))
           ∙ sym (transfer-done k (a .unit .now) (a .mem .now) (a .lens .now) yes′),
       f .1
-          ∙ ap₂ (λ (n p : ℕ). filedMem slotOf (k .limits .payload) (k .limits .slots) (a .unit .now) (a .mem .now) n 0 p) (c .before .before .before .before .before .before .before .before .before .before .before .before .before .before .before .segments .ensures) (c .before .before .before .before .before .before .before .before .before .before .before .before .before .round .ensures)
+          ∙ ap₂ (λ (n p : ℕ). filedMem (slotOf k) (k .limits .payload) (k .limits .slots) (a .unit .now) (a .mem .now) n 0 p) (c .before .before .before .before .before .before .before .before .before .before .before .before .before .before .before .segments .ensures) (c .before .before .before .before .before .before .before .before .before .before .before .before .before .round .ensures)
           ∙ sym (transfer-done-mem k (a .unit .now) (a .mem .now) (a .lens .now) yes′),
       f .2
-          ∙ ap₂ (λ (n p : ℕ). filedLens slotOf (k .limits .payload) (k .limits .slots) (a .unit .now) (a .lens .now) n 0 p) (c .before .before .before .before .before .before .before .before .before .before .before .before .before .before .before .segments .ensures) (c .before .before .before .before .before .before .before .before .before .before .before .before .before .round .ensures)
+          ∙ ap₂ (λ (n p : ℕ). filedLens (slotOf k) (k .limits .payload) (k .limits .slots) (a .unit .now) (a .lens .now) n 0 p) (c .before .before .before .before .before .before .before .before .before .before .before .before .before .before .before .segments .ensures) (c .before .before .before .before .before .before .before .before .before .before .before .before .before .round .ensures)
           ∙ sym (transfer-done-lens k (a .unit .now) (a .mem .now) (a .lens .now) yes′),
     )
 
