@@ -29,7 +29,7 @@ use Rattle.channel.specs.Standing.{oldestOf, slotFit, Standing}
 use Rattle.channel.proofs.SettingsLaws.{fit-is}
 use Rattle.channel.proofs.StandingLaws.{counted-is, named-is}
 use Rattle.sender_units.specs.Transfer.{isAccepted, longer, filedUnit, freeAt, transferStep, transferMem, transferLens}
-use Rattle.sender_units.proofs.UnitLaws.{accepted-is, would-same, transfer-no, transfer-no-lens, transfer-done, transfer-done-lens}
+use Rattle.sender_units.proofs.UnitLaws.{accepted-is, transfer-no, transfer-no-lens, transfer-done, transfer-done-lens}
 use Rattle.sender_keeps.proofs.Keeps.{sided-way, open-sided, stand, toward, toward-is}
 use Rattle.sender.proofs.AskedLaws.{from-oldest}
 
@@ -178,7 +178,7 @@ transfer-stands c u lens wide h s = go (isAccepted c (length u)) refl
         (filed-stands c u lens h s wide e))
     go false e =
         subst (λ (x : List ℕ). Standing (transferStep c (length u) .channel) x) (sym (transfer-no-lens c u lens lens e))
-        (subst (λ (x : Channel). Standing x lens) (sym (ap (λ (x : Stepped). x .channel) (transfer-no c u lens lens e) ∙ would-same c (length u))) h)
+        (subst (λ (x : Channel). Standing x lens) (sym (ap (λ (x : Stepped). x .channel) (transfer-no c u lens lens e))) h)
 
 pub transfer-sized : (c : Channel) (u mem lens : List ℕ) → Standing c lens → Sized (c .limits .slots) (c .limits .payload) mem lens
     → Sized (c .limits .slots) (c .limits .payload) (transferMem c u mem) (transferLens c u lens)

@@ -8,7 +8,7 @@ use mathlib.Core.Option.{some}
 use Prim.Native.Nat.{ℕ, _+_, _-_, _≤_, _<_}
 use native.Mathlib.Nat.{zero-add}
 use native.Mathlib.Omega.{arith}
-use borrow.Author.Tests.{le-leb, lt-leb, leb-true, leb-false}
+use borrow.Author.Tests.{leb-true, leb-false}
 use lib.Dec.{leb, eqb}
 use lib.ListN.{length, getD, length-append, List·getD-append}
 use lib.Seq.{getD-append-add}
@@ -23,6 +23,7 @@ use Rattle.channel.proofs.PlaceLaws.{slotted}
 use Rattle.store.specs.Store.{filedMem, filedLens, filedMarks}
 use Rattle.store.proofs.Laws.{filed-marks-in, filed-marks-out, filed-marks-length, filed-octets-in, filed-octets-out}
 use Rattle.channel.specs.declared.record.Channel.{Channel}
+use Rattle.channel.specs.declared.answer.Answer.the-variants.{Done, Refused}
 use Rattle.channel.specs.declared.answer.Refusal.{Refusal}
 use Rattle.channel.specs.declared.answer.Refusal.the-variants as refusal
 use Rattle.channel.specs.declared.step.Stepped.{Stepped}
@@ -30,14 +31,14 @@ use Rattle.channel.specs.Answers.{numberOf, refusalNumber}
 use Rattle.channel.specs.Record.{sends, heldIn}
 use Rattle.channel.specs.Record as record-of
 use Rattle.channel.specs.Standing.{oldestOf}
-use Rattle.channel.specs.Steps.{refusing}
+use Rattle.channel.specs.Steps.{answered}
 use Rattle.channel.specs.Asked.{Asked}
 use Rattle.channel.proofs.SettingsLaws.{fit-is}
 use Rattle.channel.proofs.StandingLaws.{counted-is}
 use Rattle.sender.specs.Directives.{placeAt}
 use Rattle.sender.proofs.AskedLaws.{from-oldest, slot-bounds}
-use Rattle.sender_units.specs.Transfer.{isAccepted, filedUnit, freeAt, transferStep, transferMem, transferLens}
-use Rattle.sender_units.proofs.UnitLaws.{would-long, would-room, not-accepted, accepted-by, would-state, closed-accepts, transfer-no, transfer-no-mem, transfer-no-lens, transfer-done, transfer-done-mem, transfer-done-lens}
+use Rattle.sender_units.specs.Transfer.{wouldTransfer, filedUnit, freeAt, transferStep, transferMem, transferLens}
+use Rattle.sender_units.proofs.UnitLaws.{would-long, would-room, would-done, accepted-by, would-state, transfer-no, transfer-no-mem, transfer-no-lens, transfer-done, transfer-done-mem, transfer-done-lens}
 use Rattle.sender_keeps.proofs.Keeps.{toward, toward-is}
 use Rattle.protocol.specs.Units.{DataUnit, Segment, blank, cut}
 use Rattle.protocol.specs.Ends.{rank, isOpen, Answer, say}
@@ -216,12 +217,14 @@ module _ (c : Channel) (mem lens : List ℕ) (s : Sender) (a : Asked c mem lens)
       Sends (transferStep c (length u) .channel) (transferMem c u mem) (transferLens c u lens) (x .0)
       × (numberOf (transferStep c (length u) .answer) ≡ x .1 .number)
 
-  refused : (why : Refusal) → transferStep c (length u) ≡ refusing c why → isAccepted c (length u) ≡ false → Both (s, say (refusalNumber why))
-  refused why e f = (
-    subst (λ (k : Stepped). Sends (k .channel) (transferMem c u mem) (transferLens c u lens) s) (sym e)
-        (subst₂ (λ (m l : List ℕ). Sends c m l s) (sym (transfer-no-mem c u mem lens f)) (sym (transfer-no-lens c u mem lens f)) r),
-    ap (λ (k : Stepped). numberOf (k .answer)) e,
-  )
+  refused : (why : Refusal) → eqb (refusalNumber why) 0 ≡ false → wouldTransfer c (length u) ≡ Refused why → Both (s, say (refusalNumber why))
+  refused why apart would =
+      let f = accepted-by c (length u) (Refused why) would ∙ apart in
+      let e = transfer-no c u mem lens f ∙ ap (answered c) would in (
+        subst (λ (k : Stepped). Sends (k .channel) (transferMem c u mem) (transferLens c u lens) s) (sym e)
+            (subst₂ (λ (m l : List ℕ). Sends c m l s) (sym (transfer-no-mem c u mem lens f)) (sym (transfer-no-lens c u mem lens f)) r),
+        ap (λ (k : Stepped). numberOf (k .answer)) e,
+      )
 
   abbrev count₁ : ℕ
   count₁ = segmentsOf (c .limits .payload) (length u)
@@ -233,15 +236,13 @@ module _ (c : Channel) (mem lens : List ℕ) (s : Sender) (a : Asked c mem lens)
       let closed : c .state ≡ record-of.opened → ⊥
       = λ e. yes-no (ap isOpen (state-opened (s .phase) (sym (r .state) ∙ e))) p
       in
-      let f = closed-accepts c (length u) closed in
-      refused refusal.State (transfer-no c u mem lens f ∙ would-state c (length u) closed) f
+      refused refusal.State refl (would-state c (length u) closed)
   go true false b p q t =
       let o : c .state ≡ record-of.opened = r .state ∙ open-state (s .phase) p in
       let long : c .limits .segments < count₁
       = omega (arith, leb-false (length (cut (c .limits .payload) u)) (c .limits .segments) q, cut-length (c .limits .payload) u)
       in
-      let f = not-accepted c (length u) count₁ refl o long in
-      refused refusal.Long (transfer-no c u mem lens f ∙ would-long c (length u) count₁ refl o long) f
+      refused refusal.Long refl (would-long c (length u) count₁ refl o long)
   go true true false p q t =
       let o : c .state ≡ record-of.opened = r .state ∙ open-state (s .phase) p in
       let z : rank (s .phase) ≡ 2 = ap rank (state-opened (s .phase) (sym (r .state) ∙ o)) in
@@ -253,8 +254,7 @@ module _ (c : Channel) (mem lens : List ℕ) (s : Sender) (a : Asked c mem lens)
       let full : c .limits .slots < heldIn (c .window) + count₁
       = omega (arith, leb-false (length (s .line) - s .oldest + length (cut (c .limits .payload) u)) (c .limits .slots) t, len, x .count)
       in
-      let f = accepted-by c (length u) count₁ refl o few ∙ lt-leb (heldIn (c .window) + count₁) (c .limits .slots) full in
-      refused refusal.NoRoom (transfer-no c u mem lens f ∙ would-room c (length u) count₁ refl o few full) f
+      refused refusal.NoRoom refl (would-room c (length u) count₁ refl o few full)
   go true true true p q t =
       let o : c .state ≡ record-of.opened = r .state ∙ open-state (s .phase) p in
       let z : rank (s .phase) ≡ 2 = ap rank (state-opened (s .phase) (sym (r .state) ∙ o)) in
@@ -267,7 +267,7 @@ module _ (c : Channel) (mem lens : List ℕ) (s : Sender) (a : Asked c mem lens)
       let room : heldIn (c .window) + count₁ ≤ c .limits .slots
       = omega (arith, leb-true (length (s .line) - s .oldest + length (cut (c .limits .payload) u)) (c .limits .slots) t, len, x .count)
       in
-      let f = accepted-by c (length u) count₁ refl o few ∙ le-leb (heldIn (c .window) + count₁) (c .limits .slots) room in
+      let f = accepted-by c (length u) (Done 0 0) (would-done c (length u) count₁ refl o few room) in
       let e = transfer-done c u mem lens f in
       let to = transferred true true true s (cut (c .limits .payload) u) .0 in
       let done : Sends (filedUnit c (length u))
