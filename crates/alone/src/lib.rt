@@ -6,6 +6,7 @@ use channel::Refusal;
 use channel::Stepped;
 use channel::record::SENDS;
 use channel::step::refused;
+use channel::step::unchanged;
 use channel_stands::stands;
 use packet_read::Read;
 ghost use Prim.Native.Nat.{_<_, _+_, _≤_};
@@ -16,7 +17,8 @@ pub fn ask(c: Channel, n: usize, lens: &[u16]) -> Stepped {
     if !stands(c, lens) {
         return refused(c, Refusal::Settings);
     }
-    sender_units::would_transfer(c, n)
+    let answer = sender_units::would_transfer(c, n);
+    unchanged(c, answer)
 }
 
 // A unit is given to a sender.

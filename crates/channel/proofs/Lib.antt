@@ -1,3 +1,4 @@
+pub mod PlaceLaws
 pub mod SettingsLaws
 pub mod StandingLaws
 pub mod MadeLaws

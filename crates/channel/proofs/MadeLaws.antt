@@ -15,7 +15,7 @@ use Rattle.channel.specs.declared.record.Lone.{Lone}
 use Rattle.channel.specs.declared.record.Channel.{Channel}
 use Rattle.channel.specs.Record.{sends, madeOf, freshWindow, noMarks}
 use Rattle.channel.specs.Settings.{fit, fitLimits}
-use Rattle.slots.specs.Slots.{slotOf}
+use Rattle.channel.specs.Places.{slotOf}
 use Rattle.channel.specs.Standing.{named, inRing, inFlight, sided, slotFit, Standing}
 use Rattle.channel.specs.Steps.{enabledOf}
 use Rattle.channel.proofs.SettingsLaws.{fit-is}
@@ -55,8 +55,8 @@ module _ (c : Channel) (lens : List ℕ) (w : c .window ≡ freshWindow) (m : c 
         sided = s;
         held = λ i h. absurd (not-suc-le-zero (rw w at h));
         slots = λ i h.
-            ap (λ (k : ℕ). slotFit (eqb (c .addresses .direction) sends) (c .limits .payload) k (getD lens (slotOf i) 0)) (free i h)
-            ∙ free-fits (eqb (c .addresses .direction) sends) (c .limits .payload) (getD lens (slotOf i) 0);
+            ap (λ (k : ℕ). slotFit (eqb (c .addresses .direction) sends) (c .limits .payload) k (getD lens (slotOf c i) 0)) (free i h)
+            ∙ free-fits (eqb (c .addresses .direction) sends) (c .limits .payload) (getD lens (slotOf c i) 0);
       }
 
 -- a fresh window is as it must be at either end, in every state

@@ -9,7 +9,7 @@ use lib.ListN.{length, getD}
 use native.Mathlib.Nat.{not-suc-le-zero, le-of-suc-le-suc, add-zero, zero-add, add-suc, lt-irrefl}
 use borrow.Author.Tests.{lt-ltb, le-leb, ltb-true, leb-true, eqb-true, eq-eqb}
 use lib.Dec.{eqb}
-use Rattle.slots.specs.Slots.{slotOf}
+use Rattle.channel.specs.Places.{slotOf}
 use Rattle.ring.specs.Ring.{runOf}
 use Rattle.ring.proofs.Laws.{back-lt, run-set, run-is}
 use Rattle.channel.specs.declared.record.Channel.{Channel}
@@ -212,8 +212,8 @@ stands-is c lens e =
       sided = p5 .1;
       held = λ i h. run-set (c .marks) (l .slots) (heldIn w) (oldestOf (l .slots) w) i (back-lt (l .slots) (w .place) (w .behind) (q .0)) (omega arith) (omega arith);
       slots = λ i h.
-          ap (λ (j : ℕ). slotFit (eqb (c .addresses .direction) sends) (l .payload) (getD (c .marks) j 0) (getD lens (slotOf j) 0)) (sym (zero-add i))
-          ∙ slots-each slotOf (eqb (c .addresses .direction) sends) (l .payload) (c .marks) lens (l .slots) 0 (p7 .1) i (omega arith);
+          ap (λ (j : ℕ). slotFit (eqb (c .addresses .direction) sends) (l .payload) (getD (c .marks) j 0) (getD lens (slotOf c j) 0)) (sym (zero-add i))
+          ∙ slots-each (slotOf c) (eqb (c .addresses .direction) sends) (l .payload) (c .marks) lens (l .slots) 0 (p7 .1) i (omega arith);
     }
 
 -- ---- and back: true exactly if it holds
@@ -227,7 +227,7 @@ is-stands c lens h =
     let run : runOf (c .marks) (l .slots) (heldIn w) (oldestOf (l .slots) w) ≡ heldIn w =
     run-is (c .marks) (l .slots) (heldIn w) (oldestOf (l .slots) w) (heldIn w) (back-lt (l .slots) (w .place) (w .behind) (q .0)) (omega arith) (omega arith) (h .held)
     (λ more. absurd (lt-irrefl _ more)) in
-    let all : slotsFit slotOf (eqb (c .addresses .direction) sends) (l .payload) (c .marks) lens (l .slots) 0 ≡ true =
-    slots-all slotOf (eqb (c .addresses .direction) sends) (l .payload) (c .marks) lens (l .slots) 0
-    (λ k less. ap (λ (j : ℕ). slotFit (eqb (c .addresses .direction) sends) (l .payload) (getD (c .marks) j 0) (getD lens (slotOf j) 0)) (zero-add k) ∙ h .slots k (omega (arith, h .count))) in
+    let all : slotsFit (slotOf c) (eqb (c .addresses .direction) sends) (l .payload) (c .marks) lens (l .slots) 0 ≡ true =
+    slots-all (slotOf c) (eqb (c .addresses .direction) sends) (l .payload) (c .marks) lens (l .slots) 0
+    (λ k less. ap (λ (j : ℕ). slotFit (eqb (c .addresses .direction) sends) (l .payload) (getD (c .marks) j 0) (getD lens (slotOf c j) 0)) (zero-add k) ∙ h .slots k (omega (arith, h .count))) in
     simp (h .fit, eq-eqb _ _ (h .count), h .named, h .ring, h .flight, h .sided, eq-eqb _ _ run, all)

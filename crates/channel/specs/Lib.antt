@@ -1,4 +1,5 @@
 pub mod Record
+pub mod Places
 pub mod Answers
 pub mod Settings
 pub mod Lone

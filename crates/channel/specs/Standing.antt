@@ -8,7 +8,7 @@ use lib.ListN.{length, getD}
 use Rattle.laws.specs.Choice.{if_then_else_}
 use Rattle.ring.specs.Ring.{roundOf, backOf, runOf}
 use Rattle.slots.specs.Marks.{ends}
-use Rattle.slots.specs.Slots.{slotOf}
+use Rattle.channel.specs.Places.{slotOf}
 use Rattle.channel.specs.declared.record.Limits.{Limits}
 use Rattle.channel.specs.declared.record.Window.{Window}
 use Rattle.channel.specs.declared.record.Channel.{Channel}
@@ -77,7 +77,7 @@ standing c lens =
     && inFlight (c .limits) (c .window)
     && sided (c .addresses .direction) (c .phase .state) (c .window)
     && marked (c .limits .slots) (c .window) (c .marks)
-    && slotsFit slotOf (eqb (c .addresses .direction) sends) (c .limits .payload) (c .marks) lens (c .limits .slots) 0
+    && slotsFit (slotOf c) (eqb (c .addresses .direction) sends) (c .limits .payload) (c .marks) lens (c .limits .slots) 0
 
 -- ---- as facts: each segment held lies in a marked slot, and each slot fits
 
@@ -94,7 +94,7 @@ pub record Standing (c : Channel) (lens : List ℕ) : Type 0 where
       → ⊥
   pub slots : (i : ℕ)
       → i < c .limits .slots
-      → slotFit (eqb (c .addresses .direction) sends) (c .limits .payload) (getD (c .marks) i 0) (getD lens (slotOf i) 0) ≡ true
+      → slotFit (eqb (c .addresses .direction) sends) (c .limits .payload) (getD (c .marks) i 0) (getD lens (slotOf c i) 0) ≡ true
 
 -- the numbers of a record that stands
 pub record Counted (l : Limits) (w : Window) : Type 0 where

@@ -6,13 +6,17 @@ use Rattle.channel.specs.declared.record.Addresses.{Addresses}
 use Rattle.channel.specs.declared.record.Channel.{Channel}
 use Rattle.channel.specs.declared.record.Lone.{Lone}
 use Rattle.channel.specs.declared.answer.Refusal.{Refusal}
+use Rattle.channel.specs.declared.answer.Answer.{Answer}
 use Rattle.channel.specs.declared.answer.Answer.the-variants.{Done, Repeated, Inactive, Refused}
 use Rattle.channel.specs.declared.step.Stepped.{Stepped}
 use Rattle.channel.specs.Record.{enabled, freshOf}
 
--- nothing has changed
+-- an answer, and nothing has changed
+abbrev pub answered : Channel → Answer → Stepped
+answered c a = record { channel = c; answer = a }
+
 abbrev pub refusing : Channel → Refusal → Stepped
-refusing c why = record { channel = c; answer = Refused why }
+refusing c why = answered c (Refused why)
 
 -- done, with n octets written
 abbrev pub doing : Channel → ℕ → Stepped

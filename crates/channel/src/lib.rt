@@ -3,6 +3,7 @@
 // `channel_stands`.
 pub mod answer;
 pub mod lone;
+pub mod places;
 pub mod record;
 pub mod step;
 

@@ -9,7 +9,7 @@ use crate::record::Node;
 use crate::record::fresh;
 use packet::Fields;
 ghost use mathlib.Core.Path.{_≡_};
-ghost use Rattle.channel.specs.Steps.{refusing, doing, enabledOf, outgoingOf};
+ghost use Rattle.channel.specs.Steps.{answered, refusing, doing, enabledOf, outgoingOf};
 
 // The channel after a step, and what the step answers.
 pub struct Stepped {
@@ -17,7 +17,13 @@ pub struct Stepped {
     pub answer: Answer,
 }
 
-// Nothing has changed.
+// An answer, and nothing has changed.
+pub fn unchanged(c: Channel, answer: Answer) -> Stepped
+    ensures { λ r. ⌜ r ≡ answered c answer ⌝ }
+{
+    Stepped { channel: c, answer }
+}
+
 pub fn refused(c: Channel, why: Refusal) -> Stepped
     ensures { λ r. ⌜ r ≡ refusing c why ⌝ }
 {

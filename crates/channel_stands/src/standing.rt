@@ -3,13 +3,14 @@
 use channel::Channel;
 use channel::Limits;
 use channel::Window;
+use channel::places::slot_of;
 use channel::record::OPEN;
 use channel::record::SENDS;
 use channel_settings::settings::fits_limits;
 ghost use mathlib.Core.Path.{_≡_};
 ghost use Prim.Native.Nat.{_-_, _≤_, _<_};
 ghost use lib.ListN.{length};
-ghost use Rattle.slots.specs.Slots.{slotOf};
+ghost use Rattle.channel.specs.Places.{slotIn};
 ghost use Rattle.channel.specs.Standing.{named, inRing, inFlight, sided, slotFit, slotsFit, marked, standing};
 ghost use Rattle.channel.specs.Record.{sends};
 ghost use lib.Dec.{eqb};
@@ -41,13 +42,7 @@ pub fn stands(c: Channel, lens: &[u16]) -> bool
     if !is_marked(limits.slots, window, &marks) {
         return false;
     }
-    slots_fit(
-        c.addresses.direction == SENDS,
-        limits.slots,
-        limits.payload,
-        &marks,
-        lens,
-    )
+    slots_fit(limits, c.addresses.direction == SENDS, &marks, lens)
 }
 
 // The small numbers have a meaning.
@@ -130,36 +125,36 @@ fn is_marked(slots: usize, w: Window, marks: &[u8; 128]) -> bool
 }
 
 // Each slot that is marked has a length that fits. It goes by eights, and the compiler lays out the looks at eight in a row.
-fn slots_fit(sending: bool, slots: usize, most: usize, marks: &[u8; 128], lens: &[u16]) -> bool
-    requires { ⌜ (slots ≤ 128) × (slots ≤ length (now lens)) ⌝ }
-    ensures { λ r. ⌜ r ≡ slotsFit slotOf sending most (now (marks .entry)) (now (lens .entry)) slots 0 ⌝ }
+fn slots_fit(limits: Limits, sending: bool, marks: &[u8; 128], lens: &[u16]) -> bool
+    requires { ⌜ (limits .slots ≤ 128) × (limits .slots ≤ length (now lens)) ⌝ }
+    ensures { λ r. ⌜ r ≡ slotsFit (slotIn limits) sending (limits .payload) (now (marks .entry)) (now (lens .entry)) (limits .slots) 0 ⌝ }
 {
     let mut i: usize = 0;
-    while slots - i >= 8 {
-        if !places_fit(sending, most, marks, lens, i, i + 8) {
+    while limits.slots - i >= 8 {
+        if !places_fit(limits, sending, marks, lens, i, i + 8) {
             return false;
         }
         i += 8;
     }
-    places_fit(sending, most, marks, lens, i, slots)
+    places_fit(limits, sending, marks, lens, i, limits.slots)
 }
 
 // Those of some places do. Marks lie by place, lengths by slot.
 fn places_fit(
+    limits: Limits,
     sending: bool,
-    most: usize,
     marks: &[u8; 128],
     lens: &[u16],
     from: usize,
     end: usize,
 ) -> bool
-    requires { ⌜ (from ≤ end) × (end ≤ 128) × (end ≤ length (now lens)) ⌝ }
-    ensures { λ r. ⌜ r ≡ slotsFit slotOf sending most (now (marks .entry)) (now (lens .entry)) (end - from) from ⌝ }
+    requires { ⌜ (from ≤ end) × (end ≤ limits .slots) × (limits .slots ≤ 128) × (limits .slots ≤ length (now lens)) ⌝ }
+    ensures { λ r. ⌜ r ≡ slotsFit (slotIn limits) sending (limits .payload) (now (marks .entry)) (now (lens .entry)) (end - from) from ⌝ }
 {
     let mut i = from;
     while i < end {
-        let slot = slots::slot_of(i);
-        if !slot_fits(sending, most, marks[i], lens[slot] as usize) {
+        let slot = slot_of(limits, i);
+        if !slot_fits(sending, limits.payload, marks[i], lens[slot] as usize) {
             return false;
         }
         i += 1;

@@ -10,7 +10,8 @@ use lib.Dec.{ltb, eqb}
 use lib.ListN.{length, getD, take, drop}
 use Rattle.laws.specs.Choice.{if_then_else_}
 use Rattle.laws.proofs.Choice.{chosen, passed-by}
-use Rattle.slots.specs.Slots.{slotOf, segmentIn}
+use Rattle.slots.specs.Slots.{segmentIn}
+use Rattle.channel.specs.Places.{slotOf}
 use Rattle.packet.specs.declared.fields.Fields.{Fields}
 use Rattle.packet.specs.declared.writing.Written.the-variants as written
 use Rattle.packet.specs.Layout.{fieldsAt}
@@ -75,11 +76,11 @@ control-kind node c = go (eqb (c .phase .state) enabled)
 module _ (c : Channel) (mem lens : List ℕ) (rank : ℕ) where
   pub payload-control : rank ≡ 0 → nextPayload c lens mem rank ≡ []
   unfolding nextPayload
-  payload-control e = chosen (eqb rank 0) [] (segmentIn (c .limits .payload) mem lens (slotOf (placeAt c (segmentFor c rank)))) (eq-eqb rank 0 e)
+  payload-control e = chosen (eqb rank 0) [] (segmentIn (c .limits .payload) mem lens (slotOf c (placeAt c (segmentFor c rank)))) (eq-eqb rank 0 e)
 
-  pub payload-data : (rank ≡ 0 → ⊥) → nextPayload c lens mem rank ≡ segmentIn (c .limits .payload) mem lens (slotOf (placeAt c (segmentFor c rank)))
+  pub payload-data : (rank ≡ 0 → ⊥) → nextPayload c lens mem rank ≡ segmentIn (c .limits .payload) mem lens (slotOf c (placeAt c (segmentFor c rank)))
   unfolding nextPayload
-  payload-data e = passed-by (eqb rank 0) [] (segmentIn (c .limits .payload) mem lens (slotOf (placeAt c (segmentFor c rank)))) (ne-eqb rank 0 e)
+  payload-data e = passed-by (eqb rank 0) [] (segmentIn (c .limits .payload) mem lens (slotOf c (placeAt c (segmentFor c rank)))) (ne-eqb rank 0 e)
 
 -- ---- the packet
 
@@ -109,7 +110,7 @@ module _ (node : Node) (c : Channel) (mem lens : List ℕ) (a : Asked c mem lens
     where
       go : (b : Bool) → eqb rank 0 ≡ b
           → Plain (nextFields node c rank) (length (nextPayload c lens mem rank))
-          × (12 + (if b then 0 else getD lens (slotOf (placeAt c (segmentFor c rank))) 0) ≡ 12 + length (nextPayload c lens mem rank))
+          × (12 + (if b then 0 else getD lens (slotOf c (placeAt c (segmentFor c rank))) 0) ≡ 12 + length (nextPayload c lens mem rank))
       go true e =
           let zero = eqb-true rank 0 e in
           let p : length (nextPayload c lens mem rank) ≡ 0 = ap length (payload-control c mem lens rank zero) in (
@@ -120,8 +121,8 @@ module _ (node : Node) (c : Channel) (mem lens : List ℕ) (a : Asked c mem lens
       go false e =
           let some = eqb-false rank 0 e in
           let i = segmentFor c rank in
-          let there = lying c mem lens a i (segment-ahead some) (placeAt c i) (slotOf (placeAt c i)) refl refl in
-          let p : length (nextPayload c lens mem rank) ≡ getD lens (slotOf (placeAt c i)) 0
+          let there = lying c mem lens a i (segment-ahead some) (placeAt c i) (slotOf c (placeAt c i)) refl refl in
+          let p : length (nextPayload c lens mem rank) ≡ getD lens (slotOf c (placeAt c i)) 0
           = ap length (payload-data c mem lens rank some) ∙ segment-sized c mem lens a i (segment-ahead some)
           in (
             subst (λ (f : Fields). Plain f (length (nextPayload c lens mem rank))) (sym (next-data node c rank some))

@@ -10,7 +10,8 @@ use lib.ListN.{length, take, drop}
 use lib.Seq.{take-at}
 use Rattle.laws.specs.Choice.{if_then_else_}
 use Rattle.laws.proofs.Choice.{chosen, last-not}
-use Rattle.slots.specs.Slots.{slotOf, laid}
+use Rattle.slots.specs.Slots.{laid}
+use Rattle.channel.specs.Places.{slotOf}
 use Rattle.store.specs.Store.{octetsIn}
 use Rattle.walks.specs.Serving.{works}
 use Rattle.channel.specs.declared.record.Channel.{Channel}
@@ -115,12 +116,12 @@ module _ {h s : End} {past : List Event} {x : Sender} {y : Receiver} {t : List C
 -- done it writes the unit
 reclaim-writes : (c : Channel) (mem lens out : List ℕ) → eqb (numberOf (reclaimStep c lens (length out) .answer)) 0 ≡ true
     → (lengthOf (reclaimStep c lens (length out) .answer) ≡ sizeAt c lens)
-    × (reclaimOut c lens mem out ≡ laid out 0 (octetsIn slotOf (c .limits .payload) mem lens (c .limits .slots) (unitAt c) (c .window .place)))
+    × (reclaimOut c lens mem out ≡ laid out 0 (octetsIn (slotOf c) (c .limits .payload) mem lens (c .limits .slots) (unitAt c) (c .window .place)))
 reclaim-writes c mem lens out =
     reclaim-out-cases c lens mem out
     (λ (s : Stepped) (o : List ℕ). eqb (numberOf (s .answer)) 0 ≡ true
     → (lengthOf (s .answer) ≡ sizeAt c lens)
-    × (o ≡ laid out 0 (octetsIn slotOf (c .limits .payload) mem lens (c .limits .slots) (unitAt c) (c .window .place))))
+    × (o ≡ laid out 0 (octetsIn (slotOf c) (c .limits .payload) mem lens (c .limits .slots) (unitAt c) (c .window .place))))
     (λ e. absurd (true≢false (sym e))) (λ e. absurd (true≢false (sym e))) (λ e. absurd (true≢false (sym e))) (λ e. (refl, refl))
 
 laid-first : (out u : List ℕ) → take (length u) (laid out 0 u) ≡ u
@@ -160,7 +161,7 @@ module _ {h s : End} {past : List Event} {x : Sender} {y : Receiver} {t : List C
       o = reclaimOut (own k) (lengths k) (octets k) b
 
       unit : List ℕ
-      unit = octetsIn slotOf (own k .limits .payload) (octets k) (lengths k) (own k .limits .slots) (unitAt (own k)) (own k .window .place)
+      unit = octetsIn (slotOf (own k)) (own k .limits .payload) (octets k) (lengths k) (own k .limits .slots) (unitAt (own k)) (own k .window .place)
 
       Given : Limits → Type 0
       Given L =

@@ -9,7 +9,8 @@ use borrow.Author.Tests.{eq-eqb, eqb-true, eqb-false, ltb-true, ltb-false}
 use lib.Dec.{eqb, ltb}
 use lib.ListN.{length, take}
 use Rattle.laws.proofs.Choice.{chosen}
-use Rattle.slots.specs.Slots.{slotOf, laid}
+use Rattle.slots.specs.Slots.{laid}
+use Rattle.channel.specs.Places.{slotOf}
 use Rattle.slots.proofs.Laws.{laid-here}
 use Rattle.store.specs.Store.{octetsIn}
 use Rattle.walks.specs.Serving.{works}
@@ -81,7 +82,7 @@ module _ {h s : End} {past : List Event} {x : Sender} {y : Receiver} {t : List C
       takes-quiet (Refused why) o (unanswered subscriber takes i (subscriberEvent request copy n (Refused why) o) (refused-not-done why))
 
   abbrev unit : List ℕ
-  unit = octetsIn slotOf (c .limits .payload) m l (c .limits .slots) (unitAt c) (oldestOf (c .limits .slots) (c .window))
+  unit = octetsIn (slotOf c) (c .limits .payload) m l (c .limits .slots) (unitAt c) (oldestOf (c .limits .slots) (c .window))
 
   takes-done : channel ≡ i → takeStep c l (length buffer) ≡ doing (dropped c (unitAt c)) (sizeAt c l) → sizeAt c l ≤ length buffer
       → Next w request copy (Done (sizeAt c l) 0) (laid buffer 0 unit) (dropped c (unitAt c)) m l

@@ -31,7 +31,6 @@ use Rattle.sender.specs.Directives as sender
 use Rattle.sender.specs.Ticking.{tickStep as senderTick}
 use Rattle.sender_units.specs.Transfer.{isAccepted, freeAt, transferStep}
 use Rattle.sender_units.specs.Reclaiming.{unitAt, reclaimStep}
-use Rattle.sender_units.proofs.UnitLaws.{would-same}
 use Rattle.sender_packets.specs.HandingOut.{controlOut, againOut, newOut, nextOut, nextLength, handStep}
 use Rattle.sender_acks.specs.Acks.{controlAckStep, awayOf, recorded, wholeAt, advanced, dataAckStep}
 use Rattle.receiver.specs.Receiving as receiver
@@ -84,8 +83,7 @@ module _ (c : Channel) (w : Full c) where
   unfolding transferStep
   transfer-full n =
       let count = segmentsOf (c .limits .payload) n in
-      either Fills (isAccepted c n) _ _ (filed-marks-length (c .limits .slots) count (c .marks) count 0 (freeAt c) ∙ w)
-      (subst Full (sym (would-same c n)) w)
+      either Full (isAccepted c n) _ _ (filed-marks-length (c .limits .slots) count (c .marks) count 0 (freeAt c) ∙ w) w
 
   reclaim-full : (lens : List ℕ) (n : ℕ) → Fills (reclaimStep c lens n)
   reclaim-full lens n =

@@ -9,7 +9,7 @@ use native.Mathlib.Nat.{add-zero, add-suc, add-assoc, mul-le-mul-right}
 use native.Mathlib.Omega.{arith}
 use borrow.Author.Tests.{ltb-true, ltb-false, eqb-true, eq-eqb, not-true}
 use lib.Dec.{ltb, eqb}
-use lib.ListN.{length, getD, length-set, length-replicate}
+use lib.ListN.{length, length-set, length-replicate}
 use lib.Seq.{getD-set-same, getD-set-other}
 use Rattle.laws.proofs.Choice.{both}
 use Rattle.walks.specs.Fold.{foldFrom}
@@ -20,7 +20,7 @@ use Rattle.channel.specs.Tables.{clashes, eachFit}
 use Rattle.table.specs.Lent.{areaOf, slotsOf, octetsOf}
 use Rattle.settings_seen.specs.declared.seeing.Seen.{Seen}
 use Rattle.node_settings.specs.Configuring.{madeTable}
-use Rattle.settings_seen.specs.Seeing.{begun, unsound, addressesAt, taken, noted, seeOne}
+use Rattle.settings_seen.specs.Seeing.{nowhere, begun, unsound, addressesAt, taken, noted, seeOne}
 use Rattle.settings_seen.proofs.OneLaws.{bounded, one-spoilt, one-many, one-unfit, one-taken, one-noted}
 
 -- ---- two clash in either order
@@ -52,44 +52,23 @@ taken-last v a (suc n) i =
     ∙ sym (or-assoc (clash a (addressesAt v i)) (taken v a n (i + 1)) (clash a (addressesAt v (i + 1 + n))))
     ∙ ap (λ (k : ℕ). (clash a (addressesAt v i) || taken v a n (i + 1)) || clash a (addressesAt v k)) e
 
--- every array has 16 places
-pub record Sixteen (v : Seen) : Type 0 where
-  pub channels : length (v .channels) ≡ 16
-  pub remotes : length (v .remotes) ≡ 16
-  pub directions : length (v .directions) ≡ 16
+-- there is a place for each of 16
+abbrev pub Sixteen : Seen → Type 0
+Sixteen v = length (v .addresses) ≡ 16
 
 begun-sixteen : Sixteen begun
-begun-sixteen = record { channels = length-replicate {A = ℕ} 16 0; remotes = length-replicate {A = ℕ} 16 0; directions = length-replicate {A = ℕ} 16 0 }
-
-abbrev addressed : ℕ → ℕ → ℕ → Addresses
-addressed c r d = record { channel = c; remote = r; direction = d }
+begun-sixteen = length-replicate {A = Addresses} 16 nowhere
 
 -- one is noted at index j
 module _ (v : Seen) (s : Settings) (j : ℕ) (places : Sixteen v) (few : j < 16) where
   noted-sixteen : Sixteen (noted v s j)
-  noted-sixteen =
-      record {
-        channels = length-set (v .channels) j (s .addresses .channel) ∙ places .channels;
-        remotes = length-set (v .remotes) j (s .addresses .remote) ∙ places .remotes;
-        directions = length-set (v .directions) j (s .addresses .direction) ∙ places .directions;
-      }
+  noted-sixteen = length-set (v .addresses) j (s .addresses) ∙ places
 
   at-index : addressesAt (noted v s j) j ≡ s .addresses
-  at-index =
-      ap (λ (c : ℕ). addressed c (getD (noted v s j .remotes) j 0) (getD (noted v s j .directions) j 0))
-      (getD-set-same (v .channels) j (s .addresses .channel) 0 (omega (arith, few, places .channels)))
-      ∙ ap₂ (λ (r d : ℕ). addressed (s .addresses .channel) r d)
-      (getD-set-same (v .remotes) j (s .addresses .remote) 0 (omega (arith, few, places .remotes)))
-      (getD-set-same (v .directions) j (s .addresses .direction) 0 (omega (arith, few, places .directions)))
+  at-index = getD-set-same (v .addresses) j (s .addresses) nowhere (omega (arith, few, places))
 
   before : (i : ℕ) → i < j → addressesAt (noted v s j) i ≡ addressesAt v i
-  before i h =
-      let other : i ≡ j → ⊥ = λ e. absurd (omega (arith, h, e)) in
-      ap (λ (c : ℕ). addressed c (getD (noted v s j .remotes) i 0) (getD (noted v s j .directions) i 0))
-      (getD-set-other (v .channels) j i (s .addresses .channel) 0 other)
-      ∙ ap₂ (λ (r d : ℕ). addressed (getD (v .channels) i 0) r d)
-      (getD-set-other (v .remotes) j i (s .addresses .remote) 0 other)
-      (getD-set-other (v .directions) j i (s .addresses .direction) 0 other)
+  before i h = getD-set-other (v .addresses) j i (s .addresses) nowhere (λ e. absurd (omega (arith, h, e)))
 
   taken-before : (a : Addresses) (n i : ℕ) → i + n ≤ j → taken (noted v s j) a n i ≡ taken v a n i
   unfolding taken

@@ -49,14 +49,14 @@ swept-end [] i h = ap (λ (n : ℕ). toldOf n (Done 0 0)) (omega arith)
 swept-end (c ∷ t) i h = go (tickedBy c .inactive) refl (swept-end t (i + 1) (omega (arith, h)))
   where
     first : Round
-    first = record { index = i; reason = tickedBy c .channel .reason; any = true }
+    first = record { index = i; reason = tickedBy c .channel .phase .reason; any = true }
 
     go : (b : Bool) → tickedBy c .inactive ≡ b → tickEnd (sweptRound t (quiet (i + 1))) ≡ toldOf (i + 1 + firstInactive t) (tickAnswer t)
         → tickEnd (sweptRound (c ∷ t) (quiet i)) ≡ toldOf (i + firstInactive (c ∷ t)) (tickAnswer (c ∷ t))
     go true e next =
         ap (λ (r : Round). tickEnd (sweptRound t r)) (round-first (tickedBy c) (quiet i) refl e)
         ∙ ap tickEnd (swept-told t first refl)
-        ∙ sym (simp (e) (ap (λ (n : ℕ). toldOf n (Inactive (tickedBy c .channel .reason))) (add-zero i)))
+        ∙ sym (simp (e) (ap (λ (n : ℕ). toldOf n (Inactive (tickedBy c .channel .phase .reason))) (add-zero i)))
     go false e next =
         ap (λ (r : Round). tickEnd (sweptRound t r)) (round-on (tickedBy c) (quiet i) refl e (omega (arith, h)))
         ∙ next

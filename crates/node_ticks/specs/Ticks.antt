@@ -32,7 +32,7 @@ firstInactive (c ∷ t) = if tickedBy c .inactive then 0 else suc (firstInactive
 
 -- 9 if any channel went inactive in it, for the reason that its record then says; else 0
 abbrev pub tickAnswer : List Channel → Answer
-tickAnswer t = if anyInactive t then Inactive (recordAt (map tickOf t) (firstInactive t) .reason) else Done 0 0
+tickAnswer t = if anyInactive t then Inactive (recordAt (map tickOf t) (firstInactive t) .phase .reason) else Done 0 0
 
 unfoldable pub ticked : List Channel → List ℕ → List ℕ → Changed Answer Channel
 ticked t mem lens =

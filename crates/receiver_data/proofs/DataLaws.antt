@@ -8,7 +8,8 @@ use borrow.Author.Tests.{lt-leb, le-leb, eq-eqb, ne-eqb}
 use lib.ListN.{length, set}
 use Rattle.laws.specs.Choice.{if_then_else_}
 use Rattle.laws.proofs.Choice.{chosen, passed-by}
-use Rattle.slots.specs.Slots.{slotOf, laid}
+use Rattle.slots.specs.Slots.{laid}
+use Rattle.channel.specs.Places.{slotOf}
 use Rattle.channel.specs.declared.record.Channel.{Channel}
 use Rattle.channel.specs.declared.answer.Refusal.the-variants as refusal
 use Rattle.channel.specs.Record.{opened, brokenFlags, withWindow}
@@ -50,10 +51,10 @@ module _ (c : Channel) (d : ℕ) where
   pub new-accepted : (flags : ℕ) → c .window .behind + d < c .limits .slots → dataBy New c d flags ≡ acceptStep c (placeAt (c .limits) (c .window) d) flags
   new-accepted flags h = passed-by _ _ _ (lt-leb _ _ h)
 
-  pub new-mem : (p mem : List ℕ) → c .window .behind + d < c .limits .slots → memBy New c d p mem ≡ laid mem (slotOf (placeAt (c .limits) (c .window) d) * c .limits .payload) p
+  pub new-mem : (p mem : List ℕ) → c .window .behind + d < c .limits .slots → memBy New c d p mem ≡ laid mem (slotOf c (placeAt (c .limits) (c .window) d) * c .limits .payload) p
   new-mem p mem h = simp (lt-leb _ _ h)
 
-  pub new-lens : (p lens : List ℕ) → c .window .behind + d < c .limits .slots → lensBy New c d p lens ≡ set lens (slotOf (placeAt (c .limits) (c .window) d)) (length p)
+  pub new-lens : (p lens : List ℕ) → c .window .behind + d < c .limits .slots → lensBy New c d p lens ≡ set lens (slotOf c (placeAt (c .limits) (c .window) d)) (length p)
   new-lens p lens h = simp (lt-leb _ _ h)
 
 -- ---- Data: not in OPEN, and in OPEN by its sort
@@ -86,11 +87,11 @@ module _ (c : Channel) (number : ℕ) (s : Sort) (h : c .phase .state ≡ opened
 
   pub mem-by : (p mem : List ℕ) → dataMem c number p mem ≡ memBy s c (awayOf c number) p mem
   unfolding dataMem
-  mem-by p mem = ap (λ (t : Bool). if t then laid mem (slotOf (placeAt (c .limits) (c .window) (awayOf c number)) * c .limits .payload) p else mem) filed-by
+  mem-by p mem = ap (λ (t : Bool). if t then laid mem (slotOf c (placeAt (c .limits) (c .window) (awayOf c number)) * c .limits .payload) p else mem) filed-by
 
   pub lens-by : (p lens : List ℕ) → dataLens c number p lens ≡ lensBy s c (awayOf c number) p lens
   unfolding dataLens
-  lens-by p lens = ap (λ (t : Bool). if t then set lens (slotOf (placeAt (c .limits) (c .window) (awayOf c number))) (length p) else lens) filed-by
+  lens-by p lens = ap (λ (t : Bool). if t then set lens (slotOf c (placeAt (c .limits) (c .window) (awayOf c number))) (length p) else lens) filed-by
 
 -- after a segment is marked
 pub marked-ringed : (c : Channel) (place flags : ℕ) (k : Channel) (m : Moved) → k ≡ marking c place flags → m ≡ movedOf (c .limits) (k .marks) (c .window)

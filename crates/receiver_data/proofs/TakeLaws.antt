@@ -13,7 +13,8 @@ use Rattle.laws.specs.Choice.{if_then_else_}
 use Rattle.ring.specs.Ring.{roundOf}
 use Rattle.ring.proofs.Laws.{back-lt, round-lt}
 use Rattle.slots.specs.Marks.{ends}
-use Rattle.slots.specs.Slots.{slotOf, laid}
+use Rattle.slots.specs.Slots.{laid}
+use Rattle.channel.specs.Places.{slotOf}
 use Rattle.store.specs.Store.{EachFits, unitOf, sizeIn, octetsIn}
 use Rattle.store.proofs.Laws.{unit-le}
 use Rattle.channel.specs.declared.record.Channel.{Channel}
@@ -38,14 +39,14 @@ fit-length sending most mark len e n = large (ltb 4 mark) sending (ends mark) (s
 module _ (c : Channel) (lens : List ℕ) where
   -- the oldest n segments
   pub each-fits : (n : ℕ) → Standing c lens → n ≤ c .window .behind
-      → EachFits slotOf (c .limits .payload) lens (c .limits .slots) n (oldestOf (c .limits .slots) (c .window))
+      → EachFits (slotOf c) (c .limits .payload) lens (c .limits .slots) n (oldestOf (c .limits .slots) (c .window))
   each-fits n h l i less =
       let r = ringed c lens h in
       let from = oldestOf (c .limits .slots) (c .window) in
       let low : from < c .limits .slots = back-lt (c .limits .slots) (c .window .place) (c .window .behind) (r .place) in
       let on : roundOf (c .limits .slots) (from + i) < c .limits .slots = round-lt (c .limits .slots) (from + i) (omega arith) in
       fit-length (eqb (c .addresses .direction) sends) (c .limits .payload) (getD (c .marks) (roundOf (c .limits .slots) (from + i)) 0)
-      (getD lens (slotOf (roundOf (c .limits .slots) (from + i))) 0) (h .slots (roundOf (c .limits .slots) (from + i)) on) (h .held i (omega arith))
+      (getD lens (slotOf c (roundOf (c .limits .slots) (from + i))) 0) (h .slots (roundOf (c .limits .slots) (from + i)) on) (h .held i (omega arith))
 
   module _ (n : ℕ) where
     pub take-nothing : completeIn (c .window) ≡ 0 → takeStep c lens n ≡ refusing c refusal.Nothing
@@ -71,22 +72,22 @@ module _ (c : Channel) (lens : List ℕ) where
 
     pub out-done : (completeIn (c .window) ≡ 0 → ⊥) → sizeAt c lens ≤ length out
         → takeOut c lens mem out
-        ≡ laid out 0 (octetsIn slotOf (c .limits .payload) mem lens (c .limits .slots) (unitAt c) (oldestOf (c .limits .slots) (c .window)))
+        ≡ laid out 0 (octetsIn (slotOf c) (c .limits .payload) mem lens (c .limits .slots) (unitAt c) (oldestOf (c .limits .slots) (c .window)))
     unfolding takeOut
     out-done a b = simp (ne-eqb _ _ a, le-ltb _ _ b)
 
   -- the calls, one after the other: the place of the oldest segment, how many segments, how many octets
   module _ (from n size : ℕ) (ef : from ≡ oldestOf (c .limits .slots) (c .window))
-      (en : n ≡ unitOf (c .marks) (c .limits .slots) (completeIn (c .window)) from) (es : size ≡ sizeIn slotOf lens (c .limits .slots) n from) where
+      (en : n ≡ unitOf (c .marks) (c .limits .slots) (completeIn (c .window)) from) (es : size ≡ sizeIn (slotOf c) lens (c .limits .slots) n from) where
     pub unit-is : n ≡ unitAt c
     unit-is = en ∙ ap (unitOf (c .marks) (c .limits .slots) (completeIn (c .window))) ef
 
     pub size-is : size ≡ sizeAt c lens
-    size-is = es ∙ ap₂ (sizeIn slotOf lens (c .limits .slots)) unit-is ef
+    size-is = es ∙ ap₂ (sizeIn (slotOf c) lens (c .limits .slots)) unit-is ef
 
-    pub octets-are : (mem : List ℕ) → octetsIn slotOf (c .limits .payload) mem lens (c .limits .slots) n from
-        ≡ octetsIn slotOf (c .limits .payload) mem lens (c .limits .slots) (unitAt c) (oldestOf (c .limits .slots) (c .window))
-    octets-are mem = ap₂ (octetsIn slotOf (c .limits .payload) mem lens (c .limits .slots)) unit-is ef
+    pub octets-are : (mem : List ℕ) → octetsIn (slotOf c) (c .limits .payload) mem lens (c .limits .slots) n from
+        ≡ octetsIn (slotOf c) (c .limits .payload) mem lens (c .limits .slots) (unitAt c) (oldestOf (c .limits .slots) (c .window))
+    octets-are mem = ap₂ (octetsIn (slotOf c) (c .limits .payload) mem lens (c .limits .slots)) unit-is ef
 
 -- a unit is among what is complete
 pub unit-behind : (c : Channel) → unitAt c ≤ c .window .behind - c .window .way

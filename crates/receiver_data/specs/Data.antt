@@ -5,7 +5,8 @@ use mathlib.Core.List.{List}
 use lib.Dec.{eqb}
 use lib.ListN.{length, set}
 use Rattle.laws.specs.Choice.{if_then_else_}
-use Rattle.slots.specs.Slots.{slotOf, laid}
+use Rattle.slots.specs.Slots.{laid}
+use Rattle.channel.specs.Places.{slotOf}
 use Rattle.slots.specs.Marks.{markOf}
 use Rattle.channel.specs.declared.record.Channel.{Channel}
 use Rattle.channel.specs.declared.step.Stepped.{Stepped}
@@ -61,10 +62,10 @@ filesBy Other c d = false
 
 -- the memory and the lengths after a segment with the payload p, d past the start, by its sort
 abbrev pub memBy : Sort → Channel → ℕ → List ℕ → List ℕ → List ℕ
-memBy sort c d p mem = if filesBy sort c d then laid mem (slotOf (placeAt (c .limits) (c .window) d) * c .limits .payload) p else mem
+memBy sort c d p mem = if filesBy sort c d then laid mem (slotOf c (placeAt (c .limits) (c .window) d) * c .limits .payload) p else mem
 
 abbrev pub lensBy : Sort → Channel → ℕ → List ℕ → List ℕ → List ℕ
-lensBy sort c d p lens = if filesBy sort c d then set lens (slotOf (placeAt (c .limits) (c .window) d)) (length p) else lens
+lensBy sort c d p lens = if filesBy sort c d then set lens (slotOf c (placeAt (c .limits) (c .window) d)) (length p) else lens
 
 unfoldable pub isFiled : Channel → ℕ → Bool
 isFiled c number = if eqb (c .phase .state) opened then filesBy (sortOf c number) c (awayOf c number) else false
@@ -74,7 +75,7 @@ placeOf c number = placeAt (c .limits) (c .window) (awayOf c number)
 
 -- the memory and the lengths afterwards, with the payload p
 unfoldable pub dataMem : Channel → ℕ → List ℕ → List ℕ → List ℕ
-dataMem c number p mem = if isFiled c number then laid mem (slotOf (placeOf c number) * c .limits .payload) p else mem
+dataMem c number p mem = if isFiled c number then laid mem (slotOf c (placeOf c number) * c .limits .payload) p else mem
 
 unfoldable pub dataLens : Channel → ℕ → List ℕ → List ℕ → List ℕ
-dataLens c number p lens = if isFiled c number then set lens (slotOf (placeOf c number)) (length p) else lens
+dataLens c number p lens = if isFiled c number then set lens (slotOf c (placeOf c number)) (length p) else lens

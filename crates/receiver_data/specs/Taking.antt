@@ -5,7 +5,8 @@ use lib.Dec.{ltb, eqb}
 use lib.ListN.{length}
 use Rattle.laws.specs.Choice.{if_then_else_}
 use Rattle.ring.specs.Ring.{cleared}
-use Rattle.slots.specs.Slots.{slotOf, laid}
+use Rattle.slots.specs.Slots.{laid}
+use Rattle.channel.specs.Places.{slotOf}
 use Rattle.store.specs.Store.{unitOf, sizeIn, octetsIn}
 use Rattle.channel.specs.declared.record.Window.{Window}
 use Rattle.channel.specs.declared.record.Channel.{Channel}
@@ -24,7 +25,7 @@ abbrev pub unitAt : Channel → ℕ
 unitAt c = unitOf (c .marks) (c .limits .slots) (completeIn (c .window)) (oldestOf (c .limits .slots) (c .window))
 
 abbrev pub sizeAt : Channel → List ℕ → ℕ
-sizeAt c lens = sizeIn slotOf lens (c .limits .slots) (unitAt c) (oldestOf (c .limits .slots) (c .window))
+sizeAt c lens = sizeIn (slotOf c) lens (c .limits .slots) (unitAt c) (oldestOf (c .limits .slots) (c .window))
 
 -- the oldest n segments are gone
 abbrev pub dropped : Channel → ℕ → Channel
@@ -53,4 +54,4 @@ unfoldable pub takeOut : Channel → List ℕ → List ℕ → List ℕ → List
 takeOut c lens mem out =
     if eqb (completeIn (c .window)) 0 then out
     else if ltb (length out) (sizeAt c lens) then out
-    else laid out 0 (octetsIn slotOf (c .limits .payload) mem lens (c .limits .slots) (unitAt c) (oldestOf (c .limits .slots) (c .window)))
+    else laid out 0 (octetsIn (slotOf c) (c .limits .payload) mem lens (c .limits .slots) (unitAt c) (oldestOf (c .limits .slots) (c .window)))

@@ -2,6 +2,7 @@
 use channel::Channel;
 use channel::Refusal;
 use channel::Stepped;
+use channel::places::slot_of;
 use channel::record::BROKEN_FLAGS;
 use channel::record::DATA_NUMBER;
 use channel::record::OPEN;
@@ -68,7 +69,7 @@ fn take_new(
         return refused(c, Refusal::Full);
     }
     let place = ring::round(c.window.place + d, slots);
-    let slot = slots::slot_of(place);
+    let slot = slot_of(c.limits, place);
     slots::file_segment(mem, lens, slot, slots, c.limits.payload, part);
     accept(c, place, flags)
 }

@@ -8,7 +8,8 @@ use borrow.Author.Tests.{eqb-true, eqb-false, leb-true, leb-false}
 use lib.Dec.{eqb, leb, ltb}
 use lib.ListN.{length, set}
 use Rattle.laws.proofs.Choice.{either, by-test}
-use Rattle.slots.specs.Slots.{slotOf, laid}
+use Rattle.slots.specs.Slots.{laid}
+use Rattle.channel.specs.Places.{slotOf}
 use Rattle.channel.specs.declared.record.Channel.{Channel}
 use Rattle.channel.specs.declared.step.Stepped.{Stepped}
 use Rattle.channel.specs.declared.answer.Refusal.the-variants as refusal
@@ -79,8 +80,8 @@ module _ (c : Channel) (number flags : ℕ) (p mem lens : List ℕ) (P : Stepped
     (repeated : P (repeating c ackLength) mem lens) (failed : P (failing (shutFor c dataNumber) dataNumber) mem lens)
     (accepted : c .window .behind + awayOf c number < c .limits .slots
     → P (acceptStep c (placeAt (c .limits) (c .window) (awayOf c number)) flags)
-    (laid mem (slotOf (placeAt (c .limits) (c .window) (awayOf c number)) * c .limits .payload) p)
-    (set lens (slotOf (placeAt (c .limits) (c .window) (awayOf c number))) (length p))) where
+    (laid mem (slotOf c (placeAt (c .limits) (c .window) (awayOf c number)) * c .limits .payload) p)
+    (set lens (slotOf c (placeAt (c .limits) (c .window) (awayOf c number))) (length p))) where
   room-cases : (t : Bool) → leb (c .limits .slots) (c .window .behind + awayOf c number) ≡ t
       → P (dataBy New c (awayOf c number) flags) (memBy New c (awayOf c number) p mem) (lensBy New c (awayOf c number) p lens)
   room-cases true e =

@@ -17,8 +17,10 @@ use Rattle.laws.proofs.Numbers.{lt-cases}
 use Rattle.ring.specs.Ring.{roundOf, backOf, cleared}
 use Rattle.ring.proofs.Laws.{round-lt, round-add, back-lt, back-forth, set-here, cleared-either, cleared-out}
 use Rattle.slots.specs.Marks.{markOf, begins, ends}
-use Rattle.slots.specs.Slots.{Sized, slotOf}
-use Rattle.slots.proofs.Laws.{slot-bound, slot-apart, filed-sized, slot-other}
+use Rattle.slots.specs.Slots.{Sized}
+use Rattle.channel.specs.Places.{slotIn, slotOf}
+use Rattle.slots.proofs.Laws.{filed-sized, slot-other}
+use Rattle.channel.proofs.PlaceLaws.{slot-bound, slot-apart}
 use Rattle.store.proofs.Laws.{unit-some}
 use Rattle.channel.specs.declared.record.Limits.{Limits}
 use Rattle.channel.specs.declared.record.Window.{Window}
@@ -49,32 +51,32 @@ few-fit most flags len f l = simp (ne-eqb (flags + 1) 0 (λ z. omega arith), le-
 cleared-fits : (l : Limits) (marks lens : List ℕ) (n from : ℕ) → Fitting l marks lens → Fitting l (cleared marks (l .slots) n from) lens
 cleared-fits l marks lens n from f i less =
     ⊎-elim
-    (λ z. ap (λ (k : ℕ). slotFit false (l .payload) k (getD lens (slotOf i) 0)) z ∙ free-fits false (l .payload) (getD lens (slotOf i) 0))
-    (λ e. ap (λ (k : ℕ). slotFit false (l .payload) k (getD lens (slotOf i) 0)) e ∙ f i less)
+    (λ z. ap (λ (k : ℕ). slotFit false (l .payload) k (getD lens (slotIn l i) 0)) z ∙ free-fits false (l .payload) (getD lens (slotIn l i) 0))
+    (λ e. ap (λ (k : ℕ). slotFit false (l .payload) k (getD lens (slotIn l i) 0)) e ∙ f i less)
     (cleared-either marks (l .slots) n from i)
 
 filed-fits : (l : Limits) (marks lens : List ℕ) (place flags n : ℕ) → length lens ≡ l .slots → place < l .slots → flags < 4 → n ≤ l .payload
-    → Fitting l marks lens → Fitting l (set marks place (markOf flags)) (set lens (slotOf place) n)
+    → Fitting l marks lens → Fitting l (set marks place (markOf flags)) (set lens (slotIn l place) n)
 filed-fits l marks lens place flags n count on small few f i less = at (eqb i place) refl
   where
-    here : slotFit false (l .payload) (getD (set marks place (markOf flags)) place 0) (getD (set lens (slotOf place) n) (slotOf place) 0) ≡ true
+    here : slotFit false (l .payload) (getD (set marks place (markOf flags)) place 0) (getD (set lens (slotIn l place) n) (slotIn l place) 0) ≡ true
     here =
         ap (slotFit false (l .payload) (getD (set marks place (markOf flags)) place 0))
-        (getD-set-same lens (slotOf place) n 0 (omega (arith, slot-bound (l .slots) place on)))
+        (getD-set-same lens (slotIn l place) n 0 (omega (arith, slot-bound l place on)))
         ∙ ⊎-elim
         (λ v. ap (λ (k : ℕ). slotFit false (l .payload) k n) v ∙ few-fit (l .payload) flags n small few)
         (λ z. ap (λ (k : ℕ). slotFit false (l .payload) k n) z ∙ free-fits false (l .payload) n)
         (set-here marks place (markOf flags))
 
     at : (t : Bool) → eqb i place ≡ t
-        → slotFit false (l .payload) (getD (set marks place (markOf flags)) i 0) (getD (set lens (slotOf place) n) (slotOf i) 0) ≡ true
+        → slotFit false (l .payload) (getD (set marks place (markOf flags)) i 0) (getD (set lens (slotIn l place) n) (slotIn l i) 0) ≡ true
     at true e =
-        ap (λ (j : ℕ). slotFit false (l .payload) (getD (set marks place (markOf flags)) j 0) (getD (set lens (slotOf place) n) (slotOf j) 0)) (eqb-true _ _ e)
+        ap (λ (j : ℕ). slotFit false (l .payload) (getD (set marks place (markOf flags)) j 0) (getD (set lens (slotIn l place) n) (slotIn l j) 0)) (eqb-true _ _ e)
         ∙ here
     at false e =
         let d = eqb-false i place e in
-        ap (λ (k : ℕ). slotFit false (l .payload) k (getD (set lens (slotOf place) n) (slotOf i) 0)) (getD-set-other marks place i (markOf flags) 0 d)
-        ∙ ap (slotFit false (l .payload) (getD marks i 0)) (getD-set-other lens (slotOf place) (slotOf i) n 0 (λ same. d (slot-apart i place same)))
+        ap (λ (k : ℕ). slotFit false (l .payload) k (getD (set lens (slotIn l place) n) (slotIn l i) 0)) (getD-set-other marks place i (markOf flags) 0 d)
+        ∙ ap (slotFit false (l .payload) (getD marks i 0)) (getD-set-other lens (slotIn l place) (slotIn l i) n 0 (λ same. d (slot-apart l i place same)))
         ∙ f i less
 
 -- ---- leaving OPEN
@@ -184,12 +186,12 @@ moved-kept l marks w some k m =
 -- ---- a segment filed at a place, marked, and the start moved
 
 marking-receives : (c : Channel) (lens : List ℕ) (place flags n : ℕ) → place < c .limits .slots → flags < 4 → n ≤ c .limits .payload → Receives c lens
-    → Receives (marking c place flags) (set lens (slotOf place) n)
+    → Receives (marking c place flags) (set lens (slotOf c place) n)
 marking-receives c lens place flags n on few short r =
     let s = r .small in
     record {
       fit = r .fit;
-      count = length-set lens (slotOf place) n ∙ r .count;
+      count = length-set lens (slotOf c place) n ∙ r .count;
       direction = r .direction;
       small = record { direction = s .direction; state = s .state; reason = s .reason; kept = s .kept; accepted = omega arith; control = s .control };
       window = r .window;
@@ -274,13 +276,13 @@ module _ (c : Channel) (lens : List ℕ) (d : c .addresses .direction ≡ receiv
 
   -- a segment filed at a place of the ring
   accept-stands : (place flags n : ℕ) → place < c .limits .slots → flags < 4 → n ≤ c .limits .payload
-      → Standing (acceptStep c place flags .channel) (set lens (slotOf place) n)
+      → Standing (acceptStep c place flags .channel) (set lens (slotOf c place) n)
   accept-stands place flags n on few short =
-      let r = moving-receives (marking c place flags) (set lens (slotOf place) n) (marking-receives c lens place flags n on few short is) in
+      let r = moving-receives (marking c place flags) (set lens (slotOf c place) n) (marking-receives c lens place flags n on few short is) in
       let k = withWindow (marking c place flags) (movedOf (c .limits) (marking c place flags .marks) (c .window) .window) in
-      accept-cases c place flags (λ (s : Stepped). Standing (s .channel) (set lens (slotOf place) n))
-      (receives-stands (shutFor k 5) (set lens (slotOf place) n) (shut-receives k (set lens (slotOf place) n) 5 (omega arith) r))
-      (receives-stands k (set lens (slotOf place) n) r)
+      accept-cases c place flags (λ (s : Stepped). Standing (s .channel) (set lens (slotOf c place) n))
+      (receives-stands (shutFor k 5) (set lens (slotOf c place) n) (shut-receives k (set lens (slotOf c place) n) 5 (omega arith) r))
+      (receives-stands k (set lens (slotOf c place) n) r)
 
   on-ring : (number : ℕ) → c .window .behind + awayOf c number < c .limits .slots → placeAt (c .limits) (c .window) (awayOf c number) < c .limits .slots
   on-ring number room = let k = is .window in round-lt (c .limits .slots) (c .window .place + awayOf c number) (omega arith)
@@ -297,12 +299,12 @@ module _ (c : Channel) (lens : List ℕ) (d : c .addresses .direction ≡ receiv
         → Sized (c .limits .slots) (c .limits .payload) (dataMem c number p mem) (dataLens c number p lens)
     data-sized z =
         data-cases c number 0 p mem lens (λ (s : Stepped) (m l : List ℕ). Sized (c .limits .slots) (c .limits .payload) m l) z z z z
-        (λ room. filed-sized (c .limits .slots) (c .limits .payload) mem lens (slotOf (placeAt (c .limits) (c .window) (awayOf c number))) p z (slot-bound (c .limits .slots) (placeAt (c .limits) (c .window) (awayOf c number)) (on-ring number room)) short)
+        (λ room. filed-sized (c .limits .slots) (c .limits .payload) mem lens (slotOf c (placeAt (c .limits) (c .window) (awayOf c number))) p z (slot-bound (c .limits) (placeAt (c .limits) (c .window) (awayOf c number)) (on-ring number room)) short)
 
     -- the octets of every slot but the one filed stay
     pub other-slots-stay : Sized (c .limits .slots) (c .limits .payload) mem lens
         → (j : ℕ)
-        → (j ≡ slotOf (placeOf c number) → ⊥)
+        → (j ≡ slotOf c (placeOf c number) → ⊥)
         → take (c .limits .payload) (drop (j * c .limits .payload) (dataMem c number p mem)) ≡ take (c .limits .payload) (drop (j * c .limits .payload) mem)
     other-slots-stay z j other =
         data-cases c number 0 p mem lens
@@ -311,7 +313,7 @@ module _ (c : Channel) (lens : List ℕ) (d : c .addresses .direction ≡ receiv
         refl
         refl
         refl
-        (λ room. slot-other (c .limits .slots) (c .limits .payload) mem lens (slotOf (placeAt (c .limits) (c .window) (awayOf c number))) p z (slot-bound (c .limits .slots) (placeAt (c .limits) (c .window) (awayOf c number)) (on-ring number room)) short j other)
+        (λ room. slot-other (c .limits .slots) (c .limits .payload) mem lens (slotOf c (placeAt (c .limits) (c .window) (awayOf c number))) p z (slot-bound (c .limits) (placeAt (c .limits) (c .window) (awayOf c number)) (on-ring number room)) short j other)
 
   -- a unit taken
   pub take-stands : (n : ℕ) → Standing (takeStep c lens n .channel) lens

@@ -9,7 +9,7 @@ use borrow.Author.Tests.{ne-eqb, eqb-true}
 use lib.Dec.{eqb}
 use lib.ListN.{length, getD}
 use Rattle.ring.specs.Ring.{roundOf, backOf}
-use Rattle.slots.specs.Slots.{slotOf}
+use Rattle.channel.specs.Places.{slotIn, slotOf}
 use Rattle.channel.specs.declared.record.Limits.{Limits}
 use Rattle.channel.specs.declared.record.Window.{Window}
 use Rattle.channel.specs.declared.record.Channel.{Channel}
@@ -34,7 +34,7 @@ Marked slots w marks =
 
 -- each slot fits
 abbrev pub Fitting : Limits → List ℕ → List ℕ → Type 0
-Fitting l marks lens = (i : ℕ) → i < l .slots → slotFit false (l .payload) (getD marks i 0) (getD lens (slotOf i) 0) ≡ true
+Fitting l marks lens = (i : ℕ) → i < l .slots → slotFit false (l .payload) (getD marks i 0) (getD lens (slotIn l i) 0) ≡ true
 
 pub record Receives (c : Channel) (lens : List ℕ) : Type 0 where
   pub fit : fitLimits (c .limits) ≡ true
@@ -66,7 +66,7 @@ receives-is c lens d h =
       small = named-is c (h .named);
       window = record { place = q .0; behind = q .1; ahead = a; flight = omega arith; way = n .way; unit = n .unit };
       held = λ i l. h .held i (omega arith);
-      slots = λ i l. ap (λ (t : Bool). slotFit t (c .limits .payload) (getD (c .marks) i 0) (getD lens (slotOf i) 0)) (sym (not-sending c d)) ∙ h .slots i l;
+      slots = λ i l. ap (λ (t : Bool). slotFit t (c .limits .payload) (getD (c .marks) i 0) (getD lens (slotOf c i) 0)) (sym (not-sending c d)) ∙ h .slots i l;
     }
 
 -- ---- and back
@@ -90,5 +90,5 @@ receives-stands c lens r =
       flight = counted-flight (c .limits) (c .window) n;
       sided = sided-true (c .addresses .direction) (c .phase .state) (c .window) (r .direction) (r .window .ahead);
       held = λ i l. r .held i (omega (arith, r .window .ahead));
-      slots = λ i l. ap (λ (t : Bool). slotFit t (c .limits .payload) (getD (c .marks) i 0) (getD lens (slotOf i) 0)) (not-sending c (r .direction)) ∙ r .slots i l;
+      slots = λ i l. ap (λ (t : Bool). slotFit t (c .limits .payload) (getD (c .marks) i 0) (getD lens (slotOf c i) 0)) (not-sending c (r .direction)) ∙ r .slots i l;
     }

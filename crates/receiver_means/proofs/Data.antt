@@ -9,7 +9,8 @@ use native.Mathlib.Omega.{arith}
 use borrow.Author.Tests.{lt-ltb, le-ltb, ltb-true, ltb-false, leb-true, leb-false, eq-eqb, ne-eqb}
 use lib.Dec.{ltb, leb}
 use lib.ListN.{length, set}
-use Rattle.slots.specs.Slots.{slotOf, laid}
+use Rattle.slots.specs.Slots.{laid}
+use Rattle.channel.specs.Places.{slotOf}
 use Rattle.channel.specs.declared.record.Channel.{Channel}
 use Rattle.channel.specs.declared.step.Stepped.{Stepped}
 use Rattle.channel.specs.Record as record-of
@@ -109,10 +110,10 @@ module _ (c : Channel) (mem lens : List ℕ) (r : Receiver) (asked : Asked c mem
       k = marking c place flags
 
       abbrev mem₁ : List ℕ
-      mem₁ = laid mem (slotOf place * c .limits .payload) p
+      mem₁ = laid mem (slotOf c place * c .limits .payload) p
 
       abbrev lens₁ : List ℕ
-      lens₁ = set lens (slotOf place) (length p)
+      lens₁ = set lens (slotOf c place) (length p)
 
       abbrev f : ℕ → Option Segment
       f = put (r .filed) (startOf r + d) (some g)

@@ -10,7 +10,8 @@ use lib.ListN.{length, set, length-set}
 use Rattle.ring.specs.Ring.{roundOf}
 use Rattle.ring.proofs.Laws.{back-lt, round-lt, round-apart}
 use Rattle.slots.specs.Marks.{markOf}
-use Rattle.slots.specs.Slots.{slotOf, laid}
+use Rattle.slots.specs.Slots.{laid}
+use Rattle.channel.specs.Places.{slotOf}
 use Rattle.channel.specs.declared.record.Channel.{Channel}
 use Rattle.channel.specs.Standing.{oldestOf}
 use Rattle.channel.specs.Asked.{Asked}
@@ -50,13 +51,13 @@ module _ (c : Channel) (mem lens : List ℕ) (asked : Asked c mem lens) (t : Tur
 
   -- what lies j past the oldest
   new-view : (j : ℕ) → j < slots
-      → lying (marking c place flags) (laid mem (slotOf place * c .limits .payload) p) (set lens (slotOf place) (length p)) (roundOf slots (from + j)) ≡ new (base + j)
+      → lying (marking c place flags) (laid mem (slotOf c place * c .limits .payload) p) (set lens (slotOf c place) (length p)) (roundOf slots (from + j)) ≡ new (base + j)
   new-view j h =
       ⊎-elim
       (λ q.
       let same : c .window .behind + d ≡ j = omega (arith, q .0, w .behind) in
       let here : roundOf slots (from + j) ≡ place = ap (λ (k : ℕ). roundOf slots (from + k)) (sym same) ∙ sym there in
-      ap (lying (marking c place flags) (laid mem (slotOf place * c .limits .payload) p) (set lens (slotOf place) (length p))) here
+      ap (lying (marking c place flags) (laid mem (slotOf c place * c .limits .payload) p) (set lens (slotOf c place) (length p))) here
       ∙ filed-here c mem lens asked place flags p inside short (w .count)
       ∙ sym (q .1))
       (λ q.
@@ -68,7 +69,7 @@ module _ (c : Channel) (mem lens : List ℕ) (asked : Asked c mem lens) (t : Tur
       ∙ sym (q .1))
       (put-cases f (length l + d) (some (carried flags p)) (base + j))
 
-  pub filed-within : Within (marking c place flags) (laid mem (slotOf place * c .limits .payload) p) (set lens (slotOf place) (length p)) base l new
+  pub filed-within : Within (marking c place flags) (laid mem (slotOf c place * c .limits .payload) p) (set lens (slotOf c place) (length p)) base l new
   filed-within =
       record {
         start = w .start;

@@ -13,8 +13,10 @@ use Rattle.laws.proofs.Choice.{either-way}
 use Rattle.ring.specs.Ring.{roundOf}
 use Rattle.ring.proofs.Laws.{back-lt, back-forth, round-add}
 use Rattle.slots.specs.Marks.{markOf}
-use Rattle.slots.specs.Slots.{slotOf, laid}
-use Rattle.slots.proofs.Laws.{slot-bound, slot-apart, filed-same, filed-other}
+use Rattle.slots.specs.Slots.{laid}
+use Rattle.channel.specs.Places.{slotOf}
+use Rattle.slots.proofs.Laws.{filed-same, filed-other}
+use Rattle.channel.proofs.PlaceLaws.{slot-bound, slot-apart}
 use Rattle.channel.specs.declared.record.Window.{Window}
 use Rattle.channel.specs.declared.record.Channel.{Channel}
 use Rattle.channel.specs.Record.{sends}
@@ -45,7 +47,7 @@ module _ (c : Channel) (mem lens : List ℕ) (place : ℕ) where
 module _ (c : Channel) (mem lens : List ℕ) (asked : Asked c mem lens) (place flags : ℕ) (p : List ℕ) (inside : place < c .limits .slots) (short : length p ≤ c .limits .payload) where
   abbrev after : ℕ → Option Segment
   after =
-      lying (marking c place flags) (laid mem (slotOf place * c .limits .payload) p) (set lens (slotOf place) (length p))
+      lying (marking c place flags) (laid mem (slotOf c place * c .limits .payload) p) (set lens (slotOf c place) (length p))
 
   -- it lies there
   pub filed-here : length (c .marks) ≡ 128 → after place ≡ some (carried flags p)
@@ -53,14 +55,14 @@ module _ (c : Channel) (mem lens : List ℕ) (asked : Asked c mem lens) (place f
       let mark : getD (set (c .marks) place (markOf flags)) place 0 ≡ markOf flags = getD-set-same (c .marks) place (markOf flags) 0 (omega (arith, asked .sized .few)) in
       lying-some
       (marking c place flags)
-      (laid mem (slotOf place * c .limits .payload) p)
-      (set lens (slotOf place) (length p))
+      (laid mem (slotOf c place * c .limits .payload) p)
+      (set lens (slotOf c place) (length p))
       place
       (λ z. omega (arith, mark))
       ∙ ap₂
       (λ (m : ℕ) (o : List ℕ). some (segmentBy m o))
       mark
-      (filed-same (c .limits .slots) (c .limits .payload) mem lens (slotOf place) p (asked .sized) (slot-bound (c .limits .slots) place inside) short)
+      (filed-same (c .limits .slots) (c .limits .payload) mem lens (slotOf c place) p (asked .sized) (slot-bound (c .limits) place inside) short)
 
   -- what lies elsewhere stays
   pub filed-elsewhere : (q : ℕ) → q < c .limits .slots → (q ≡ place → ⊥) → after q ≡ lying c mem lens q
@@ -70,8 +72,8 @@ module _ (c : Channel) (mem lens : List ℕ) (asked : Asked c mem lens) (place f
       (marking c place flags)
       mem
       lens
-      (laid mem (slotOf place * c .limits .payload) p)
-      (set lens (slotOf place) (length p))
+      (laid mem (slotOf c place * c .limits .payload) p)
+      (set lens (slotOf c place) (length p))
       q
       (getD-set-other (c .marks) place q (markOf flags) 0 other)
       (λ used.
@@ -80,18 +82,18 @@ module _ (c : Channel) (mem lens : List ℕ) (asked : Asked c mem lens) (place f
       (c .limits .payload)
       mem
       lens
-      (slotOf place)
+      (slotOf c place)
       p
       (asked .sized)
-      (slot-bound (c .limits .slots) place inside)
+      (slot-bound (c .limits) place inside)
       short
-      (slotOf q)
-      (λ e. other (slot-apart q place e))
+      (slotOf c q)
+      (λ e. other (slot-apart (c .limits) q place e))
       (fit-length
       (eqb (c .addresses .direction) sends)
       (c .limits .payload)
       (getD (c .marks) q 0)
-      (getD lens (slotOf q) 0)
+      (getD lens (slotOf c q) 0)
       (asked .standing .slots q within)
       used))
 

@@ -12,8 +12,8 @@ use lib.ListN.{length, take, drop, getD, length-drop}
 use lib.Seq.{length-take-le, getD-take, getD-drop}
 use Rattle.ring.specs.Ring.{roundOf, backOf}
 use Rattle.ring.proofs.Laws.{back-lt, forth-back, round-lt, round-add, cleared-in, cleared-out, cleared-length}
-use Rattle.slots.specs.Slots.{slotOf}
-use Rattle.slots.proofs.Laws.{slotted}
+use Rattle.channel.specs.Places.{slotOf}
+use Rattle.channel.proofs.PlaceLaws.{slotted}
 use Rattle.store.specs.Store.{unitOf, octetsIn}
 use Rattle.store.proofs.Laws.{octets-length}
 use Rattle.channel.specs.declared.record.Channel.{Channel}
@@ -147,7 +147,7 @@ module _ (c : Channel) (mem lens : List ℕ) (r : Receiver) (asked : Asked c mem
   start = oldestOf (c .limits .slots) (c .window)
 
   abbrev taken : List ℕ
-  taken = octetsIn slotOf (c .limits .payload) mem lens (c .limits .slots) (unitAt c) start
+  taken = octetsIn (slotOf c) (c .limits .payload) mem lens (c .limits .slots) (unitAt c) start
 
   -- what is shown of the channel afterwards, and of what the protocol's receiver gives
   abbrev Took : Channel → Receiver × Answer → Type 0
@@ -157,8 +157,8 @@ module _ (c : Channel) (mem lens : List ℕ) (r : Receiver) (asked : Asked c mem
   size-is =
       let low : start < c .limits .slots = back-lt (c .limits .slots) (c .window .place) (c .window .behind) (ring .place) in
       sym
-      (octets-length slotOf (c .limits .slots) (c .limits .payload) mem lens (c .limits .slots) (unitAt c) start
-      (slotted (c .limits .slots)) (asked .sized) low (omega (arith, unit-behind c, ring .behind))
+      (octets-length (slotOf c) (c .limits .slots) (c .limits .payload) mem lens (c .limits .slots) (unitAt c) start
+      (slotted (c .limits)) (asked .sized) low (omega (arith, unit-behind c, ring .behind))
       (each-fits c lens (unitAt c) (asked .standing) (omega (arith, unit-behind c))))
 
   -- a record with something complete was opened
@@ -203,7 +203,7 @@ module _ (c : Channel) (mem lens : List ℕ) (r : Receiver) (asked : Asked c mem
         let few : n ≤ c .window .behind = omega (arith, unit-behind c, count) in
         let some-n : 1 ≤ n = omega (arith, one .some, same) in
         let unit : u ≡ taken
-        = sym (one .octets) ∙ ap (λ (k : ℕ). octetsIn slotOf (c .limits .payload) mem lens (c .limits .slots) k start) (sym is)
+        = sym (one .octets) ∙ ap (λ (k : ℕ). octetsIn (slotOf c) (c .limits .payload) mem lens (c .limits .slots) k start) (sym is)
         in (
           subst (λ (k : ℕ). Receives (dropped c k) mem lens (receiver.taking (u ∷ us) r .0)) (sym count)
               (record {
@@ -221,7 +221,7 @@ module _ (c : Channel) (mem lens : List ℕ) (r : Receiver) (asked : Asked c mem
       → (Receives (takeStep c lens n .channel) mem lens (receiverStep (limitsOf (c .limits)) r ReceiverCall.takeUnit .0))
       × (receiverStep (limitsOf (c .limits)) r ReceiverCall.takeUnit .1 .number ≡ 0)
       × (receiverStep (limitsOf (c .limits)) r ReceiverCall.takeUnit .1 .unit
-      ≡ octetsIn slotOf (c .limits .payload) mem lens (c .limits .slots) (unitAt c) (oldestOf (c .limits .slots) (c .window)))
+      ≡ octetsIn (slotOf c) (c .limits .payload) mem lens (c .limits .slots) (unitAt c) (oldestOf (c .limits .slots) (c .window)))
       × (sizeAt c lens ≡ length (receiverStep (limitsOf (c .limits)) r ReceiverCall.takeUnit .1 .unit))
   take-receives n done = by (eqb (completeIn (c .window)) 0) refl (ltb n (sizeAt c lens)) refl
     where

@@ -16,7 +16,7 @@ use Rattle.channel.specs.Record.{sends}
 use Rattle.channel.specs.Standing.{oldestOf, slotFit, Standing}
 use Rattle.sender.specs.Directives.{placeAt}
 use Rattle.ring.proofs.Laws.{round-lt, round-add, back-lt, back-forth}
-use Rattle.slots.specs.Slots.{slotOf}
+use Rattle.channel.specs.Places.{slotOf}
 use Rattle.slots.specs.Marks.{ends}
 use Rattle.channel.proofs.StandingLaws.{counted-is, ringed}
 
@@ -52,5 +52,5 @@ module _ (c : Channel) (lens : List ℕ) (h : Standing c lens) (i : ℕ) (l : i 
       h .held (c .window .behind + i) (omega arith)
       (ap (λ (k : ℕ). getD (c .marks) k 0) (from-oldest (c .limits .slots) (c .window) i (k .place) (omega arith)) ∙ z)
 
-  pub mark-fits : (getD (c .marks) (placeAt c i) 0 ≤ 4) × (getD lens (slotOf (placeAt c i)) 0 ≤ c .limits .payload)
-  mark-fits = slot-bounds (eqb (c .addresses .direction) sends) (c .limits .payload) (getD (c .marks) (placeAt c i) 0) (getD lens (slotOf (placeAt c i)) 0) (h .slots (placeAt c i) place-lt) mark-set
+  pub mark-fits : (getD (c .marks) (placeAt c i) 0 ≤ 4) × (getD lens (slotOf c (placeAt c i)) 0 ≤ c .limits .payload)
+  mark-fits = slot-bounds (eqb (c .addresses .direction) sends) (c .limits .payload) (getD (c .marks) (placeAt c i) 0) (getD lens (slotOf c (placeAt c i)) 0) (h .slots (placeAt c i) place-lt) mark-set

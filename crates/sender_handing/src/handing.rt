@@ -3,6 +3,7 @@ use channel::Channel;
 use channel::Node;
 use channel::Refusal;
 use channel::Stepped;
+use channel::places::slot_of;
 use channel::record::ENABLED;
 use channel::step::done;
 use channel::step::outgoing;
@@ -21,7 +22,8 @@ ghost use Prim.Native.Nat.{_<_};
 ghost use lib.Dec.{eqb};
 ghost use lib.ListN.{length, getD};
 ghost use Rattle.laws.specs.Choice.{if_then_else_};
-ghost use Rattle.slots.specs.Slots.{slotOf, segmentIn};
+ghost use Rattle.slots.specs.Slots.{segmentIn};
+ghost use Rattle.channel.specs.Places.{slotOf};
 ghost use Rattle.channel.specs.Record.{enabled};
 ghost use Rattle.channel.specs.Asked.{Asked};
 ghost use Rattle.sender.specs.Directives.{placeAt};
@@ -72,10 +74,10 @@ fn hand_data(
     out: &mut [u8],
 ) -> Stepped
     requires { ⌜ (Asked c (now mem) (now lens)) × (i < c .window .ahead) ⌝ }
-    ensures { λ r. ⌜ (r ≡ sentStep c after (getD (now (lens .entry)) (slotOf (placeAt c i)) 0) (length (now (out .entry)))) × (now (out .exit) ≡ sentOut (dataFields node c i) (segmentIn (c .limits .payload) (now (mem .entry)) (now (lens .entry)) (slotOf (placeAt c i))) (now (out .entry))) ⌝ }
+    ensures { λ r. ⌜ (r ≡ sentStep c after (getD (now (lens .entry)) (slotOf c (placeAt c i)) 0) (length (now (out .entry)))) × (now (out .exit) ≡ sentOut (dataFields node c i) (segmentIn (c .limits .payload) (now (mem .entry)) (now (lens .entry)) (slotOf c (placeAt c i))) (now (out .entry))) ⌝ }
 {
     let place = ring::round(c.window.place + i, c.limits.slots);
-    let slot = slots::slot_of(place);
+    let slot = slot_of(c.limits, place);
     let marks = c.marks;
     let number = std::num::wrapping_add_u8(c.window.start, i as u8);
     let fields = outgoing(node, c.addresses, DATA, marks[place] - 1, number);

@@ -9,7 +9,8 @@ use lib.Dec.{ltb, eqb}
 use lib.ListN.{length}
 use Rattle.laws.specs.Choice.{if_then_else_}
 use Rattle.laws.proofs.Choice.{either-way, either, by-test}
-use Rattle.slots.specs.Slots.{slotOf, laid}
+use Rattle.slots.specs.Slots.{laid}
+use Rattle.channel.specs.Places.{slotOf}
 use Rattle.store.specs.Store.{octetsIn}
 use Rattle.channel.specs.declared.record.Channel.{Channel}
 use Rattle.channel.specs.declared.answer.Answer.the-variants.{Done}
@@ -90,7 +91,7 @@ pub reclaim-out-cases : (c : Channel) (lens mem out : List ℕ) (P : Stepped →
     → P (refusing c refusal.Nothing) out
     → P (refusing c (refusal.Small (sizeAt c lens))) out
     → P (doing (dropped c (unitAt c)) (sizeAt c lens))
-    (laid out 0 (octetsIn slotOf (c .limits .payload) mem lens (c .limits .slots) (unitAt c) (c .window .place)))
+    (laid out 0 (octetsIn (slotOf c) (c .limits .payload) mem lens (c .limits .slots) (unitAt c) (c .window .place)))
     → P (reclaimStep c lens (length out)) (reclaimOut c lens mem out)
 unfolding reclaimStep reclaimOut
 reclaim-out-cases c lens mem out P state nothing small done =

@@ -20,7 +20,6 @@ use Rattle.sender_packets.specs.HandingOut.{controlOut, againOut, newOut, nextO
 use Rattle.sender_acks.specs.Acks.{controlAckStep, awayOf, recorded, advanced, dataAckStep}
 use Rattle.sender.specs.Ticking.{tickStep}
 use Rattle.sender_units.specs.Reclaiming.{reclaimStep}
-use Rattle.sender_units.proofs.UnitLaws.{would-same}
 use Rattle.sender_keeps.proofs.Cases.{open-cases, close-cases, control-ack-cases, data-ack-cases, reclaim-cases, tick-cases}
 use Rattle.sender_keeps.proofs.KeepsDirectives.{open-stands, close-stands, control-ack-stands, tick-stands}
 use Rattle.sender_keeps.proofs.KeepsHandingOut.{hand-stands}
@@ -73,8 +72,7 @@ module _ (c : Channel) where
   pub transfer-fixed : (u : List ℕ) → SameSettings c (transferStep c (length u) .channel)
   unfolding transferStep
   transfer-fixed u =
-      either Fixed (isAccepted c (length u)) _ _ (refl, refl)
-      (subst (λ (x : Channel). SameSettings c x) (sym (would-same c (length u))) (refl, refl))
+      either (SameSettings c) (isAccepted c (length u)) _ _ (refl, refl) (refl, refl)
 
 pub data-ack-fixed : (c : Channel) (number : ℕ) → SameSettings c (dataAckStep c number .channel)
 data-ack-fixed c number = data-ack-cases c (Fixed c) number (refl, refl) (refl, refl) (λ e. advanced-fixed (recorded c (awayOf c number)))

@@ -14,7 +14,7 @@ use Rattle.laws.proofs.Choice.{both, either}
 use Rattle.laws.proofs.Numbers.{lt-cases}
 use Rattle.ring.specs.Ring.{roundOf, backOf, cleared}
 use Rattle.ring.proofs.Laws.{round-in, round-out, cleared-in, cleared-out}
-use Rattle.slots.specs.Slots.{slotOf}
+use Rattle.channel.specs.Places.{slotOf}
 use Rattle.channel.specs.declared.record.Window.{Window}
 use Rattle.channel.specs.declared.record.Channel.{Channel}
 use Rattle.channel.specs.Record.{sends, opened, heldIn}
@@ -51,7 +51,7 @@ module _ (direction state : ℕ) (w : Window) (s : direction ≡ sends) where
 pub stand : (c : Channel) (lens : List ℕ) → fitLimits (c .limits) ≡ true → length lens ≡ c .limits .slots → Named c → Counted (c .limits) (c .window)
     → sided (c .addresses .direction) (c .phase .state) (c .window) ≡ true
     → ((i : ℕ) → i < heldIn (c .window) → getD (c .marks) (roundOf (c .limits .slots) (oldestOf (c .limits .slots) (c .window) + i)) 0 ≡ 0 → ⊥)
-    → ((i : ℕ) → i < c .limits .slots → slotFit (eqb (c .addresses .direction) sends) (c .limits .payload) (getD (c .marks) i 0) (getD lens (slotOf i) 0) ≡ true)
+    → ((i : ℕ) → i < c .limits .slots → slotFit (eqb (c .addresses .direction) sends) (c .limits .payload) (getD (c .marks) i 0) (getD lens (slotOf c i) 0) ≡ true)
     → Standing c lens
 stand c lens f e n k s held slots =
     record {
@@ -93,20 +93,20 @@ toward-is slots from s p q = by (ltb s from) refl
 
 -- ---- slots: all fit once some are freed
 
-pub cleared-fit : (sending : Bool) (most : ℕ) (marks lens : List ℕ) (slots n from : ℕ) → from < slots
-    → ((i : ℕ) → i < slots → slotFit sending most (getD marks i 0) (getD lens (slotOf i) 0) ≡ true)
-    → (i : ℕ) → i < slots → slotFit sending most (getD (cleared marks slots n from) i 0) (getD lens (slotOf i) 0) ≡ true
-cleared-fit sending most marks lens slots n from p old i h =
+pub cleared-fit : (slot : ℕ → ℕ) (sending : Bool) (most : ℕ) (marks lens : List ℕ) (slots n from : ℕ) → from < slots
+    → ((i : ℕ) → i < slots → slotFit sending most (getD marks i 0) (getD lens (slot i) 0) ≡ true)
+    → (i : ℕ) → i < slots → slotFit sending most (getD (cleared marks slots n from) i 0) (getD lens (slot i) 0) ≡ true
+cleared-fit slot sending most marks lens slots n from p old i h =
     let k = toward slots from i in
     let e = toward-is slots from i p h in
     let m = cleared marks slots n from in
     ⊎-elim
     (λ inside.
-    ap (λ (x : ℕ). slotFit sending most x (getD lens (slotOf i) 0))
+    ap (λ (x : ℕ). slotFit sending most x (getD lens (slot i) 0))
     (ap (λ (x : ℕ). getD m x 0) (sym (e .1)) ∙ cleared-in marks slots n from k p (e .0) inside)
-    ∙ free-fits sending most (getD lens (slotOf i) 0))
+    ∙ free-fits sending most (getD lens (slot i) 0))
     (λ outside.
-    ap (λ (x : ℕ). slotFit sending most x (getD lens (slotOf i) 0))
+    ap (λ (x : ℕ). slotFit sending most x (getD lens (slot i) 0))
     (ap (λ (x : ℕ). getD m x 0) (sym (e .1))
     ∙ cleared-out marks slots n from k p (e .0) outside
     ∙ ap (λ (x : ℕ). getD marks x 0) (e .1))

@@ -15,6 +15,7 @@ use Rattle.channel.specs.declared.record.Window.{Window}
 use Rattle.channel.specs.declared.record.Channel.{Channel}
 use Rattle.channel.specs.declared.step.Stepped.{Stepped}
 use Rattle.channel.specs.Record.{sends, opened, withWindow, withMarks, withAcked}
+use Rattle.channel.specs.Places.{slotOf}
 use Rattle.channel.specs.Standing.{oldestOf, Standing}
 use Rattle.channel.proofs.StandingLaws.{counted-is, named-is}
 use Rattle.sender.specs.Directives.{placeAt}
@@ -101,7 +102,7 @@ module _ (c : Channel) (lens : List ℕ) (h : Standing c lens) (s : c .addresses
       ∙ ap (λ (x : ℕ). getD m x 0) (sym (round-add slots old gone i (omega arith)))
       ∙ ap (λ (x : ℕ). getD m (roundOf slots (x + i)) 0) (sym new)
       ∙ q))
-      (cleared-fit (eqb (c .addresses .direction) sends) (c .limits .payload) (c .marks) lens slots gone old p (h .slots))
+      (cleared-fit (slotOf c) (eqb (c .addresses .direction) sends) (c .limits .payload) (c .marks) lens slots gone old p (h .slots))
 
 advanced-stands : (c : Channel) (lens : List ℕ) → Standing c lens → c .addresses .direction ≡ sends → c .phase .state ≡ opened → Standing (advanced c) lens
 unfolding advanced

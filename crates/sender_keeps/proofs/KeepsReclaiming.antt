@@ -11,6 +11,7 @@ use Rattle.ring.proofs.Laws.{round-lt, round-add, cleared-out}
 use Rattle.store.proofs.Laws.{unit-le}
 use Rattle.channel.specs.declared.record.Channel.{Channel}
 use Rattle.channel.specs.Record.{sends, opened}
+use Rattle.channel.specs.Places.{slotOf}
 use Rattle.channel.specs.Standing.{Standing}
 use Rattle.channel.proofs.StandingLaws.{counted-is, named-is}
 use Rattle.sender_units.specs.Reclaiming.{unitAt, dropped, reclaimStep}
@@ -53,7 +54,7 @@ dropped-stands c lens h s shut n l =
     ∙ ap (λ (p : ℕ). getD m p 0) (sym on)
     ∙ ap (λ (p : ℕ). getD m (roundOf slots (p + i)) 0) (sym new)
     ∙ q))
-    (cleared-fit (eqb (c .addresses .direction) sends) (c .limits .payload) (c .marks) lens slots n (w .place) (k .place) (h .slots))
+    (cleared-fit (slotOf c) (eqb (c .addresses .direction) sends) (c .limits .payload) (c .marks) lens slots n (w .place) (k .place) (h .slots))
 
 pub reclaim-stands : (c : Channel) (lens : List ℕ) (n : ℕ) → Standing c lens → c .addresses .direction ≡ sends
     → Standing (reclaimStep c lens n .channel) lens

@@ -14,8 +14,9 @@ use Rattle.laws.proofs.Numbers.{lt-cases}
 use Rattle.laws.specs.Choice.{if_then_else_}
 use Rattle.ring.specs.Ring.{roundOf}
 use Rattle.ring.proofs.Laws.{round-lt, round-add, round-apart, back-lt}
-use Rattle.slots.specs.Slots.{Sized, slotOf}
-use Rattle.slots.proofs.Laws.{slotted}
+use Rattle.slots.specs.Slots.{Sized}
+use Rattle.channel.specs.Places.{slotOf}
+use Rattle.channel.proofs.PlaceLaws.{slotted}
 use Rattle.slots.specs.Units.{segmentsOf, segmentOf, flagsOf}
 use Rattle.slots.specs.Marks.{markOf}
 use Rattle.slots.proofs.Units.{fits, full}
@@ -28,7 +29,7 @@ use Rattle.channel.specs.Standing.{oldestOf, slotFit, Standing}
 use Rattle.channel.proofs.SettingsLaws.{fit-is}
 use Rattle.channel.proofs.StandingLaws.{counted-is, named-is}
 use Rattle.sender_units.specs.Transfer.{isAccepted, longer, filedUnit, freeAt, transferStep, transferMem, transferLens}
-use Rattle.sender_units.proofs.UnitLaws.{accepted-is, would-same, transfer-no, transfer-no-lens, transfer-done, transfer-done-lens}
+use Rattle.sender_units.proofs.UnitLaws.{accepted-is, transfer-no, transfer-no-lens, transfer-done, transfer-done-lens}
 use Rattle.sender_keeps.proofs.Keeps.{sided-way, open-sided, stand, toward, toward-is}
 use Rattle.sender.proofs.AskedLaws.{from-oldest}
 
@@ -79,7 +80,7 @@ segment-fits most u k l = go (eqb count 1) refl (eqb k 0) refl (eqb (k + 1) coun
 module _ (c : Channel) (u lens : List ℕ) (h : Standing c lens) (s : c .addresses .direction ≡ sends) (wide : length (c .marks) ≡ 128)
     (a : isAccepted c (length u) ≡ true) where
   filed-stands : Standing (filedUnit c (length u))
-      (filedLens slotOf (c .limits .payload) (c .limits .slots) u lens (segmentsOf (c .limits .payload) (length u)) 0 (freeAt c))
+      (filedLens (slotOf c) (c .limits .payload) (c .limits .slots) u lens (segmentsOf (c .limits .payload) (length u)) 0 (freeAt c))
   filed-stands =
       let w = c .window in
       let slots = c .limits .slots in
@@ -98,12 +99,12 @@ module _ (c : Channel) (u lens : List ℕ) (h : Standing c lens) (s : c .address
       let free : roundOf slots (old + all) ≡ from = from-oldest slots w (w .ahead) (k .place) (k .held) in
       let room : all + count ≤ slots = t .2 in
       let marks = filedMarks slots count (c .marks) count 0 from in
-      let lengths = filedLens slotOf most slots u lens count 0 from in
+      let lengths = filedLens (slotOf c) most slots u lens count 0 from in
       let enough : slots ≤ length (c .marks) = omega (arith, f .most) in
       let enough-lens : slots ≤ length lens = omega (arith, h .count) in
       let on : (j : ℕ) → all + j < slots → roundOf slots (from + j) ≡ roundOf slots (old + (all + j)) = λ j l.
       ap (λ (x : ℕ). roundOf slots (x + j)) (sym free) ∙ round-add slots old all j (omega arith) in
-      stand (filedUnit c (length u)) lengths (h .fit) (filed-lens-length slotOf most slots u lens count 0 from ∙ h .count)
+      stand (filedUnit c (length u)) lengths (h .fit) (filed-lens-length (slotOf c) most slots u lens count 0 from ∙ h .count)
       (record { direction = n .direction; state = n .state; reason = n .reason; kept = n .kept; accepted = n .accepted; control = n .control })
       (record { place = k .place; held = omega arith; flight = omega (arith, k .flight); window = k .window; way = k .way; unit = k .unit })
       (open-sided (c .addresses .direction) (c .phase .state) (longer w count) s z (t .0))
@@ -143,11 +144,11 @@ module _ (c : Channel) (u lens : List ℕ) (h : Standing c lens) (s : c .address
       ap (λ (x : ℕ). getD marks x 0) (sym (d .1))
       ∙ filed-marks-in slots count (c .marks) count 0 from j q enough (omega arith) inside
       ∙ ap (λ (x : ℕ). markOf (flagsOf count x)) (zero-add j) in
-      let len : getD lengths (slotOf i) 0 ≡ length (segmentOf most u j) =
-      ap (λ (x : ℕ). getD lengths (slotOf x) 0) (sym (d .1))
-      ∙ filed-lens-in slotOf most slots u lens slots (slotted slots) count 0 from j q enough-lens (omega arith) inside
+      let len : getD lengths (slotOf c i) 0 ≡ length (segmentOf most u j) =
+      ap (λ (x : ℕ). getD lengths (slotOf c x) 0) (sym (d .1))
+      ∙ filed-lens-in (slotOf c) most slots u lens slots (slotted (c .limits)) count 0 from j q enough-lens (omega arith) inside
       ∙ ap (λ (x : ℕ). length (segmentOf most u x)) (zero-add j) in
-      ap (λ (x : Bool). slotFit x most (getD marks i 0) (getD lengths (slotOf i) 0)) sending
+      ap (λ (x : Bool). slotFit x most (getD marks i 0) (getD lengths (slotOf c i) 0)) sending
       ∙ ap₂ (λ (x y : ℕ). slotFit true most x y) mark len
       ∙ segment-fits most u j inside)
       (λ outside.
@@ -155,10 +156,10 @@ module _ (c : Channel) (u lens : List ℕ) (h : Standing c lens) (s : c .address
       ap (λ (x : ℕ). getD marks x 0) (sym (d .1))
       ∙ filed-marks-out slots count (c .marks) count 0 from j q (d .0) outside
       ∙ ap (λ (x : ℕ). getD (c .marks) x 0) (d .1) in
-      let len : getD lengths (slotOf i) 0 ≡ getD lens (slotOf i) 0 =
-      ap (λ (x : ℕ). getD lengths (slotOf x) 0) (sym (d .1))
-      ∙ filed-lens-out slotOf most slots u lens slots (slotted slots) count 0 from j q (d .0) outside
-      ∙ ap (λ (x : ℕ). getD lens (slotOf x) 0) (d .1) in
+      let len : getD lengths (slotOf c i) 0 ≡ getD lens (slotOf c i) 0 =
+      ap (λ (x : ℕ). getD lengths (slotOf c x) 0) (sym (d .1))
+      ∙ filed-lens-out (slotOf c) most slots u lens slots (slotted (c .limits)) count 0 from j q (d .0) outside
+      ∙ ap (λ (x : ℕ). getD lens (slotOf c x) 0) (d .1) in
       ap₂ (λ (x y : ℕ). slotFit (eqb (c .addresses .direction) sends) most x y) mark len ∙ h .slots i less)
       (lt-cases j count))
 
@@ -172,12 +173,12 @@ transfer-stands c u lens wide h s = go (isAccepted c (length u)) refl
     go : (t : Bool) → isAccepted c (length u) ≡ t → Standing (transferStep c (length u) .channel) (transferLens c u lens)
     go true e =
         subst (λ (x : List ℕ). Standing (transferStep c (length u) .channel) x) (sym (transfer-done-lens c u lens lens e))
-        (subst (λ (x : Stepped). Standing (x .channel) (filedLens slotOf (c .limits .payload) (c .limits .slots) u lens (segmentsOf (c .limits .payload) (length u)) 0 (freeAt c)))
+        (subst (λ (x : Stepped). Standing (x .channel) (filedLens (slotOf c) (c .limits .payload) (c .limits .slots) u lens (segmentsOf (c .limits .payload) (length u)) 0 (freeAt c)))
         (sym (transfer-done c u lens lens e))
         (filed-stands c u lens h s wide e))
     go false e =
         subst (λ (x : List ℕ). Standing (transferStep c (length u) .channel) x) (sym (transfer-no-lens c u lens lens e))
-        (subst (λ (x : Channel). Standing x lens) (sym (ap (λ (x : Stepped). x .channel) (transfer-no c u lens lens e) ∙ would-same c (length u))) h)
+        (subst (λ (x : Channel). Standing x lens) (sym (ap (λ (x : Stepped). x .channel) (transfer-no c u lens lens e))) h)
 
 pub transfer-sized : (c : Channel) (u mem lens : List ℕ) → Standing c lens → Sized (c .limits .slots) (c .limits .payload) mem lens
     → Sized (c .limits .slots) (c .limits .payload) (transferMem c u mem) (transferLens c u lens)
@@ -185,16 +186,16 @@ unfolding transferMem transferLens
 transfer-sized c u mem lens h sized = go (isAccepted c (length u))
   where
     here : Sized (c .limits .slots) (c .limits .payload)
-        (filedMem slotOf (c .limits .payload) (c .limits .slots) u mem (segmentsOf (c .limits .payload) (length u)) 0 (freeAt c))
-        (filedLens slotOf (c .limits .payload) (c .limits .slots) u lens (segmentsOf (c .limits .payload) (length u)) 0 (freeAt c))
+        (filedMem (slotOf c) (c .limits .payload) (c .limits .slots) u mem (segmentsOf (c .limits .payload) (length u)) 0 (freeAt c))
+        (filedLens (slotOf c) (c .limits .payload) (c .limits .slots) u lens (segmentsOf (c .limits .payload) (length u)) 0 (freeAt c))
     here =
         let k = counted-is (c .limits) (c .window) (h .ring) (h .flight) in
-        filed-sized slotOf (c .limits .slots) (c .limits .payload) (c .limits .slots) u (slotted (c .limits .slots)) mem lens (segmentsOf (c .limits .payload) (length u)) 0 (freeAt c) sized
+        filed-sized (slotOf c) (c .limits .slots) (c .limits .payload) (c .limits .slots) u (slotted (c .limits)) mem lens (segmentsOf (c .limits .payload) (length u)) 0 (freeAt c) sized
         (round-lt (c .limits .slots) (c .window .place + c .window .ahead) (omega (arith, k .place, k .held)))
 
     go : (t : Bool)
         → Sized (c .limits .slots) (c .limits .payload)
-        (if t then filedMem slotOf (c .limits .payload) (c .limits .slots) u mem (segmentsOf (c .limits .payload) (length u)) 0 (freeAt c) else mem)
-        (if t then filedLens slotOf (c .limits .payload) (c .limits .slots) u lens (segmentsOf (c .limits .payload) (length u)) 0 (freeAt c) else lens)
+        (if t then filedMem (slotOf c) (c .limits .payload) (c .limits .slots) u mem (segmentsOf (c .limits .payload) (length u)) 0 (freeAt c) else mem)
+        (if t then filedLens (slotOf c) (c .limits .payload) (c .limits .slots) u lens (segmentsOf (c .limits .payload) (length u)) 0 (freeAt c) else lens)
     go true = here
     go false = sized

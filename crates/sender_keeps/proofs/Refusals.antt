@@ -22,7 +22,7 @@ use Rattle.sender_units.specs.Transfer.{isAccepted, transferStep, transferMem, 
 use Rattle.sender_packets.specs.HandingOut.{nextLength, nextFields, nextPayload, nextOut, handStep, handOut}
 use Rattle.sender_acks.specs.Acks.{controlAckStep, dataAckStep}
 use Rattle.sender_units.specs.Reclaiming.{reclaimStep, reclaimOut}
-use Rattle.sender_units.proofs.UnitLaws.{would-same, transfer-no, transfer-no-mem, transfer-no-lens, transfer-done}
+use Rattle.sender_units.proofs.UnitLaws.{transfer-no, transfer-no-mem, transfer-no-lens, transfer-done}
 use Rattle.sender_keeps.proofs.Cases.{open-cases, close-cases, control-ack-cases, data-ack-cases, reclaim-out-cases}
 
 -- the step answers another number than 0. No step here answers 9: only a tick makes a transmit end inactive
@@ -45,7 +45,7 @@ transfer-unchanged c u mem lens n =
     either-way (isAccepted c (length u))
     (λ e. absurd (n (ap (λ (x : Stepped). numberOf (x .answer)) (transfer-done c u mem lens e))))
     (λ e. (
-      ap (λ (x : Stepped). x .channel) (transfer-no c u mem lens e) ∙ would-same c (length u),
+      ap (λ (x : Stepped). x .channel) (transfer-no c u mem lens e),
       transfer-no-mem c u mem lens e,
       transfer-no-lens c u mem lens e,
     ))

@@ -13,7 +13,8 @@ use Rattle.laws.specs.Choice.{if_then_else_}
 use Rattle.laws.proofs.Choice.{chosen, passed-by, both}
 use Rattle.ring.specs.Ring.{roundOf}
 use Rattle.ring.proofs.Laws.{round-lt}
-use Rattle.slots.specs.Slots.{slotOf, segmentIn}
+use Rattle.slots.specs.Slots.{segmentIn}
+use Rattle.channel.specs.Places.{slotOf}
 use Rattle.ring.proofs.Laws.{first-place, next-place}
 use Rattle.channel.specs.declared.record.Channel.{Channel}
 use Rattle.channel.specs.Record.{sends}
@@ -67,7 +68,7 @@ pub record DataOut (c : Channel) (mem lens : List ℕ) (s : Sender) (rank : ℕ)
   pub may : mayHandOut (limitsOf (c .limits)) s (s .start + segmentFor c rank) ≡ true
   pub related : Sends (nextOut c rank) mem lens (handedOut true s (s .start + segmentFor c rank) .0)
   pub segment : carried (getD (c .marks) (placeAt c (segmentFor c rank)) 0 - 1)
-      (segmentIn (c .limits .payload) mem lens (slotOf (placeAt c (segmentFor c rank))))
+      (segmentIn (c .limits .payload) mem lens (slotOf c (placeAt c (segmentFor c rank))))
       ≡ getD (s .line) (s .start + segmentFor c rank) blank
 
 module _ (c : Channel) (mem lens : List ℕ) (s : Sender) (a : Asked c mem lens) (d : c .addresses .direction ≡ sends) (r : Sends c mem lens s) where

@@ -11,8 +11,8 @@ use lib.ListN.{length, drop, getD}
 use lib.Seq.{getD-drop}
 use Rattle.ring.specs.Ring.{roundOf, backOf, cleared}
 use Rattle.ring.proofs.Laws.{round-lt, round-add, cleared-out, cleared-length}
-use Rattle.slots.specs.Slots.{slotOf}
-use Rattle.slots.proofs.Laws.{slotted}
+use Rattle.channel.specs.Places.{slotOf}
+use Rattle.channel.proofs.PlaceLaws.{slotted}
 use Rattle.store.specs.Store.{unitOf, octetsIn}
 use Rattle.store.proofs.Laws.{unit-le, octets-length}
 use Rattle.channel.specs.declared.record.Channel.{Channel}
@@ -91,14 +91,14 @@ module _ (c : Channel) (mem lens : List ℕ) (a : Asked c mem lens) (line : List
 
   -- its octets, as the record writes them
   abbrev written : DataUnit
-  written = octetsIn slotOf (c .limits .payload) mem lens (c .limits .slots) (unitAt c) (c .window .place)
+  written = octetsIn (slotOf c) (c .limits .payload) mem lens (c .limits .slots) (unitAt c) (c .window .place)
 
   written-length : sizeAt c lens ≡ length written
   written-length =
       let n = counted-is (c .limits) (c .window) (a .standing .ring) (a .standing .flight) in
       let few = unit-le (c .marks) (c .limits .slots) (c .window .ahead) (c .window .place) in
-      sym (octets-length slotOf (c .limits .slots) (c .limits .payload) mem lens (c .limits .slots) (unitAt c) (c .window .place)
-      (slotted (c .limits .slots)) (a .sized) (n .place) (omega (arith, few, n .held)) (unit-fits c mem lens a (unitAt c) few))
+      sym (octets-length (slotOf c) (c .limits .slots) (c .limits .payload) mem lens (c .limits .slots) (unitAt c) (c .window .place)
+      (slotted (c .limits)) (a .sized) (n .place) (omega (arith, few, n .held)) (unit-fits c mem lens a (unitAt c) few))
 
   last-ends : 1 ≤ c .window .ahead → Complete [] (drop oldest line)
   last-ends some-held =
@@ -123,7 +123,7 @@ module _ (c : Channel) (mem lens : List ℕ) (a : Asked c mem lens) (line : List
       in (
         count,
         sym (f .octets)
-            ∙ ap (λ (m : ℕ). octetsIn slotOf (c .limits .payload) mem lens (c .limits .slots) m (c .window .place)) (sym count),
+            ∙ ap (λ (m : ℕ). octetsIn (slotOf c) (c .limits .payload) mem lens (c .limits .slots) m (c .window .place)) (sym count),
       )
 
 -- ---- the theorem
@@ -135,7 +135,7 @@ module _ (c : Channel) (mem lens : List ℕ) (s : Sender) (a : Asked c mem lens)
   Same y =
       Sends (reclaimStep c lens n .channel) mem lens (y .0)
       × (y .1 .number ≡ 0)
-      × (y .1 .unit ≡ octetsIn slotOf (c .limits .payload) mem lens (c .limits .slots) (unitAt c) (c .window .place))
+      × (y .1 .unit ≡ octetsIn (slotOf c) (c .limits .payload) mem lens (c .limits .slots) (unitAt c) (c .window .place))
       × (sizeAt c lens ≡ length (y .1 .unit))
 
   not-begun : (c .window .ahead ≡ 0 → ⊥) → 1 ≤ rank (s .phase)
@@ -171,7 +171,7 @@ module _ (c : Channel) (mem lens : List ℕ) (s : Sender) (a : Asked c mem lens)
       → Sends (reclaimStep c lens n .channel) mem lens (senderStep (limitsOf (c .limits)) s reclaim .0)
       × (senderStep (limitsOf (c .limits)) s reclaim .1 .number ≡ 0)
       × (senderStep (limitsOf (c .limits)) s reclaim .1 .unit
-      ≡ octetsIn slotOf (c .limits .payload) mem lens (c .limits .slots) (unitAt c) (c .window .place))
+      ≡ octetsIn (slotOf c) (c .limits .payload) mem lens (c .limits .slots) (unitAt c) (c .window .place))
       × (sizeAt c lens ≡ length (senderStep (limitsOf (c .limits)) s reclaim .1 .unit))
   reclaim-sends e =
       let g = given c lens n e in

@@ -8,7 +8,7 @@ use mathlib.Core.Option.{some}
 use Prim.Native.Nat.{ℕ, _+_, _-_, _≤_, _<_}
 use native.Mathlib.Nat.{zero-add}
 use native.Mathlib.Omega.{arith}
-use borrow.Author.Tests.{le-leb, lt-leb, leb-true, leb-false}
+use borrow.Author.Tests.{leb-true, leb-false}
 use lib.Dec.{leb, eqb}
 use lib.ListN.{length, getD, length-append, List·getD-append}
 use lib.Seq.{getD-append-add}
@@ -16,12 +16,14 @@ use Rattle.laws.proofs.Numbers.{lt-cases}
 use Rattle.ring.specs.Ring.{roundOf, cleared}
 use Rattle.ring.proofs.Laws.{round-lt, round-add, round-apart, back-lt, cleared-in, cleared-out, cleared-length}
 use Rattle.slots.specs.Marks.{markOf}
-use Rattle.slots.specs.Slots.{slotOf, segmentIn}
+use Rattle.slots.specs.Slots.{segmentIn}
+use Rattle.channel.specs.Places.{slotOf}
 use Rattle.slots.specs.Units.{segmentsOf, segmentOf, flagsOf}
-use Rattle.slots.proofs.Laws.{slotted}
+use Rattle.channel.proofs.PlaceLaws.{slotted}
 use Rattle.store.specs.Store.{filedMem, filedLens, filedMarks}
 use Rattle.store.proofs.Laws.{filed-marks-in, filed-marks-out, filed-marks-length, filed-octets-in, filed-octets-out}
 use Rattle.channel.specs.declared.record.Channel.{Channel}
+use Rattle.channel.specs.declared.answer.Answer.the-variants.{Done, Refused}
 use Rattle.channel.specs.declared.answer.Refusal.{Refusal}
 use Rattle.channel.specs.declared.answer.Refusal.the-variants as refusal
 use Rattle.channel.specs.declared.step.Stepped.{Stepped}
@@ -29,14 +31,14 @@ use Rattle.channel.specs.Answers.{numberOf, refusalNumber}
 use Rattle.channel.specs.Record.{sends, heldIn}
 use Rattle.channel.specs.Record as record-of
 use Rattle.channel.specs.Standing.{oldestOf}
-use Rattle.channel.specs.Steps.{refusing}
+use Rattle.channel.specs.Steps.{answered}
 use Rattle.channel.specs.Asked.{Asked}
 use Rattle.channel.proofs.SettingsLaws.{fit-is}
 use Rattle.channel.proofs.StandingLaws.{counted-is}
 use Rattle.sender.specs.Directives.{placeAt}
 use Rattle.sender.proofs.AskedLaws.{from-oldest, slot-bounds}
-use Rattle.sender_units.specs.Transfer.{isAccepted, filedUnit, freeAt, transferStep, transferMem, transferLens}
-use Rattle.sender_units.proofs.UnitLaws.{would-long, would-room, not-accepted, accepted-by, would-state, closed-accepts, transfer-no, transfer-no-mem, transfer-no-lens, transfer-done, transfer-done-mem, transfer-done-lens}
+use Rattle.sender_units.specs.Transfer.{wouldTransfer, filedUnit, freeAt, transferStep, transferMem, transferLens}
+use Rattle.sender_units.proofs.UnitLaws.{would-long, would-room, would-done, accepted-by, would-state, transfer-no, transfer-no-mem, transfer-no-lens, transfer-done, transfer-done-mem, transfer-done-lens}
 use Rattle.sender_keeps.proofs.Keeps.{toward, toward-is}
 use Rattle.protocol.specs.Units.{DataUnit, Segment, blank, cut}
 use Rattle.protocol.specs.Ends.{rank, isOpen, Answer, say}
@@ -68,10 +70,10 @@ module _ (c : Channel) (mem lens : List ℕ) (a : Asked c mem lens) (line : List
   first = oldestOf slots (c .window)
 
   abbrev mem₁ : List ℕ
-  mem₁ = filedMem slotOf most slots u mem count 0 (freeAt c)
+  mem₁ = filedMem (slotOf c) most slots u mem count 0 (freeAt c)
 
   abbrev lens₁ : List ℕ
-  lens₁ = filedLens slotOf most slots u lens count 0 (freeAt c)
+  lens₁ = filedLens (slotOf c) most slots u lens count 0 (freeAt c)
 
   place-in : c .window .place < slots
   place-in = counted-is (c .limits) (c .window) (a .standing .ring) (a .standing .flight) .place
@@ -112,18 +114,18 @@ module _ (c : Channel) (mem lens : List ℕ) (a : Asked c mem lens) (line : List
       let h = a .standing in
       let here = heldAt c j in
       let in-ring : here < slots = round-lt slots (first + j) (omega (arith, first-in)) in
-      let short : getD lens (slotOf here) 0 ≤ most
-      = slot-bounds (eqb (c .addresses .direction) sends) most (getD (c .marks) here 0) (getD lens (slotOf here) 0) (h .slots here in-ring) (h .held j l) .1
+      let short : getD lens (slotOf c here) 0 ≤ most
+      = slot-bounds (eqb (c .addresses .direction) sends) most (getD (c .marks) here 0) (getD lens (slotOf c here) 0) (h .slots here in-ring) (h .held j l) .1
       in
       lying-same c (filedUnit c (length u)) mem lens mem₁ lens₁ here
       (ap (λ (p : ℕ). getD (filedMarks slots count (c .marks) count 0 (freeAt c)) p 0) (sym (o .1))
       ∙ filed-marks-out slots count (c .marks) count 0 (freeAt c) (off j) free-in (o .0) (off-far j l)
       ∙ ap (λ (p : ℕ). getD (c .marks) p 0) (o .1))
       (λ used.
-      ap (λ (p : ℕ). segmentIn most mem₁ lens₁ (slotOf p)) (sym (o .1))
-      ∙ filed-octets-out slotOf slots most slots u (slotted slots) mem lens count 0 (freeAt c) (off j) (a .sized) free-in (o .0) (off-far j l)
-      (subst (λ (p : ℕ). getD lens (slotOf p) 0 ≤ most) (sym (o .1)) short)
-      ∙ ap (λ (p : ℕ). segmentIn most mem lens (slotOf p)) (o .1))
+      ap (λ (p : ℕ). segmentIn most mem₁ lens₁ (slotOf c p)) (sym (o .1))
+      ∙ filed-octets-out (slotOf c) slots most slots u (slotted (c .limits)) mem lens count 0 (freeAt c) (off j) (a .sized) free-in (o .0) (off-far j l)
+      (subst (λ (p : ℕ). getD lens (slotOf c p) 0 ≤ most) (sym (o .1)) short)
+      ∙ ap (λ (p : ℕ). segmentIn most mem lens (slotOf c p)) (o .1))
 
   new-lying : (j : ℕ) → j < count → lying (filedUnit c (length u)) mem₁ lens₁ (heldAt c (all + j)) ≡ some (getD (cut most u) j blank)
   new-lying j l =
@@ -137,8 +139,8 @@ module _ (c : Channel) (mem lens : List ℕ) (a : Asked c mem lens) (line : List
       ∙ ap (λ (i : ℕ). markOf (flagsOf count i)) (zero-add j)
       in
       let octets : octetsAt k mem₁ lens₁ here ≡ segmentOf most u j
-      = ap (λ (p : ℕ). segmentIn most mem₁ lens₁ (slotOf p)) (sym at)
-      ∙ filed-octets-in slotOf slots most slots u (slotted slots) mem lens count 0 (freeAt c) j (a .sized) free-in (omega arith) l
+      = ap (λ (p : ℕ). segmentIn most mem₁ lens₁ (slotOf c p)) (sym at)
+      ∙ filed-octets-in (slotOf c) slots most slots u (slotted (c .limits)) mem lens count 0 (freeAt c) j (a .sized) free-in (omega arith) l
       ∙ ap (segmentOf most u) (zero-add j)
       in
       lying-some k mem₁ lens₁ here (λ z. let y : markOf (flagsOf count j) ≡ 0 = sym mark ∙ z in omega arith)
@@ -215,12 +217,14 @@ module _ (c : Channel) (mem lens : List ℕ) (s : Sender) (a : Asked c mem lens)
       Sends (transferStep c (length u) .channel) (transferMem c u mem) (transferLens c u lens) (x .0)
       × (numberOf (transferStep c (length u) .answer) ≡ x .1 .number)
 
-  refused : (why : Refusal) → transferStep c (length u) ≡ refusing c why → isAccepted c (length u) ≡ false → Both (s, say (refusalNumber why))
-  refused why e f = (
-    subst (λ (k : Stepped). Sends (k .channel) (transferMem c u mem) (transferLens c u lens) s) (sym e)
-        (subst₂ (λ (m l : List ℕ). Sends c m l s) (sym (transfer-no-mem c u mem lens f)) (sym (transfer-no-lens c u mem lens f)) r),
-    ap (λ (k : Stepped). numberOf (k .answer)) e,
-  )
+  refused : (why : Refusal) → eqb (refusalNumber why) 0 ≡ false → wouldTransfer c (length u) ≡ Refused why → Both (s, say (refusalNumber why))
+  refused why apart would =
+      let f = accepted-by c (length u) (Refused why) would ∙ apart in
+      let e = transfer-no c u mem lens f ∙ ap (answered c) would in (
+        subst (λ (k : Stepped). Sends (k .channel) (transferMem c u mem) (transferLens c u lens) s) (sym e)
+            (subst₂ (λ (m l : List ℕ). Sends c m l s) (sym (transfer-no-mem c u mem lens f)) (sym (transfer-no-lens c u mem lens f)) r),
+        ap (λ (k : Stepped). numberOf (k .answer)) e,
+      )
 
   abbrev count₁ : ℕ
   count₁ = segmentsOf (c .limits .payload) (length u)
@@ -232,15 +236,13 @@ module _ (c : Channel) (mem lens : List ℕ) (s : Sender) (a : Asked c mem lens)
       let closed : c .phase .state ≡ record-of.opened → ⊥
       = λ e. yes-no (ap isOpen (state-opened (s .phase) (sym (r .state) ∙ e))) p
       in
-      let f = closed-accepts c (length u) closed in
-      refused refusal.State (transfer-no c u mem lens f ∙ would-state c (length u) closed) f
+      refused refusal.State refl (would-state c (length u) closed)
   go true false b p q t =
       let o : c .phase .state ≡ record-of.opened = r .state ∙ open-state (s .phase) p in
       let long : c .limits .segments < count₁
       = omega (arith, leb-false (length (cut (c .limits .payload) u)) (c .limits .segments) q, cut-length (c .limits .payload) u)
       in
-      let f = not-accepted c (length u) count₁ refl o long in
-      refused refusal.Long (transfer-no c u mem lens f ∙ would-long c (length u) count₁ refl o long) f
+      refused refusal.Long refl (would-long c (length u) count₁ refl o long)
   go true true false p q t =
       let o : c .phase .state ≡ record-of.opened = r .state ∙ open-state (s .phase) p in
       let z : rank (s .phase) ≡ 2 = ap rank (state-opened (s .phase) (sym (r .state) ∙ o)) in
@@ -252,8 +254,7 @@ module _ (c : Channel) (mem lens : List ℕ) (s : Sender) (a : Asked c mem lens)
       let full : c .limits .slots < heldIn (c .window) + count₁
       = omega (arith, leb-false (length (s .line) - s .oldest + length (cut (c .limits .payload) u)) (c .limits .slots) t, len, x .count)
       in
-      let f = accepted-by c (length u) count₁ refl o few ∙ lt-leb (heldIn (c .window) + count₁) (c .limits .slots) full in
-      refused refusal.NoRoom (transfer-no c u mem lens f ∙ would-room c (length u) count₁ refl o few full) f
+      refused refusal.NoRoom refl (would-room c (length u) count₁ refl o few full)
   go true true true p q t =
       let o : c .phase .state ≡ record-of.opened = r .state ∙ open-state (s .phase) p in
       let z : rank (s .phase) ≡ 2 = ap rank (state-opened (s .phase) (sym (r .state) ∙ o)) in
@@ -266,12 +267,12 @@ module _ (c : Channel) (mem lens : List ℕ) (s : Sender) (a : Asked c mem lens)
       let room : heldIn (c .window) + count₁ ≤ c .limits .slots
       = omega (arith, leb-true (length (s .line) - s .oldest + length (cut (c .limits .payload) u)) (c .limits .slots) t, len, x .count)
       in
-      let f = accepted-by c (length u) count₁ refl o few ∙ le-leb (heldIn (c .window) + count₁) (c .limits .slots) room in
+      let f = accepted-by c (length u) (Done 0 0) (would-done c (length u) count₁ refl o few room) in
       let e = transfer-done c u mem lens f in
       let to = transferred true true true s (cut (c .limits .payload) u) .0 in
       let done : Sends (filedUnit c (length u))
-      (filedMem slotOf (c .limits .payload) (c .limits .slots) u mem count₁ 0 (freeAt c))
-      (filedLens slotOf (c .limits .payload) (c .limits .slots) u lens count₁ 0 (freeAt c))
+      (filedMem (slotOf c) (c .limits .payload) (c .limits .slots) u mem count₁ 0 (freeAt c))
+      (filedLens (slotOf c) (c .limits .payload) (c .limits .slots) u lens count₁ 0 (freeAt c))
       to
       = record {
         state = r .state;

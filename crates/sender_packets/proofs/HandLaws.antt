@@ -12,7 +12,8 @@ use lib.ListN.{length, getD}
 use Rattle.laws.specs.Choice.{if_then_else_}
 use Rattle.laws.proofs.Choice.{chosen, passed-by, not-first, both}
 use Rattle.ring.specs.Ring.{roundOf}
-use Rattle.slots.specs.Slots.{slotOf, segmentIn}
+use Rattle.slots.specs.Slots.{segmentIn}
+use Rattle.channel.specs.Places.{slotOf}
 use Rattle.packet.specs.declared.fields.Fields.{Fields}
 use Rattle.packet.specs.declared.writing.Written.the-variants as written
 use Rattle.packet.specs.Tests.{lacking, strange}
@@ -197,11 +198,11 @@ module _ (node : Node) (c : Channel) (lens mem out : List ℕ) where
   unfolding handStep nextOut
   hand-control = refl
 
-  pub hand-again : handStep c lens 1 (length out) ≡ sentStep c (againOut c) (getD lens (slotOf (placeAt c (againAt c))) 0) (length out)
+  pub hand-again : handStep c lens 1 (length out) ≡ sentStep c (againOut c) (getD lens (slotOf c (placeAt c (againAt c))) 0) (length out)
   unfolding handStep nextOut
   hand-again = refl
 
-  pub hand-new : handStep c lens 2 (length out) ≡ sentStep c (newOut c) (getD lens (slotOf (placeAt c (c .window .flight))) 0) (length out)
+  pub hand-new : handStep c lens 2 (length out) ≡ sentStep c (newOut c) (getD lens (slotOf c (placeAt c (c .window .flight))) 0) (length out)
   unfolding handStep nextOut
   hand-new = refl
 
@@ -214,12 +215,12 @@ module _ (node : Node) (c : Channel) (lens mem out : List ℕ) where
       → (if ltb (length out) (12 + x) then out else afterWrite (written.Done (12 + x)) f p out) ≡ sentOut f p out
   sized-out f p x e = ap (λ (k : ℕ). if ltb (length out) (12 + k) then out else afterWrite (written.Done (12 + k)) f p out) (sym e)
 
-  pub out-again : length (segmentIn (c .limits .payload) mem lens (slotOf (placeAt c (againAt c)))) ≡ getD lens (slotOf (placeAt c (againAt c))) 0
-      → handOut node c lens mem 1 out ≡ sentOut (dataFields node c (againAt c)) (segmentIn (c .limits .payload) mem lens (slotOf (placeAt c (againAt c)))) out
+  pub out-again : length (segmentIn (c .limits .payload) mem lens (slotOf c (placeAt c (againAt c)))) ≡ getD lens (slotOf c (placeAt c (againAt c))) 0
+      → handOut node c lens mem 1 out ≡ sentOut (dataFields node c (againAt c)) (segmentIn (c .limits .payload) mem lens (slotOf c (placeAt c (againAt c)))) out
   unfolding handOut nextFields nextPayload
-  out-again e = sized-out (dataFields node c (againAt c)) (segmentIn (c .limits .payload) mem lens (slotOf (placeAt c (againAt c)))) (getD lens (slotOf (placeAt c (againAt c))) 0) e
+  out-again e = sized-out (dataFields node c (againAt c)) (segmentIn (c .limits .payload) mem lens (slotOf c (placeAt c (againAt c)))) (getD lens (slotOf c (placeAt c (againAt c))) 0) e
 
-  pub out-new : length (segmentIn (c .limits .payload) mem lens (slotOf (placeAt c (c .window .flight)))) ≡ getD lens (slotOf (placeAt c (c .window .flight))) 0
-      → handOut node c lens mem 2 out ≡ sentOut (dataFields node c (c .window .flight)) (segmentIn (c .limits .payload) mem lens (slotOf (placeAt c (c .window .flight)))) out
+  pub out-new : length (segmentIn (c .limits .payload) mem lens (slotOf c (placeAt c (c .window .flight)))) ≡ getD lens (slotOf c (placeAt c (c .window .flight))) 0
+      → handOut node c lens mem 2 out ≡ sentOut (dataFields node c (c .window .flight)) (segmentIn (c .limits .payload) mem lens (slotOf c (placeAt c (c .window .flight)))) out
   unfolding handOut nextFields nextPayload
-  out-new e = sized-out (dataFields node c (c .window .flight)) (segmentIn (c .limits .payload) mem lens (slotOf (placeAt c (c .window .flight)))) (getD lens (slotOf (placeAt c (c .window .flight))) 0) e
+  out-new e = sized-out (dataFields node c (c .window .flight)) (segmentIn (c .limits .payload) mem lens (slotOf c (placeAt c (c .window .flight)))) (getD lens (slotOf c (placeAt c (c .window .flight))) 0) e

@@ -5,7 +5,8 @@ use mathlib.Core.List.{List}
 use Prim.Native.Nat.{ℕ, _+_, _-_, _≤_, _<_, _*_, _%_}
 use native.Mathlib.Omega.{arith}
 use lib.ListN.{length, getD, drop, take}
-use Rattle.slots.specs.Slots.{slotOf, segmentIn}
+use Rattle.slots.specs.Slots.{segmentIn}
+use Rattle.channel.specs.Places.{slotOf}
 use Rattle.packet.specs.declared.fields.Fields.{Fields}
 use Rattle.channel.specs.declared.record.Node.{Node}
 use Rattle.channel.specs.declared.record.Channel.{Channel}
@@ -15,7 +16,8 @@ use Rattle.channel.specs.Asked.{Asked}
 use Rattle.sender.specs.Directives.{placeAt}
 use Rattle.sender_packets.specs.HandingOut.{dataFields, sentStep, sentOut}
 use native.Mathlib.Nat.{pos-of-ne-zero, mul-le-mul-right}
-use Rattle.slots.proofs.Laws.{slot-bound, slot-in}
+use Rattle.slots.proofs.Laws.{slot-in}
+use Rattle.channel.proofs.PlaceLaws.{slot-bound}
 use Rattle.store.proofs.Laws.{segment-length}
 use Rattle.sender_packets.proofs.HandLaws.{data-plain}
 use Rattle.sender.proofs.AskedLaws.{place-lt, mark-set, mark-fits}
@@ -33,16 +35,16 @@ pub record Lying (c : Channel) (mem lens : List ℕ) (s t : ℕ) : Type 0 where
   pub most : c .limits .payload ≤ 1024
   pub few : c .limits .slots ≤ 128
 
-pub lying : (c : Channel) (mem lens : List ℕ) → Asked c mem lens → (i : ℕ) → i < c .window .ahead → (s t : ℕ) → s ≡ placeAt c i → t ≡ slotOf s
+pub lying : (c : Channel) (mem lens : List ℕ) → Asked c mem lens → (i : ℕ) → i < c .window .ahead → (s t : ℕ) → s ≡ placeAt c i → t ≡ slotOf c s
     → Lying c mem lens s t
 lying c mem lens a i l s t e f =
-    subst (λ (k : ℕ). Lying c mem lens s k) (sym f) (subst (λ (k : ℕ). Lying c mem lens k (slotOf k)) (sym e) here)
+    subst (λ (k : ℕ). Lying c mem lens s k) (sym f) (subst (λ (k : ℕ). Lying c mem lens k (slotOf c k)) (sym e) here)
   where
-    here : Lying c mem lens (placeAt c i) (slotOf (placeAt c i))
+    here : Lying c mem lens (placeAt c i) (slotOf c (placeAt c i))
     here =
         let h = a .standing in
         let p = place-lt c lens h i l in
-        let b = slot-bound (c .limits .slots) (placeAt c i) p in
+        let b = slot-bound (c .limits) (placeAt c i) p in
         let m = mark-fits c lens h i l in
         record {
           place = p;
@@ -50,10 +52,10 @@ lying c mem lens a i l s t e f =
           least = pos-of-ne-zero (mark-set c lens h i l);
           mark = m .0;
           short = m .1;
-          inside = omega (arith, slot-in (slotOf (placeAt c i)) (c .limits .slots) (c .limits .payload) b, a .sized .exact);
+          inside = omega (arith, slot-in (slotOf c (placeAt c i)) (c .limits .slots) (c .limits .payload) b, a .sized .exact);
           small = omega (
             arith,
-            slot-in (slotOf (placeAt c i)) (c .limits .slots) (c .limits .payload) b,
+            slot-in (slotOf c (placeAt c i)) (c .limits .slots) (c .limits .payload) b,
             mul-le-mul-right (c .limits .payload) (a .sized .few),
             a .sized .short,
           );
@@ -63,13 +65,13 @@ lying c mem lens a i l s t e f =
         }
 
 pub segment-sized : (c : Channel) (mem lens : List ℕ) → Asked c mem lens → (i : ℕ) → i < c .window .ahead
-    → length (segmentIn (c .limits .payload) mem lens (slotOf (placeAt c i))) ≡ getD lens (slotOf (placeAt c i)) 0
+    → length (segmentIn (c .limits .payload) mem lens (slotOf c (placeAt c i))) ≡ getD lens (slotOf c (placeAt c i)) 0
 segment-sized c mem lens a i l =
-    let y = lying c mem lens a i l (placeAt c i) (slotOf (placeAt c i)) refl refl in
-    segment-length (c .limits .slots) (c .limits .payload) mem lens (slotOf (placeAt c i)) (a .sized) (y .slot) (y .short)
+    let y = lying c mem lens a i l (placeAt c i) (slotOf c (placeAt c i)) refl refl in
+    segment-length (c .limits .slots) (c .limits .payload) mem lens (slotOf c (placeAt c i)) (a .sized) (y .slot) (y .short)
 
 -- the octets of a slot, as they are handed on
-module _ (c : Channel) (mem lens : List ℕ) (a : Asked c mem lens) (i s t : ℕ) (l : i < c .window .ahead) (e : s ≡ placeAt c i) (f : t ≡ slotOf s) where
+module _ (c : Channel) (mem lens : List ℕ) (a : Asked c mem lens) (i s t : ℕ) (l : i < c .window .ahead) (e : s ≡ placeAt c i) (f : t ≡ slotOf c s) where
   abbrev part : List ℕ
   part = take (t * c .limits .payload + getD lens t 0 - t * c .limits .payload) (drop (t * c .limits .payload) mem)
 
@@ -91,11 +93,11 @@ module _ (c : Channel) (mem lens : List ℕ) (a : Asked c mem lens) (i s t : ℕ
         subst (λ (x : Fields). Plain x (length part)) (sym is)
         (data-plain node (c .addresses) (getD (c .marks) s 0 - 1) number (length part) (omega (arith, y .mark)) (omega (arith, part-length, y .short, y .most)))
 
-    pub part-step : (after : Channel) (k : ℕ) → sentStep c after (length part) k ≡ sentStep c after (getD lens (slotOf (placeAt c i)) 0) k
-    part-step after k = ap (λ (x : ℕ). sentStep c after x k) (part-length ∙ ap (λ (p : ℕ). getD lens p 0) (f ∙ ap slotOf e))
+    pub part-step : (after : Channel) (k : ℕ) → sentStep c after (length part) k ≡ sentStep c after (getD lens (slotOf c (placeAt c i)) 0) k
+    part-step after k = ap (λ (x : ℕ). sentStep c after x k) (part-length ∙ ap (λ (p : ℕ). getD lens p 0) (f ∙ ap (slotOf c) e))
 
-    pub part-out : (out : List ℕ) → sentOut g part out ≡ sentOut (dataFields node c i) (segmentIn (c .limits .payload) mem lens (slotOf (placeAt c i))) out
+    pub part-out : (out : List ℕ) → sentOut g part out ≡ sentOut (dataFields node c i) (segmentIn (c .limits .payload) mem lens (slotOf c (placeAt c i))) out
     part-out out =
         ap₂ (λ (x : Fields) (p : List ℕ). sentOut x p out)
         (is ∙ ap₂ (λ (p k : ℕ). outgoingOf node (c .addresses) 0 (getD (c .marks) p 0 - 1) k) e n)
-        (part-is ∙ ap (segmentIn (c .limits .payload) mem lens) (f ∙ ap slotOf e))
+        (part-is ∙ ap (segmentIn (c .limits .payload) mem lens) (f ∙ ap (slotOf c) e))

@@ -7,7 +7,8 @@ use lib.Dec.{ltb, eqb}
 use lib.ListN.{length, getD, set}
 use Rattle.laws.specs.Choice.{if_then_else_}
 use Rattle.ring.specs.Ring.{roundOf}
-use Rattle.slots.specs.Slots.{slotOf, segmentIn}
+use Rattle.slots.specs.Slots.{segmentIn}
+use Rattle.channel.specs.Places.{slotOf}
 use Rattle.packet.specs.declared.fields.Fields.{Fields}
 use Rattle.packet.specs.declared.writing.Written.the-variants as written
 use Rattle.packet.specs.Writing.{afterWrite}
@@ -105,7 +106,7 @@ nextFields node c rank = if eqb rank 0 then controlFields node c else dataFields
 
 unfoldable pub nextPayload : Channel → List ℕ → List ℕ → ℕ → List ℕ
 nextPayload c lens mem rank =
-    if eqb rank 0 then [] else segmentIn (c .limits .payload) mem lens (slotOf (placeAt c (segmentFor c rank)))
+    if eqb rank 0 then [] else segmentIn (c .limits .payload) mem lens (slotOf c (placeAt c (segmentFor c rank)))
 
 -- the channel once it is handed out
 unfoldable pub nextOut : Channel → ℕ → Channel
@@ -113,7 +114,7 @@ nextOut c rank = if eqb rank 0 then controlOut c else if eqb rank 1 then againOu
 
 -- how many octets the packet has: only its payload's length counts
 abbrev pub nextLength : Channel → List ℕ → ℕ → ℕ
-nextLength c lens rank = 12 + (if eqb rank 0 then 0 else getD lens (slotOf (placeAt c (segmentFor c rank))) 0)
+nextLength c lens rank = 12 + (if eqb rank 0 then 0 else getD lens (slotOf c (placeAt c (segmentFor c rank))) 0)
 
 -- a packet with a payload of x octets goes out into a buffer of n, and the channel is then another; 11 if it does not fit, and nothing changes
 abbrev pub sentStep : Channel → Channel → ℕ → ℕ → Stepped

@@ -45,10 +45,10 @@ pub fn reclaim_step(c: Channel, mem: &[u8], lens: &[u16], out: &mut [u8]) -> Ste
     let from = c.window.place;
     let marks = c.marks;
     let n = store::unit_of(marks, slots, ahead, from);
-    let size = store::size_in(lens, slots, n, from);
+    let size = store::size_in(c.limits, lens, n, from);
     if out.len() < size {
         return refused(c, Refusal::Small(size));
     }
-    store::gather(mem, lens, slots, c.limits.payload, n, from, out);
+    store::gather(c.limits, mem, lens, n, from, out);
     done(drop_oldest(c, n), size)
 }

@@ -1,23 +1,27 @@
 -- Laws of units filed and reclaimed: what each step answers in each case.
 -- Assumes nothing.
 use mathlib.Core.Path.{_≡_, refl, sym, ap, ap₂, _∙_}
-use mathlib.Core.Bool.{Bool, true, false, not}
+use mathlib.Core.Bool.{Bool, true, false, not, false≢true}
 use mathlib.Core.List.{List}
 use Prim.Native.Nat.{ℕ, _+_, _≤_, _<_}
 use native.Mathlib.Omega.{arith}
-use borrow.Author.Tests.{lt-ltb, le-ltb, lt-leb, le-leb, eq-eqb, ne-eqb, leb-true, eqb-true}
-use lib.Dec.{ltb, leb, eqb}
+use borrow.Author.Tests.{lt-ltb, le-ltb, eq-eqb, ne-eqb, ltb-false, eqb-true}
+use lib.Dec.{ltb, eqb}
 use lib.ListN.{length}
 use Rattle.laws.specs.Choice.{if_then_else_}
-use Rattle.laws.proofs.Choice.{chosen, passed-by, both}
+use Rattle.laws.proofs.Choice.{chosen, passed-by}
 use Rattle.ring.specs.Ring.{cleared}
-use Rattle.slots.specs.Slots.{slotOf, laid}
+use Rattle.slots.specs.Slots.{laid}
+use Rattle.channel.specs.Places.{slotOf}
 use Rattle.slots.specs.Units.{segmentsOf}
 use Rattle.store.specs.Store.{sizeIn, octetsIn, filedMem, filedLens, filedMarks, EachFits}
 use Rattle.channel.specs.declared.record.Channel.{Channel}
+use Rattle.channel.specs.declared.answer.Answer.{Answer}
+use Rattle.channel.specs.declared.answer.Answer.the-variants.{Done, Refused}
 use Rattle.channel.specs.declared.answer.Refusal.the-variants as refusal
+use Rattle.channel.specs.Answers.{numberOf}
 use Rattle.channel.specs.Record.{closed, opened, heldIn, withWindow, withMarks, withAcked}
-use Rattle.channel.specs.Steps.{refusing, doing}
+use Rattle.channel.specs.Steps.{answered, refusing, doing}
 use Rattle.channel.specs.Asked.{Asked}
 use Rattle.sender_units.specs.Transfer.{wouldTransfer, isAccepted, longer, filedUnit, transferStep, transferMem, transferLens, freeAt}
 use Rattle.sender_units.specs.Reclaiming.{unitAt, sizeAt, dropped, reclaimStep, reclaimOut}
@@ -27,65 +31,60 @@ use Rattle.sender.proofs.AskedLaws.{mark-fits}
 
 module _ (c : Channel) (n count : ℕ) (e : count ≡ segmentsOf (c .limits .payload) n) where
   module _ (h : c .phase .state ≡ opened) where
-    pub would-long : c .limits .segments < count → wouldTransfer c n ≡ refusing c refusal.Long
+    pub would-long : c .limits .segments < count → wouldTransfer c n ≡ Refused refusal.Long
     unfolding wouldTransfer
     would-long k = simp (eq-eqb _ _ h, ← e, lt-ltb _ _ k)
 
-    pub would-room : count ≤ c .limits .segments → c .limits .slots < heldIn (c .window) + count → wouldTransfer c n ≡ refusing c refusal.NoRoom
+    pub would-room : count ≤ c .limits .segments → c .limits .slots < heldIn (c .window) + count → wouldTransfer c n ≡ Refused refusal.NoRoom
     unfolding wouldTransfer
     would-room k r = simp (eq-eqb _ _ h, ← e, le-ltb _ _ k, lt-ltb _ _ r)
 
-    pub would-done : count ≤ c .limits .segments → heldIn (c .window) + count ≤ c .limits .slots → wouldTransfer c n ≡ doing c 0
+    pub would-done : count ≤ c .limits .segments → heldIn (c .window) + count ≤ c .limits .slots → wouldTransfer c n ≡ Done 0 0
     unfolding wouldTransfer
     would-done k r = simp (eq-eqb _ _ h, ← e, le-ltb _ _ k, le-ltb _ _ r)
 
-    pub not-accepted : c .limits .segments < count → isAccepted c n ≡ false
-    unfolding isAccepted
-    not-accepted k = simp (eq-eqb _ _ h, ← e, lt-leb _ _ k)
-
-    pub accepted-by : count ≤ c .limits .segments → isAccepted c n ≡ leb (heldIn (c .window) + count) (c .limits .slots)
-    unfolding isAccepted
-    accepted-by k = simp (eq-eqb _ _ h, ← e, le-leb _ _ k)
-
-pub would-state : (c : Channel) (n : ℕ) → (c .phase .state ≡ opened → ⊥) → wouldTransfer c n ≡ refusing c refusal.State
+pub would-state : (c : Channel) (n : ℕ) → (c .phase .state ≡ opened → ⊥) → wouldTransfer c n ≡ Refused refusal.State
 unfolding wouldTransfer
 would-state c n h = simp (ne-eqb _ _ h)
 
--- it is a question: the channel is as it was
-pub would-same : (c : Channel) (n : ℕ) → wouldTransfer c n .channel ≡ c
-unfolding wouldTransfer
-would-same c n =
-    go (eqb (c .phase .state) opened) (ltb (c .limits .segments) (segmentsOf (c .limits .payload) n))
-    (ltb (c .limits .slots) (heldIn (c .window) + segmentsOf (c .limits .payload) n))
-  where
-    go : (a b d : Bool)
-        → (if not a then refusing c refusal.State
-        else if b then refusing c refusal.Long
-        else if d then refusing c refusal.NoRoom
-        else doing c 0) .channel
-        ≡ c
-    go false b d = refl
-    go true true d = refl
-    go true false true = refl
-    go true false false = refl
-
-pub closed-accepts : (c : Channel) (n : ℕ) → (c .phase .state ≡ opened → ⊥) → isAccepted c n ≡ false
+-- whether it is accepted, by what it is answered
+pub accepted-by : (c : Channel) (n : ℕ) (a : Answer) → wouldTransfer c n ≡ a → isAccepted c n ≡ eqb (numberOf a) 0
 unfolding isAccepted
-closed-accepts c n h = simp (ne-eqb _ _ h)
+accepted-by c n a e = ap (λ (x : Answer). eqb (numberOf x) 0) e
+
+-- the same, by the answer's number
+module _ (c : Channel) (n : ℕ) (a : Answer) (k : ℕ) (would : a ≡ wouldTransfer c n) (is : k ≡ numberOf a) where
+  pub number-accepts : k ≡ 0 → isAccepted c n ≡ true
+  number-accepts e = accepted-by c n a (sym would) ∙ eq-eqb _ _ (sym is ∙ e)
+
+  pub number-refuses : (k ≡ 0 → ⊥) → isAccepted c n ≡ false
+  number-refuses e = accepted-by c n a (sym would) ∙ ne-eqb _ _ (λ z. e (is ∙ z))
 
 pub accepted-is : (c : Channel) (n : ℕ) → isAccepted c n ≡ true
     → (c .phase .state ≡ opened) × (segmentsOf (c .limits .payload) n ≤ c .limits .segments) × (heldIn (c .window) + segmentsOf (c .limits .payload) n ≤ c .limits .slots)
-unfolding isAccepted
-accepted-is c n e =
-    let p = both _ _ e in
-    let q = both _ _ (p .0) in
-    (eqb-true _ _ (q .0), leb-true _ _ (q .1), leb-true _ _ (p .1))
+unfolding isAccepted wouldTransfer
+accepted-is c n = go (eqb (c .phase .state) opened) refl (ltb (c .limits .segments) count) refl (ltb (c .limits .slots) (heldIn (c .window) + count)) refl
+  where
+    count : ℕ
+    count = segmentsOf (c .limits .payload) n
+
+    go : (o : Bool) → eqb (c .phase .state) opened ≡ o → (l : Bool) → ltb (c .limits .segments) count ≡ l
+        → (r : Bool) → ltb (c .limits .slots) (heldIn (c .window) + count) ≡ r
+        → eqb (numberOf (if not o then Refused refusal.State else if l then Refused refusal.Long else if r then Refused refusal.NoRoom else Done 0 0)) 0 ≡ true
+        → (c .phase .state ≡ opened) × (count ≤ c .limits .segments) × (heldIn (c .window) + count ≤ c .limits .slots)
+    go true o false l false r e = (eqb-true _ _ o, ltb-false _ _ l, ltb-false _ _ r)
+    go false o l lₑ r rₑ e = absurd (false≢true e)
+    go true o true l r rₑ e = absurd (false≢true e)
+    go true o false l true r e = absurd (false≢true e)
+
+pub accepted-done : (c : Channel) (n : ℕ) → isAccepted c n ≡ true → wouldTransfer c n ≡ Done 0 0
+accepted-done c n e = let t = accepted-is c n e in would-done c n (segmentsOf (c .limits .payload) n) refl (t .0) (t .1) (t .2)
 
 module _ (c : Channel) (u mem lens : List ℕ) where
   module _ (e : isAccepted c (length u) ≡ false) where
-    pub transfer-no : transferStep c (length u) ≡ wouldTransfer c (length u)
+    pub transfer-no : transferStep c (length u) ≡ answered c (wouldTransfer c (length u))
     unfolding transferStep
-    transfer-no = passed-by (isAccepted c (length u)) _ _ e
+    transfer-no = ap (λ (x : Channel). answered x (wouldTransfer c (length u))) (passed-by (isAccepted c (length u)) _ _ e)
 
     pub transfer-no-mem : transferMem c u mem ≡ mem
     unfolding transferMem
@@ -98,13 +97,13 @@ module _ (c : Channel) (u mem lens : List ℕ) where
   module _ (e : isAccepted c (length u) ≡ true) where
     pub transfer-done : transferStep c (length u) ≡ doing (filedUnit c (length u)) 0
     unfolding transferStep
-    transfer-done = chosen (isAccepted c (length u)) _ _ e
+    transfer-done = ap₂ answered (chosen (isAccepted c (length u)) _ _ e) (accepted-done c (length u) e)
 
-    pub transfer-done-mem : transferMem c u mem ≡ filedMem slotOf (c .limits .payload) (c .limits .slots) u mem (segmentsOf (c .limits .payload) (length u)) 0 (freeAt c)
+    pub transfer-done-mem : transferMem c u mem ≡ filedMem (slotOf c) (c .limits .payload) (c .limits .slots) u mem (segmentsOf (c .limits .payload) (length u)) 0 (freeAt c)
     unfolding transferMem
     transfer-done-mem = chosen (isAccepted c (length u)) _ _ e
 
-    pub transfer-done-lens : transferLens c u lens ≡ filedLens slotOf (c .limits .payload) (c .limits .slots) u lens (segmentsOf (c .limits .payload) (length u)) 0 (freeAt c)
+    pub transfer-done-lens : transferLens c u lens ≡ filedLens (slotOf c) (c .limits .payload) (c .limits .slots) u lens (segmentsOf (c .limits .payload) (length u)) 0 (freeAt c)
     unfolding transferLens
     transfer-done-lens = chosen (isAccepted c (length u)) _ _ e
 
@@ -146,9 +145,9 @@ module _ (c : Channel) (lens mem out : List ℕ) where
     unfolding reclaimOut
     reclaim-none-out k = simp (eq-eqb _ _ h, eq-eqb _ _ k)
 
-    module _ (k : c .window .ahead ≡ 0 → ⊥) (n size : ℕ) (en : n ≡ unitAt c) (es : size ≡ sizeIn slotOf lens (c .limits .slots) n (c .window .place)) where
+    module _ (k : c .window .ahead ≡ 0 → ⊥) (n size : ℕ) (en : n ≡ unitAt c) (es : size ≡ sizeIn (slotOf c) lens (c .limits .slots) n (c .window .place)) where
       size-is : size ≡ sizeAt c lens
-      size-is = es ∙ ap (λ (m : ℕ). sizeIn slotOf lens (c .limits .slots) m (c .window .place)) en
+      size-is = es ∙ ap (λ (m : ℕ). sizeIn (slotOf c) lens (c .limits .slots) m (c .window .place)) en
 
       fits-not : length out < size → ltb (length out) (sizeAt c lens) ≡ true
       fits-not l = ap (ltb (length out)) (sym size-is) ∙ lt-ltb _ _ l
@@ -169,13 +168,13 @@ module _ (c : Channel) (lens mem out : List ℕ) where
       reclaim-done l = ap₂ (λ (m s : ℕ). doing (dropped c m) s) en size-is ∙ sym (simp (eq-eqb _ _ h, ne-eqb _ _ k, fits l))
 
       pub reclaim-done-out : size ≤ length out
-          → laid out 0 (octetsIn slotOf (c .limits .payload) mem lens (c .limits .slots) n (c .window .place)) ≡ reclaimOut c lens mem out
+          → laid out 0 (octetsIn (slotOf c) (c .limits .payload) mem lens (c .limits .slots) n (c .window .place)) ≡ reclaimOut c lens mem out
       unfolding reclaimOut
       reclaim-done-out l =
-          ap (λ (m : ℕ). laid out 0 (octetsIn slotOf (c .limits .payload) mem lens (c .limits .slots) m (c .window .place))) en
+          ap (λ (m : ℕ). laid out 0 (octetsIn (slotOf c) (c .limits .payload) mem lens (c .limits .slots) m (c .window .place))) en
           ∙ sym (simp (eq-eqb _ _ h, ne-eqb _ _ k, fits l))
 
 -- the oldest unit: each of its segments has at most P octets
 pub unit-fits : (c : Channel) (mem lens : List ℕ) → Asked c mem lens → (n : ℕ) → n ≤ c .window .ahead
-    → EachFits slotOf (c .limits .payload) lens (c .limits .slots) n (c .window .place)
+    → EachFits (slotOf c) (c .limits .payload) lens (c .limits .slots) n (c .window .place)
 unit-fits c mem lens a n h i l = mark-fits c lens (a .standing) i (omega arith) .1

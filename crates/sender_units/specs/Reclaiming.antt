@@ -6,7 +6,8 @@ use lib.Dec.{ltb, eqb}
 use lib.ListN.{length}
 use Rattle.laws.specs.Choice.{if_then_else_}
 use Rattle.ring.specs.Ring.{roundOf, cleared}
-use Rattle.slots.specs.Slots.{slotOf, laid}
+use Rattle.slots.specs.Slots.{laid}
+use Rattle.channel.specs.Places.{slotOf}
 use Rattle.store.specs.Store.{unitOf, sizeIn, octetsIn}
 use Rattle.channel.specs.declared.record.Channel.{Channel}
 use Rattle.channel.specs.declared.step.Stepped.{Stepped}
@@ -19,7 +20,7 @@ abbrev pub unitAt : Channel → ℕ
 unitAt c = unitOf (c .marks) (c .limits .slots) (c .window .ahead) (c .window .place)
 
 abbrev pub sizeAt : Channel → List ℕ → ℕ
-sizeAt c lens = sizeIn slotOf lens (c .limits .slots) (unitAt c) (c .window .place)
+sizeAt c lens = sizeIn (slotOf c) lens (c .limits .slots) (unitAt c) (c .window .place)
 
 -- the oldest n segments are gone
 abbrev pub dropped : Channel → ℕ → Channel
@@ -48,4 +49,4 @@ reclaimOut c lens mem out =
     if not (eqb (c .phase .state) closed) then out
     else if eqb (c .window .ahead) 0 then out
     else if ltb (length out) (sizeAt c lens) then out
-    else laid out 0 (octetsIn slotOf (c .limits .payload) mem lens (c .limits .slots) (unitAt c) (c .window .place))
+    else laid out 0 (octetsIn (slotOf c) (c .limits .payload) mem lens (c .limits .slots) (unitAt c) (c .window .place))

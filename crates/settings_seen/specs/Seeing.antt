@@ -17,15 +17,19 @@ use Rattle.table.specs.Lent.{areaOf}
 use Rattle.table.specs.Serving.{toldOf}
 use Rattle.settings_seen.specs.declared.seeing.Seen.{Seen}
 
+-- what stands at an index that nothing was noted at
+abbrev pub nowhere : Addresses
+nowhere = record { channel = 0; remote = 0; direction = 0 }
+
 abbrev pub begun : Seen
-begun = record { sound = true; slots = 0; octets = 0; channels = replicate 16 0; remotes = replicate 16 0; directions = replicate 16 0 }
+begun = record { sound = true; slots = 0; octets = 0; addresses = replicate 16 nowhere }
 
 abbrev pub unsound : Seen → Seen
-unsound v = record { sound = false; slots = v .slots; octets = v .octets; channels = v .channels; remotes = v .remotes; directions = v .directions }
+unsound v = record { sound = false; slots = v .slots; octets = v .octets; addresses = v .addresses }
 
 -- the addresses with an index
 abbrev pub addressesAt : Seen → ℕ → Addresses
-addressesAt v i = record { channel = getD (v .channels) i 0; remote = getD (v .remotes) i 0; direction = getD (v .directions) i 0 }
+addressesAt v i = getD (v .addresses) i nowhere
 
 -- one of the n from the i-th on has such addresses
 unfoldable pub taken : Seen → Addresses → ℕ → ℕ → Bool
@@ -38,9 +42,7 @@ noted v s j =
       sound = true;
       slots = v .slots + s .limits .slots;
       octets = v .octets + areaOf (s .limits);
-      channels = set (v .channels) j (s .addresses .channel);
-      remotes = set (v .remotes) j (s .addresses .remote);
-      directions = set (v .directions) j (s .addresses .direction);
+      addresses = set (v .addresses) j (s .addresses);
     }
 
 unfoldable pub seeOne : Seen → Settings → List ℕ → ℕ → Seen

@@ -11,26 +11,28 @@ ghost use Prim.Native.Nat.{_≤_, _<_};
 ghost use Rattle.settings_seen.specs.Seeing.{begun, unsound, addressesAt, taken, noted, seeOne};
 
 // Whether all is well so far, the slots and the octets together, and by index the addresses: a slice of structs is walked once, so those before
-// are kept as numbers.
+// are kept.
 pub struct Seen {
     pub sound: bool,
     pub slots: usize,
     pub octets: usize,
-    pub channels: [u16; 16],
-    pub remotes: [u8; 16],
-    pub directions: [u8; 16],
+    pub addresses: [Addresses; 16],
 }
 
 pub fn see_begin() -> Seen
     ensures { λ r. ⌜ r ≡ begun ⌝ }
 {
+    let none = Addresses {
+        channel: 0,
+        remote: 0,
+        direction: 0,
+    };
+    let addresses = [none; 16];
     Seen {
         sound: true,
         slots: 0,
         octets: 0,
-        channels: [0; 16],
-        remotes: [0; 16],
-        directions: [0; 16],
+        addresses,
     }
 }
 
@@ -48,11 +50,8 @@ fn addresses_at(v: Seen, i: usize) -> Addresses
     requires { ⌜ i < 16 ⌝ }
     ensures { λ r. ⌜ r ≡ addressesAt v i ⌝ }
 {
-    Addresses {
-        channel: v.channels[i],
-        remote: v.remotes[i],
-        direction: v.directions[i],
-    }
+    let a = v.addresses[i];
+    a
 }
 
 // One of the first n has such addresses.
@@ -76,19 +75,14 @@ fn note(v: Seen, s: Settings, j: usize) -> Seen
     requires { ⌜ (j < 16) × (s .limits .slots ≤ 128) × (s .limits .payload ≤ 1024) × (v .slots ≤ 4294967296) × (v .octets ≤ 2097152) ⌝ }
     ensures { λ r. ⌜ r ≡ noted v s j ⌝ }
 {
-    let mut channels = v.channels;
-    let mut remotes = v.remotes;
-    let mut directions = v.directions;
-    channels[j] = s.addresses.channel;
-    remotes[j] = s.addresses.remote;
-    directions[j] = s.addresses.direction;
+    let mut addresses = v.addresses;
+    let a = s.addresses;
+    addresses[j] = a;
     Seen {
         sound: true,
         slots: v.slots + s.limits.slots,
         octets: v.octets + area(s.limits),
-        channels,
-        remotes,
-        directions,
+        addresses,
     }
 }
 

@@ -10,20 +10,7 @@ use lib.ListN.{length, getD, set, take, drop, length-append, length-drop, length
 use lib.Seq.{length-take-le, take-length, take-at, drop-at, drop-drop, drop-append-add, take-append-le, take-take, getD-set-same, getD-set-other}
 use Rattle.laws.proofs.Lists.{tail-part, take-drop}
 use Rattle.laws.proofs.Numbers.{either-side}
-use Rattle.slots.specs.Slots.{Sized, slotOf, Slotted, laid, segmentIn}
-
--- ---- the slot of a place
-
-pub slot-bound : (slots place : ℕ) → place < slots → slotOf place < slots
-unfolding slotOf
-slot-bound slots place h = h
-
-pub slot-apart : (p q : ℕ) → slotOf p ≡ slotOf q → p ≡ q
-unfolding slotOf
-slot-apart p q e = e
-
-pub slotted : (slots : ℕ) → Slotted slotOf slots slots
-slotted slots = record { bound = slot-bound slots; apart = λ p q h k e. slot-apart p q e }
+use Rattle.slots.specs.Slots.{Sized, laid, segmentIn}
 
 -- ---- octets laid in a memory
 

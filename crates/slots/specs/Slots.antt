@@ -12,13 +12,7 @@ pub record Sized (slots most : ℕ) (m lens : List ℕ) : Type 0 where
   pub each : length lens ≡ slots
   pub exact : length m ≡ slots * most
 
--- The slot of a place. Marks, acks, timers and resends go by the place on the ring, octets and lengths by the slot in memory. A memory of one
--- channel alone has a slot for each place, with the place's number. It has a name because the two are not one thing: channels that share a
--- memory have their slots wherever there was one free. Nothing but its laws (`slot-bound`, `slot-apart`) knows which slot it is
-unfoldable pub slotOf : ℕ → ℕ
-slotOf place = place
-
--- such a map of so many places to so many slots: each place has a slot, and no two have the same
+-- a map of so many places to so many slots: each place has a slot, and no two have the same
 pub record Slotted (slot : ℕ → ℕ) (places slots : ℕ) : Type 0 where
   pub bound : (place : ℕ) → place < places → slot place < slots
   pub apart : (p q : ℕ) → p < places → q < places → slot p ≡ slot q → p ≡ q

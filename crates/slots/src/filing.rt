@@ -1,15 +1,8 @@
-// The slot of a place; a segment is filed in a slot, and read back.
+// A segment is filed in a slot, and read back.
 ghost use mathlib.Core.Path.{_≡_};
 ghost use Prim.Native.Nat.{_+_, _*_, _≤_, _<_};
 ghost use lib.ListN.{length, getD, set};
-ghost use Rattle.slots.specs.Slots.{Sized, slotOf, laid, segmentIn};
-
-// Where the segment at a place of the ring lies in memory.
-pub fn slot_of(place: usize) -> usize
-    ensures { λ r. ⌜ r ≡ slotOf place ⌝ }
-{
-    place
-}
+ghost use Rattle.slots.specs.Slots.{Sized, laid, segmentIn};
 
 // The octets of a segment go to a slot, with their length. The slot's octets past them stay.
 pub fn file_segment(

@@ -6,4 +6,3 @@ pub use cutting::flags_of;
 pub use cutting::segments;
 pub use filing::file_segment;
 pub use filing::read_segment;
-pub use filing::slot_of;

@@ -7,12 +7,13 @@ use lib.ListN.{length}
 use Rattle.laws.specs.Choice.{if_then_else_}
 use Rattle.walks.specs.Serving.{works}
 use Rattle.channel.specs.declared.record.Channel.{Channel}
+use Rattle.channel.specs.declared.answer.Answer.the-variants.{Refused}
 use Rattle.channel.specs.declared.answer.Refusal.the-variants as refusal
 use Rattle.channel.specs.declared.step.Stepped.{Stepped}
 use Rattle.channel.specs.Record.{sends, receives}
-use Rattle.channel.specs.Steps.{refusing}
+use Rattle.channel.specs.Steps.{answered, refusing}
 use Rattle.sender.specs.Directives as sender
-use Rattle.sender_units.specs.Transfer.{transferStep, transferMem, transferLens}
+use Rattle.sender_units.specs.Transfer.{wouldTransfer, transferStep, transferMem, transferLens}
 use Rattle.sender_units.specs.Reclaiming.{reclaimStep, reclaimOut}
 use Rattle.receiver.specs.Receiving as receiver
 use Rattle.receiver_data.specs.Taking.{takeStep, takeOut}
@@ -31,6 +32,10 @@ transferFor unit c rank mem lens out =
     if eqb (c .addresses .direction) sends
     then works (transferStep c (length unit)) (transferMem c unit mem) (transferLens c unit lens) out
     else works (refusing c refusal.State) mem lens out
+
+-- what a transfer of so many octets would answer: a question, which changes nothing
+unfoldable pub askedBy : ℕ → Channel → Stepped
+askedBy count c = answered c (if eqb (c .addresses .direction) sends then wouldTransfer c count else Refused refusal.State)
 
 -- a receiver gives its oldest complete unit
 unfoldable pub takeFor : Step

@@ -5,6 +5,7 @@ use channel::Stepped;
 use channel::record::RECEIVES;
 use channel::record::SENDS;
 use channel::step::refused;
+use channel::step::unchanged;
 use table::Decision;
 use table::surveying::area;
 ghost use mathlib.Core.Path.{_≡_};
@@ -12,7 +13,7 @@ ghost use mathlib.Core.List.{[]};
 ghost use Rattle.channel.specs.Asked.{Ringed};
 ghost use Rattle.walks.specs.Serving.{works};
 ghost use Rattle.table.specs.Surveying.{Served, stepping};
-ghost use Rattle.steps.specs.Requests.{openedBy, closedBy, transferFor, takeFor, reclaimFor};
+ghost use Rattle.steps.specs.Requests.{openedBy, closedBy, transferFor, askedBy, takeFor, reclaimFor};
 
 // An Open directive.
 pub fn open_step(c: Channel, d: Decision, index: usize) -> Stepped
@@ -56,6 +57,18 @@ pub fn transfer_step(
     let octets = octet + area(c.limits);
     let slots = slot + c.limits.slots;
     sender_units::transfer_step(c, unit, &mut mem[octet..octets], &mut lens[slot..slots])
+}
+
+// What a transfer of so many octets would answer. It is a question: nothing is changed.
+pub fn ask_step(c: Channel, count: usize) -> Stepped
+    requires { ⌜ Ringed (c .limits) (c .window) ⌝ }
+    ensures { λ r. ⌜ r ≡ askedBy count c ⌝ }
+{
+    if c.addresses.direction != SENDS {
+        return refused(c, Refusal::State);
+    }
+    let answer = sender_units::would_transfer(c, count);
+    unchanged(c, answer)
 }
 
 // The oldest complete unit is taken.

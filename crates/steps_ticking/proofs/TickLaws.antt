@@ -30,7 +30,7 @@ module _ (x : Ticked) (r : Round) where
   round-told e = simp (e)
 
   module _ (none : r .any ≡ false) where
-    pub round-first : x .inactive ≡ true → roundBy x r ≡ record { index = r .index; reason = x .channel .reason; any = true }
+    pub round-first : x .inactive ≡ true → roundBy x r ≡ record { index = r .index; reason = x .channel .phase .reason; any = true }
     unfolding roundBy
     round-first e = simp (none, e)
 

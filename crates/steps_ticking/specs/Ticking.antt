@@ -27,7 +27,7 @@ quiet index = record { index = index; reason = 0; any = false }
 unfoldable pub roundBy : Ticked → Round → Round
 roundBy x r =
     if r .any then r
-    else if x .inactive then record { index = r .index; reason = x .channel .reason; any = true }
+    else if x .inactive then record { index = r .index; reason = x .channel .phase .reason; any = true }
     else if ltb (r .index) 16 then quiet (r .index + 1)
     else quiet (r .index)
 

@@ -56,7 +56,7 @@ fn round_by(x: Ticked, r: Round) -> Round
     if x.inactive {
         return Round {
             index: r.index,
-            reason: channel.reason,
+            reason: channel.phase.reason,
             any: true,
         };
     }

@@ -12,7 +12,7 @@ use Rattle.laws.specs.Choice.{if_then_else_}
 use Rattle.ring.specs.Ring.{roundOf}
 use Rattle.ring.proofs.Laws.{round-lt, first-place, next-place}
 use Rattle.slots.specs.Marks.{ends}
-use Rattle.slots.specs.Slots.{slotOf}
+use Rattle.channel.specs.Places.{slotOf}
 use Rattle.store.specs.Store.{unitOf, endsIn, lastWith, lastEndIn, octetsIn}
 use Rattle.channel.specs.declared.record.Channel.{Channel}
 use Rattle.protocol.specs.Units.{DataUnit, Segment, blank, units, endings, wholeTo, oneMore, firstUnit}
@@ -97,7 +97,7 @@ module _ (c : Channel) (mem lens : List ℕ) where
 
   pub record First (part : DataUnit) (l : List Segment) (from : ℕ) (u : DataUnit) : Type 0 where
     pub count : unitOf marks slots (length l) from ≡ firstUnit l
-    pub octets : part ++ octetsIn slotOf (c .limits .payload) mem lens slots (firstUnit l) from ≡ u
+    pub octets : part ++ octetsIn (slotOf c) (c .limits .payload) mem lens slots (firstUnit l) from ≡ u
     pub some : 1 ≤ firstUnit l
 
   one-more : (m : ℕ) → 1 ≤ m → oneMore m ≡ suc m
@@ -118,7 +118,7 @@ module _ (c : Channel) (mem lens : List ℕ) where
       record {
         count = simp (a, b);
         octets =
-            ap (λ (m : ℕ). part ++ octetsIn slotOf (c .limits .payload) mem lens slots m from) one
+            ap (λ (m : ℕ). part ++ octetsIn (slotOf c) (c .limits .payload) mem lens slots m from) one
             ∙ ap (part ++_) (append-nil (octetsAt c mem lens from) ∙ o)
             ∙ is;
         some = omega (arith, one);
@@ -127,14 +127,14 @@ module _ (c : Channel) (mem lens : List ℕ) where
       let r = rest e in
       let more : firstUnit (g ∷ l) ≡ suc (firstUnit l) = ap (λ (t : Bool). if t then 1 else oneMore (firstUnit l)) b ∙ one-more (firstUnit l) (r .some) in
       let next : ℕ = roundOf slots (from + 1) in
-      let tail : List ℕ = octetsIn slotOf (c .limits .payload) mem lens slots (firstUnit l) next in
+      let tail : List ℕ = octetsIn (slotOf c) (c .limits .payload) mem lens slots (firstUnit l) next in
       record {
         count =
             ap (λ (t : Bool). if t then 1 else suc (unitOf marks slots (length l) next)) a
             ∙ ap suc (r .count)
             ∙ sym more;
         octets =
-            ap (λ (m : ℕ). part ++ octetsIn slotOf (c .limits .payload) mem lens slots m from) more
+            ap (λ (m : ℕ). part ++ octetsIn (slotOf c) (c .limits .payload) mem lens slots m from) more
             ∙ ap (λ (x : List ℕ). part ++ (x ++ tail)) o
             ∙ sym (append-assoc part (g .octets) tail)
             ∙ r .octets;

@@ -5,14 +5,15 @@ use lib.ListN.{getD}
 use Rattle.laws.specs.Choice.{if_then_else_}
 use Rattle.ring.specs.Ring.{roundOf}
 use Rattle.slots.specs.Marks.{ends}
-use Rattle.slots.specs.Slots.{slotOf, segmentIn}
+use Rattle.slots.specs.Slots.{segmentIn}
+use Rattle.channel.specs.Places.{slotOf}
 use Rattle.channel.specs.declared.record.Channel.{Channel}
 use Rattle.channel.specs.Record.{heldIn}
 use Rattle.channel.specs.Standing.{oldestOf}
 
 -- the octets of the segment at a place
 abbrev pub octetsAt : Channel → List ℕ → List ℕ → ℕ → List ℕ
-octetsAt c mem lens place = segmentIn (c .limits .payload) mem lens (slotOf place)
+octetsAt c mem lens place = segmentIn (c .limits .payload) mem lens (slotOf c place)
 
 -- of n segments from a place on, round the ring, the units that end there; `part` is what comes before them of the first
 unfoldable pub unitsIn : Channel → List ℕ → List ℕ → List ℕ → ℕ → ℕ → List (List ℕ)

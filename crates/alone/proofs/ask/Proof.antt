@@ -27,9 +27,12 @@ would-transfer-requires c κs =
     let a = c .before .before .before .args in
     ringed (a .c) (a .lens .now) (stands-is (a .c) (a .lens .now) (sym (c .before .stands .ensures) ∙ not-false _ (c .if1 .left)))
 
+unchanged-requires : tie.Need-unchanged-requires
+unchanged-requires c κs = search needs
+
 returns-2 : tie.Need-returns-2
 returns-2 c = search needs
 
 pub ask-spec : {M : Type 1} → statement M
 ask-spec =
-    tie.close (tie.spec stands-requires refused-requires returns would-transfer-requires returns-2)
+    tie.close (tie.spec stands-requires refused-requires returns would-transfer-requires unchanged-requires returns-2)

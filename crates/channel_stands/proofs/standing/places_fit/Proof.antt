@@ -6,8 +6,8 @@ use native.Mathlib.Omega.{arith}
 use borrow.Author.Needs.{needs}
 use borrow.Author.Tests.{not-true, not-false}
 use lib.ListN.{getD}
-use Rattle.slots.specs.Slots.{slotOf}
-use Rattle.slots.proofs.Laws.{slot-bound}
+use Rattle.channel.specs.Places.{slotIn}
+use Rattle.channel.proofs.PlaceLaws.{slot-bound}
 use Rattle.channel.specs.Standing.{slotFit, slotsFit}
 use Rattle.channel.proofs.StandingLaws.{slots-no, slots-more, slots-none}
 use Rattle.channel_stands.proofs.standing.places_fit.Statement.{statement}
@@ -15,13 +15,15 @@ use Rattle.channel_stands.proofs.standing.places_fit.Tie as tie
 use Rattle.channel_stands.proofs.standing.places_fit.Reads as reads
 use Rattle.channel_stands.proofs.standing.places_fit.Lts as lts
 use Rattle.channel_stands.proofs.standing.slot_fits.Reads as slot-fits-reads
-use Rattle.slots.proofs.slot_of.Reads as slot-of-reads
+use Rattle.channel.proofs.places.slot_of.Reads as slot-of-reads
 
 abbrev Inv-loop : tie.InvT-loop
-Inv-loop sending most marks lens from end i₀ i = (i ≤ end) × (slotsFit slotOf sending most marks lens (end - i) i ≡ slotsFit slotOf sending most marks lens (end - from) from)
+Inv-loop limits sending marks lens from end i₀ i =
+    (i ≤ end)
+    × (slotsFit (slotIn limits) sending (limits .payload) marks lens (end - i) i ≡ slotsFit (slotIn limits) sending (limits .payload) marks lens (end - from) from)
 
 abbrev μ-loop : tie.MeasureT-loop
-μ-loop sending most marks lens from end i₀ i = end - i
+μ-loop limits sending marks lens from end i₀ i = end - i
 
 loop-holds : tie.Need-loop-holds Inv-loop μ-loop
 loop-holds c = (omega arith, refl)
@@ -36,13 +38,13 @@ mul-slot-fits : tie.Need-mul-slot-fits Inv-loop μ-loop
 mul-slot-fits c =
     let at = c .before .before .before .loop in
     let a = c .before .before .before .before .before .args in
-    omega (arith, c .before .slot-of .ensures, slot-bound (a .end) (at .i) (c .before .before .loop-test .taken))
+    omega (arith, c .before .slot-of .ensures, slot-bound (a .limits) (at .i) (omega (arith, c .before .before .loop-test .taken)))
 
 shared-slice-read-slot-fits : tie.Need-shared-slice-read-slot-fits Inv-loop μ-loop
 shared-slice-read-slot-fits c =
     let at = c .before .before .before .before .loop in
     let a = c .before .before .before .before .before .before .args in
-    omega (arith, c .before .before .slot-of .ensures, slot-bound (a .end) (at .i) (c .before .before .before .loop-test .taken))
+    omega (arith, c .before .before .slot-of .ensures, slot-bound (a .limits) (at .i) (omega (arith, c .before .before .before .loop-test .taken)))
 
 cast-slot-fits : tie.Need-cast-slot-fits Inv-loop μ-loop
 cast-slot-fits c = omega (arith, c .shared-slice-known2 .given (c .before .before .slot-of .result))
@@ -54,9 +56,9 @@ returns : tie.Need-returns Inv-loop μ-loop
 returns c =
     let a = c .before .before .before .before .before .before .before .before .args in
     let at = c .before .before .before .before .before .before .loop in
-    let there = ap (λ (k : ℕ). slotFit (a .sending) (a .most) (getD (a .marks .now) (at .i) 0) (getD (a .lens .now) k 0)) (c .before .before .before .before .slot-of .ensures) in
+    let there = ap (λ (k : ℕ). slotFit (a .sending) (a .limits .payload) (getD (a .marks .now) (at .i) 0) (getD (a .lens .now) k 0)) (c .before .before .before .before .slot-of .ensures) in
     let no = sym there ∙ sym (c .before .slot-fits .ensures) ∙ not-true _ (c .if1 .taken) in
-    sym (slots-no slotOf (a .sending) (a .most) (a .marks .now) (a .lens .now) (a .end) (at .i) (c .before .before .before .before .before .loop-test .taken) no) ∙ at .inv .1
+    sym (slots-no (slotIn (a .limits)) (a .sending) (a .limits .payload) (a .marks .now) (a .lens .now) (a .end) (at .i) (c .before .before .before .before .before .loop-test .taken) no) ∙ at .inv .1
 
 add-i : tie.Need-add-i Inv-loop μ-loop
 add-i c = omega arith
@@ -68,15 +70,15 @@ loop-again : tie.Need-loop-again Inv-loop μ-loop
 loop-again c =
     let a = c .before .before .before .before .before .before .before .before .args in
     let at = c .before .before .before .before .before .before .loop in
-    let there = ap (λ (k : ℕ). slotFit (a .sending) (a .most) (getD (a .marks .now) (at .i) 0) (getD (a .lens .now) k 0)) (c .before .before .before .before .slot-of .ensures) in
+    let there = ap (λ (k : ℕ). slotFit (a .sending) (a .limits .payload) (getD (a .marks .now) (at .i) 0) (getD (a .lens .now) k 0)) (c .before .before .before .before .slot-of .ensures) in
     let yes′ = sym there ∙ sym (c .before .slot-fits .ensures) ∙ not-false _ (c .if1 .left) in
-    (omega arith, sym (slots-more slotOf (a .sending) (a .most) (a .marks .now) (a .lens .now) (a .end) (at .i) (c .before .before .before .before .before .loop-test .taken) yes′) ∙ at .inv .1)
+    (omega arith, sym (slots-more (slotIn (a .limits)) (a .sending) (a .limits .payload) (a .marks .now) (a .lens .now) (a .end) (at .i) (c .before .before .before .before .before .loop-test .taken) yes′) ∙ at .inv .1)
 
 returns-2 : tie.Need-returns-2 Inv-loop μ-loop
 returns-2 c =
     let a = c .before .before .before .args in
     let at = c .before .loop in
-    sym (slots-none slotOf (a .sending) (a .most) (a .marks .now) (a .lens .now) (a .end) (at .i) (c .loop-test .left)) ∙ at .inv .1
+    sym (slots-none (slotIn (a .limits)) (a .sending) (a .limits .payload) (a .marks .now) (a .lens .now) (a .end) (at .i) (c .loop-test .left)) ∙ at .inv .1
 
 pub places-fit-spec : {M : Type 1} → statement M
 places-fit-spec =

@@ -5,8 +5,9 @@ use Prim.Native.Nat.{ℕ, _+_, _*_, _<_}
 use native.Mathlib.Omega.{arith}
 use lib.ListN.{length, set}
 use Rattle.ring.proofs.Laws.{round-lt}
-use Rattle.slots.specs.Slots.{slotOf, laid}
-use Rattle.slots.proofs.Laws.{slot-bound}
+use Rattle.slots.specs.Slots.{laid}
+use Rattle.channel.specs.Places.{slotOf}
+use Rattle.channel.proofs.PlaceLaws.{slot-bound}
 use Rattle.receiver_data.specs.Data.{acceptStep}
 use Rattle.channel.proofs.StandingLaws.{ringed}
 use Rattle.receiver_data.proofs.DataLaws.{new-full, full-mem, full-lens, new-accepted, new-mem, new-lens}
@@ -19,7 +20,7 @@ use Rattle.channel.proofs.step.refused.Reads as refused-reads
 use Rattle.receiver_data.proofs.data.accept.Reads as accept-reads
 use Rattle.ring.proofs.round.Reads as round-reads
 use Rattle.slots.proofs.file_segment.Reads as file-segment-reads
-use Rattle.slots.proofs.slot_of.Reads as slot-of-reads
+use Rattle.channel.proofs.places.slot_of.Reads as slot-of-reads
 
 add-if1 : tie.Need-add-if1
 add-if1 c = let a = c .before .before .before .before .args in let r = ringed (a .c) (a .lens .now) (c .before .before .before .before .pre .0 .asked .standing) in omega (arith, c .before .before .before .before .pre .1)
@@ -48,7 +49,7 @@ file-segment-requires c κs =
     let r = ringed (a .c) (a .lens .now) (c .before .before .before .before .before .before .before .before .before .before .pre .0 .asked .standing) in
     let room = c .before .before .before .before .before .if1 .left in
     let on : c .before .before .before .round .result < a .c .limits .slots = rw (c .before .before .before .round .ensures) (round-lt (a .c .limits .slots) (a .c .window .place + a .d) (omega arith)) in
-    (c .before .before .before .before .before .before .before .before .before .before .pre .0 .asked .sized, (omega (arith, c .before .before .slot-of .ensures, slot-bound (a .c .limits .slots) (c .before .before .before .round .result) on), c .before .before .before .before .before .before .before .before .before .before .pre .0 .short))
+    (c .before .before .before .before .before .before .before .before .before .before .pre .0 .asked .sized, (omega (arith, c .before .before .slot-of .ensures, slot-bound (a .c .limits) (c .before .before .before .round .result) on), c .before .before .before .before .before .before .before .before .before .before .pre .0 .short))
 
 accept-requires : tie.Need-accept-requires
 accept-requires c κs =
@@ -69,7 +70,7 @@ returns-2 c =
     let a = c .before .before .before .before .before .before .before .before .before .before .before .before .before .before .before .before .args in
     let less : a .c .window .behind + a .d < a .c .limits .slots = omega (arith, c .before .before .before .before .before .before .before .before .before .before .before .if1 .left) in
     let e = c .before .before .before .before .before .before .before .before .before .round .ensures in
-    let t = c .before .before .before .before .before .before .before .before .slot-of .ensures ∙ ap slotOf e in
+    let t = c .before .before .before .before .before .before .before .before .slot-of .ensures ∙ ap (slotOf (a .c)) e in
     let f = c .before .before .before .before .before .file-segment .ensures in (
       c .accept .ensures ∙ ap (λ (k : ℕ). acceptStep (a .c) k (a .flags)) e ∙ sym (new-accepted (a .c) (a .d) (a .flags) less),
       f .0 ∙ ap (λ (k : ℕ). laid (a .mem .now) (k * a .c .limits .payload) (a .part .now)) t ∙ sym (new-mem (a .c) (a .d) (a .part .now) (a .mem .now) less),

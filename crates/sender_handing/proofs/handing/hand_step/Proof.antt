@@ -5,7 +5,8 @@ use Prim.Native.Nat.{ℕ, _-_, _<_}
 use native.Mathlib.Omega.{arith}
 use Rattle.channel.specs.declared.record.Channel.{Channel}
 use lib.ListN.{length, getD}
-use Rattle.slots.specs.Slots.{slotOf, segmentIn}
+use Rattle.slots.specs.Slots.{segmentIn}
+use Rattle.channel.specs.Places.{slotOf}
 use Rattle.sender.specs.Directives.{placeAt}
 use Rattle.sender_packets.specs.HandingOut.{againAt, dataFields, sentStep, sentOut, handStep, handOut}
 use Rattle.channel.proofs.StandingLaws.{ringed}
@@ -63,11 +64,11 @@ returns-2 c =
     let r = ringed k (a .lens .now) (c .before .before .before .before .before .before .before .before .before .before .before .pre .0 .standing) in
     let less : againAt k < k .window .ahead = omega (arith, r .flight, rank-1-is k (sym (c .before .before .before .before .before .before .before .before .before .before .before .pre .1 .is) ∙ c .before .before .before .before .before .before .if2 .taken)) in (
       c .before .before .hand-data .ensures .0
-          ∙ ap₂ (λ (x : Channel) (i : ℕ). sentStep k x (getD (a .lens .now) (slotOf (placeAt k i)) 0) (length (a .out .now))) (c .before .before .before .before .again-out .ensures) (c .before .before .before .before .before .again-at .ensures)
+          ∙ ap₂ (λ (x : Channel) (i : ℕ). sentStep k x (getD (a .lens .now) (slotOf k (placeAt k i)) 0) (length (a .out .now))) (c .before .before .before .before .again-out .ensures) (c .before .before .before .before .before .again-at .ensures)
           ∙ sym (hand-again (a .node) k (a .lens .now) (a .mem .now) (a .out .now))
           ∙ ap (λ (x : ℕ). handStep k (a .lens .now) x (length (a .out .now))) e,
       c .before .before .hand-data .ensures .1
-          ∙ ap (λ (i : ℕ). sentOut (dataFields (a .node) k i) (segmentIn (k .limits .payload) (a .mem .now) (a .lens .now) (slotOf (placeAt k i))) (a .out .now)) (c .before .before .before .before .before .again-at .ensures)
+          ∙ ap (λ (i : ℕ). sentOut (dataFields (a .node) k i) (segmentIn (k .limits .payload) (a .mem .now) (a .lens .now) (slotOf k (placeAt k i))) (a .out .now)) (c .before .before .before .before .before .again-at .ensures)
           ∙ sym (out-again (a .node) k (a .lens .now) (a .mem .now) (a .out .now) (segment-sized k (a .mem .now) (a .lens .now) (c .before .before .before .before .before .before .before .before .before .before .before .pre .0) (againAt k) less))
           ∙ ap (λ (x : ℕ). handOut (a .node) k (a .lens .now) (a .mem .now) x (a .out .now)) e,
     )
@@ -96,7 +97,7 @@ returns-3 c =
     let two : a .rank ≡ 2 = omega (arith, c .before .before .before .before .before .before .before .before .before .before .pre .1 .some, c .before .before .before .before .before .before .if1 .left, c .before .before .before .before .before .if2 .left) in
     let w = rank-2-is k (sym (c .before .before .before .before .before .before .before .before .before .before .pre .1 .is) ∙ two) in (
       c .before .before .hand-data2 .ensures .0
-          ∙ ap (λ (x : Channel). sentStep k x (getD (a .lens .now) (slotOf (placeAt k (k .window .flight))) 0) (length (a .out .now))) (c .before .before .before .before .new-out .ensures)
+          ∙ ap (λ (x : Channel). sentStep k x (getD (a .lens .now) (slotOf k (placeAt k (k .window .flight))) 0) (length (a .out .now))) (c .before .before .before .before .new-out .ensures)
           ∙ sym (hand-new (a .node) k (a .lens .now) (a .mem .now) (a .out .now))
           ∙ ap (λ (x : ℕ). handStep k (a .lens .now) x (length (a .out .now))) (sym two),
       c .before .before .hand-data2 .ensures .1

@@ -6,8 +6,9 @@ use native.Mathlib.Omega.{arith}
 use lib.ListN.{length, getD}
 use Rattle.ring.specs.Ring.{roundOf}
 use Rattle.ring.proofs.Laws.{round-lt, round-add}
-use Rattle.slots.specs.Slots.{slotOf, laid}
-use Rattle.slots.proofs.Laws.{slot-bound}
+use Rattle.slots.specs.Slots.{laid}
+use Rattle.channel.specs.Places.{slotIn}
+use Rattle.channel.proofs.PlaceLaws.{slot-bound}
 use Rattle.store.specs.Store.{sizeIn, octetsIn}
 use Rattle.ring.proofs.Laws.{first-place}
 use Rattle.store.proofs.Laws.{place-fits, size-more, gather-length, gather-more, gather-none}
@@ -17,19 +18,19 @@ use Rattle.store.proofs.gathering.gather.Reads as reads
 use Rattle.store.proofs.gathering.gather.Lts as lts
 use Rattle.ring.proofs.round.Reads as round-reads
 use Rattle.slots.proofs.read_segment.Reads as read-segment-reads
-use Rattle.slots.proofs.slot_of.Reads as slot-of-reads
+use Rattle.channel.proofs.places.slot_of.Reads as slot-of-reads
 
 abbrev Inv-loop : tie.InvT-loop
-Inv-loop mem lens slots most n from out₀ at₀ i₀ s₀ out at i s =
+Inv-loop limits mem lens n from out₀ at₀ i₀ s₀ out at i s =
     (i ≤ n)
-    × (s < slots)
-    × (s ≡ roundOf slots (from + i))
+    × (s < limits .slots)
+    × (s ≡ roundOf (limits .slots) (from + i))
     × (length out ≡ length out₀)
-    × (at + sizeIn slotOf lens slots (n - i) s ≤ length out₀)
-    × (laid out at (octetsIn slotOf most mem lens slots (n - i) s) ≡ laid out₀ 0 (octetsIn slotOf most mem lens slots n from))
+    × (at + sizeIn (slotIn limits) lens (limits .slots) (n - i) s ≤ length out₀)
+    × (laid out at (octetsIn (slotIn limits) (limits .payload) mem lens (limits .slots) (n - i) s) ≡ laid out₀ 0 (octetsIn (slotIn limits) (limits .payload) mem lens (limits .slots) n from))
 
 abbrev μ-loop : tie.MeasureT-loop
-μ-loop mem lens slots most n from out₀ at₀ i₀ s₀ out at i s = n - i
+μ-loop limits mem lens n from out₀ at₀ i₀ s₀ out at i s = n - i
 
 loop-holds : tie.Need-loop-holds Inv-loop μ-loop
 loop-holds c =
@@ -37,10 +38,10 @@ loop-holds c =
     let e : a .n - 0 ≡ a .n = omega arith in (
       omega arith,
       omega arith,
-      sym (first-place (a .slots) (a .from) (omega arith)),
+      sym (first-place (a .limits .slots) (a .from) (omega arith)),
       omega arith,
-      omega (arith, ap (λ (k : ℕ). sizeIn slotOf (a .lens .now) (a .slots) k (a .from)) e),
-      ap (λ (k : ℕ). laid (a .out .now) 0 (octetsIn slotOf (a .most) (a .mem .now) (a .lens .now) (a .slots) k (a .from))) e,
+      omega (arith, ap (λ (k : ℕ). sizeIn (slotIn (a .limits)) (a .lens .now) (a .limits .slots) k (a .from)) e),
+      ap (λ (k : ℕ). laid (a .out .now) 0 (octetsIn (slotIn (a .limits)) (a .limits .payload) (a .mem .now) (a .lens .now) (a .limits .slots) k (a .from))) e,
     )
 
 slot-of-requires : tie.Need-slot-of-requires Inv-loop μ-loop
@@ -54,21 +55,21 @@ read-segment-requires c κs =
     let taken = c .before .before .loop-test .taken in
     let there = c .before .slot-of .ensures in
     let size = ap (λ (k : ℕ). getD (a .lens .now) k 0) there in
-    let short = place-fits slotOf (a .most) (a .lens .now) (a .slots) (a .n) (a .from) (at .i) (at .s) (at .inv .2) (pre .1 .1) taken in
-    let more = size-more slotOf (a .lens .now) (a .slots) (a .n) (at .i) (at .s) taken in
-    (pre .0, (omega (arith, there, slot-bound (a .slots) (at .s) (at .inv .1)), omega arith, omega arith))
+    let short = place-fits (slotIn (a .limits)) (a .limits .payload) (a .lens .now) (a .limits .slots) (a .n) (a .from) (at .i) (at .s) (at .inv .2) (pre .1 .1) taken in
+    let more = size-more (slotIn (a .limits)) (a .lens .now) (a .limits .slots) (a .n) (at .i) (at .s) taken in
+    (pre .0, (omega (arith, there, slot-bound (a .limits) (at .s) (at .inv .1)), omega arith, omega arith))
 
 mul-at : tie.Need-mul-at Inv-loop μ-loop
 mul-at c =
     let at = c .before .before .before .before .before .before .loop in
     let a = c .before .before .before .before .before .before .before .before .before .before .args in
-    omega (arith, c .before .before .before .before .slot-of .ensures, slot-bound (a .slots) (at .s) (at .inv .1))
+    omega (arith, c .before .before .before .before .slot-of .ensures, slot-bound (a .limits) (at .s) (at .inv .1))
 
 shared-slice-read-at : tie.Need-shared-slice-read-at Inv-loop μ-loop
 shared-slice-read-at c =
     let at = c .before .before .before .before .before .before .before .loop in
     let a = c .before .before .before .before .before .before .before .before .before .before .before .args in
-    omega (arith, c .before .before .before .before .before .slot-of .ensures, slot-bound (a .slots) (at .s) (at .inv .1))
+    omega (arith, c .before .before .before .before .before .slot-of .ensures, slot-bound (a .limits) (at .s) (at .inv .1))
 
 cast-at : tie.Need-cast-at Inv-loop μ-loop
 cast-at c = omega (arith, c .shared-slice-known3 .given (c .before .before .before .before .before .slot-of .result))
@@ -78,7 +79,7 @@ add-at c =
     let at = c .before .before .before .before .before .before .before .loop in
     let a = c .before .before .before .before .before .before .before .before .before .before .before .args in
     let size = ap (λ (k : ℕ). getD (a .lens .now) k 0) (c .before .before .before .before .before .slot-of .ensures) in
-    omega (arith, size-more slotOf (a .lens .now) (a .slots) (a .n) (at .i) (at .s) (c .before .before .before .before .before .before .loop-test .taken))
+    omega (arith, size-more (slotIn (a .limits)) (a .lens .now) (a .limits .slots) (a .n) (at .i) (at .s) (c .before .before .before .before .before .before .loop-test .taken))
 
 add-i : tie.Need-add-i Inv-loop μ-loop
 add-i c = omega arith
@@ -101,19 +102,19 @@ loop-again c =
     let slot = c .before .before .before .before .before .before .slot-of in
     let laid-now = c .before .before .before .before .read-segment .ensures in
     let size = ap (λ (k : ℕ). getD (a .lens .now) k 0) (slot .ensures) in
-    let fits = place-fits slotOf (a .most) (a .lens .now) (a .slots) (a .n) (a .from) (at .i) (at .s) (at .inv .2) (pre .1 .1) taken in
-    let more = size-more slotOf (a .lens .now) (a .slots) (a .n) (at .i) (at .s) taken in
-    let bound : slot .result < a .slots = omega (arith, slot .ensures, slot-bound (a .slots) (at .s) (at .inv .1)) in
-    let short : getD (a .lens .now) (slot .result) 0 ≤ a .most = omega arith in
+    let fits = place-fits (slotIn (a .limits)) (a .limits .payload) (a .lens .now) (a .limits .slots) (a .n) (a .from) (at .i) (at .s) (at .inv .2) (pre .1 .1) taken in
+    let more = size-more (slotIn (a .limits)) (a .lens .now) (a .limits .slots) (a .n) (at .i) (at .s) taken in
+    let bound : slot .result < a .limits .slots = omega (arith, slot .ensures, slot-bound (a .limits) (at .s) (at .inv .1)) in
+    let short : getD (a .lens .now) (slot .result) 0 ≤ a .limits .payload = omega arith in
     let room : at .at + getD (a .lens .now) (slot .result) 0 ≤ length (at .out) = omega arith in (
       omega arith,
       rw (c .round .ensures) (round-lt _ _ (omega arith)),
       c .round .ensures
-          ∙ ap (λ (k : ℕ). roundOf (a .slots) (k + 1)) (at .inv .2)
-          ∙ round-add (a .slots) (a .from) (at .i) 1 (omega arith),
-      gather-length slotOf (a .slots) (a .most) (a .mem .now) (a .lens .now) (a .slots) (a .n) (at .i) (at .s) (slot .result) (at .out) (at .at) _ _ (pre .0) bound taken (slot .ensures) short room laid-now (c .round .ensures) ∙ at .inv .3,
+          ∙ ap (λ (k : ℕ). roundOf (a .limits .slots) (k + 1)) (at .inv .2)
+          ∙ round-add (a .limits .slots) (a .from) (at .i) 1 (omega arith),
+      gather-length (slotIn (a .limits)) (a .limits .slots) (a .limits .payload) (a .mem .now) (a .lens .now) (a .limits .slots) (a .n) (at .i) (at .s) (slot .result) (at .out) (at .at) _ _ (pre .0) bound taken (slot .ensures) short room laid-now (c .round .ensures) ∙ at .inv .3,
       rw (c .round .ensures) (omega arith),
-      gather-more slotOf (a .slots) (a .most) (a .mem .now) (a .lens .now) (a .slots) (a .n) (at .i) (at .s) (slot .result) (at .out) (at .at) _ _ (pre .0) bound taken (slot .ensures) short room laid-now (c .round .ensures) ∙ at .inv .5,
+      gather-more (slotIn (a .limits)) (a .limits .slots) (a .limits .payload) (a .mem .now) (a .lens .now) (a .limits .slots) (a .n) (at .i) (at .s) (slot .result) (at .out) (at .at) _ _ (pre .0) bound taken (slot .ensures) short room laid-now (c .round .ensures) ∙ at .inv .5,
     )
 
 same-length : tie.Need-same-length Inv-loop μ-loop
@@ -123,7 +124,7 @@ returns : tie.Need-returns Inv-loop μ-loop
 returns c =
     let at = c .before .loop in
     let a = c .before .before .before .before .before .args in
-    sym (gather-none slotOf (a .most) (a .mem .now) (a .lens .now) (a .slots) (a .n) (at .i) (at .s) (at .out) (at .at) (c .loop-test .left)) ∙ at .inv .5
+    sym (gather-none (slotIn (a .limits)) (a .limits .payload) (a .mem .now) (a .lens .now) (a .limits .slots) (a .n) (at .i) (at .s) (at .out) (at .at) (c .loop-test .left)) ∙ at .inv .5
 
 pub gather-spec : {M : Type 1} → statement M
 gather-spec =

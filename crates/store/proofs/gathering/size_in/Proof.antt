@@ -6,8 +6,8 @@ use native.Mathlib.Omega.{arith}
 use native.Mathlib.Nat.{zero-add}
 use lib.ListN.{getD}
 use Rattle.ring.proofs.Laws.{round-lt}
-use Rattle.slots.specs.Slots.{slotOf}
-use Rattle.slots.proofs.Laws.{slot-bound}
+use Rattle.channel.specs.Places.{slotIn}
+use Rattle.channel.proofs.PlaceLaws.{slot-bound}
 use Rattle.store.specs.Store.{sizeIn}
 use Rattle.store.proofs.Laws.{size-more, size-none}
 use Rattle.store.proofs.gathering.size_in.Statement.{statement}
@@ -15,19 +15,19 @@ use Rattle.store.proofs.gathering.size_in.Tie as tie
 use Rattle.store.proofs.gathering.size_in.Reads as reads
 use Rattle.store.proofs.gathering.size_in.Lts as lts
 use Rattle.ring.proofs.round.Reads as round-reads
-use Rattle.slots.proofs.slot_of.Reads as slot-of-reads
+use Rattle.channel.proofs.places.slot_of.Reads as slot-of-reads
 
 abbrev Inv-loop : tie.InvT-loop
-Inv-loop lens slots n from sum₀ i₀ s₀ sum i s = (i ≤ n) × (s < slots) × (sum ≤ 65535 * i) × (sum + sizeIn slotOf lens slots (n - i) s ≡ sizeIn slotOf lens slots n from)
+Inv-loop limits lens n from sum₀ i₀ s₀ sum i s = (i ≤ n) × (s < limits .slots) × (sum ≤ 65535 * i) × (sum + sizeIn (slotIn limits) lens (limits .slots) (n - i) s ≡ sizeIn (slotIn limits) lens (limits .slots) n from)
 
 abbrev μ-loop : tie.MeasureT-loop
-μ-loop lens slots n from sum₀ i₀ s₀ sum i s = n - i
+μ-loop limits lens n from sum₀ i₀ s₀ sum i s = n - i
 
 loop-holds : tie.Need-loop-holds Inv-loop μ-loop
 loop-holds c =
     let a = c .before .args in
     let e : a .n - 0 ≡ a .n = omega arith in
-    (omega arith, omega arith, omega arith, zero-add _ ∙ ap (λ (k : ℕ). sizeIn slotOf (a .lens .now) (a .slots) k (a .from)) e)
+    (omega arith, omega arith, omega arith, zero-add _ ∙ ap (λ (k : ℕ). sizeIn (slotIn (a .limits)) (a .lens .now) (a .limits .slots) k (a .from)) e)
 
 slot-of-requires : tie.Need-slot-of-requires Inv-loop μ-loop
 slot-of-requires c κs = tt
@@ -36,13 +36,13 @@ mul-sum : tie.Need-mul-sum Inv-loop μ-loop
 mul-sum c =
     let at = c .before .before .loop in
     let a = c .before .before .before .before .args in
-    omega (arith, c .slot-of .ensures, slot-bound (a .slots) (at .s) (at .inv .1))
+    omega (arith, c .slot-of .ensures, slot-bound (a .limits) (at .s) (at .inv .1))
 
 shared-slice-read-sum : tie.Need-shared-slice-read-sum Inv-loop μ-loop
 shared-slice-read-sum c =
     let at = c .before .before .before .loop in
     let a = c .before .before .before .before .before .args in
-    omega (arith, c .before .slot-of .ensures, slot-bound (a .slots) (at .s) (at .inv .1))
+    omega (arith, c .before .slot-of .ensures, slot-bound (a .limits) (at .s) (at .inv .1))
 
 cast-sum : tie.Need-cast-sum Inv-loop μ-loop
 cast-sum c = omega (arith, c .shared-slice-known2 .given (c .before .slot-of .result))
@@ -69,14 +69,14 @@ loop-again c =
     let slot = c .before .before .slot-of in
     let small = c .before .shared-slice-known2 .given (slot .result) in
     let there = ap (λ (k : ℕ). getD (a .lens .now) k 0) (slot .ensures) in
-    let more = size-more slotOf (a .lens .now) (a .slots) (a .n) (at .i) (at .s) (c .before .before .before .loop-test .taken) in
+    let more = size-more (slotIn (a .limits)) (a .lens .now) (a .limits .slots) (a .n) (at .i) (at .s) (c .before .before .before .loop-test .taken) in
     (omega arith, rw (c .round .ensures) (round-lt _ _ (omega arith)), omega arith, rw (c .round .ensures) (omega arith))
 
 returns : tie.Need-returns Inv-loop μ-loop
 returns c =
     let at = c .before .loop in
     let a = c .before .before .before .args in
-    omega (arith, size-none slotOf (a .lens .now) (a .slots) (a .n) (at .i) (at .s) (c .loop-test .left))
+    omega (arith, size-none (slotIn (a .limits)) (a .lens .now) (a .limits .slots) (a .n) (at .i) (at .s) (c .loop-test .left))
 
 pub size-in-spec : {M : Type 1} → statement M
 size-in-spec =
