@@ -9,6 +9,7 @@
 --     asks             the call of `ask`
 --     lends-none, shares-none     an array of no octets is lent as a `&mut [u8]` and as a `&[u8]`: there is nothing in it, so its local is left alone
 --     apart            what the function is passed: the first three with their tokens, the other tokens, and what the other parameters own
+--     comes-none       an array of no octets that was lent as a `&mut [u8]` has none at the end
 --     performs         the call of the door: what is left is what is said of the last values of t, mem, lens and out, and the tokens
 --     gathers          the other way than `apart`, at the end: what the function has to leave
 -- Assumes nothing: `Given`, the laws of a model, is an argument.
@@ -16,10 +17,12 @@ use Rattle.walks.proofs.Walk.{_≡_, refl, List, [], _∷_, ℕ, suc, length, l
 use Rattle.walks.proofs.Walk.{Given, Item, runs, ‵, raw, _⊛_, ⋆, _$_, _∵_, !, qed, use0, use1, move, drop, split, join, fsplit, fjoin, group, frame, done}
 use Rattle.walks.proofs.Walk.{fmOf, Is, owns, u8, u16, sliceVal, slice-vals, MutSlice, ShrSlice, Room, finally, nothing, owned, heard, Contract, Triple, id⊢, fact, RattleType, now}
 use mathlib.Core.Path.{subst}
+use lib.ListN.{drop-of-length-le}
+use native.Mathlib.Omega.{arith}
 use base.Fml.{fsep, feq, flent}
 use base.Logic.{exI}
 use package.mir.Syntax.{Name, Place, Opd as Operand, Body, seq, call}
-use types.Kit.{Goal, Soaks, Post, lands, some, later, mean, Seq, Step, step, await, pick, regoal, feqI}
+use types.Kit.{Goal, Soaks, Post, lands, some, later, mean, Seq, Step, step, await, pick, regoal, feqI, feqL}
 use types.Run.{Opds}
 use types.Share.{arr-parts}
 use types.Tokens.{lft-new}
@@ -110,6 +113,13 @@ module _ {M : Type 1} {𝓤 : URA M} {H : Heap 𝓤} {A : Atoms 𝓤} {K : Type 
 -- what is said of the last list of a `&mut`
 abbrev pub last-is : (R : RattleType) → RefT (List (R .Denot)) → List (R .Denot) → Fml
 last-is R x ys = fsep (finally R (name x) ys) (feq ℕ (length ys) (length (now x)))
+
+no-octets : (os : List ℕ) → length os ≡ 0 → os ≡ []
+no-octets os e = drop-of-length-le os {i = 0} (omega (arith, e))
+
+module _ {M : Type 1} {𝓤 : URA M} {H : Heap 𝓤} {A : Atoms 𝓤} {K : Type 0} {W : Given 𝓤 H A} {Γ : List (Item 𝓤)} {G : Goal 𝓤 H} where
+  pub comes-none : K → {γ : GName} (os : List ℕ) → (os ≡ [] → Seq K W Γ G) → Seq K W (‵ (fsep (finally u8 γ os) (feq ℕ (length os) 0)) ∷ Γ) G
+  comes-none t os k = fsplit t $ drop t $ feqL t (λ e. k (no-octets os e))
 
 -- ---- what the function is passed, what the door is passed, and what is left
 module _ (D : Door) {k : ℕ} (ps : List (Part (suc (suc (suc k))))) {M : Type 1} (𝓤 : URA M) (H : Heap 𝓤) (A : Atoms 𝓤) (κs : Lfts (suc (suc (suc k)))) (qs : Shares (suc (suc (suc k)))) (a : Entry (first D ps) κs) where

@@ -10,7 +10,7 @@
 --         r
 --     }
 -- where `perform` is the door, without a `requires`, `ask` ensures `r ≡ asked i` and `turn` ensures `r ≡ turned a`. It ensures of `turned a` what
--- follows of what the door ensures of a at that request, with no octets in x and out.
+-- follows of what the door ensures of a at that request, with no octets in x and out, before and after.
 --     door-one-meets       its arguments: the door; the kinds of the plain arguments; what this function ensures (a relation); `asked`; that what the
 --                          door ensures gives it; the names of `ask`, `perform` and `turn`; then the model, the tables, and that each of the
 --                          three meets its contract
@@ -18,6 +18,7 @@
 use Rattle.walks.proofs.Walk.{refl, List, [], _∷_, ℕ, ltb→lt, URA, named, imm, mut, w8, w16, w64, tyInt, tyRef, Heap, WpFn, Tables, Atoms, id⊢}
 use Rattle.walks.proofs.Walk.{Given, raw, _$_, _∵_, !, qed, by, use0, move, drop, fjoin, nothing, agg, whole, sub, look-in, look, init, stop, hop, fld, from, lit, addr, of-opd, and-then, no-more, land, returns, enter, alloc1, alloc0, params1, pass1, pass0, free0, pointee, u8, sliceTy, Triple}
 use package.mir.Syntax.{Fn, Name, tyArray, erased, local, valueLocal, memorySlot, place, field, deref, copy, int, rvOpd, addrOf, aggregate, seq, assign, call, return}
+use mathlib.Core.Path.{subst}
 use contract.Lifetimes.{toks}
 use denote.RattleType.{RattleType}
 use denote.Ref.{now}
@@ -26,7 +27,7 @@ use denote.Triple.Spec.{Meets}
 use Rattle.walks.proofs.Tab.{xs-at, loc, fld-at, sets, frees1}
 use Rattle.walks.proofs.Plain.{Kind, of}
 use Rattle.walks_lent.proofs.Lending.{Part, by-value, lent, Relates, values, ensuring, Turn, Passed, turns, ends, lent-meets}
-use Rattle.walks_lent.proofs.Door.{Door, first, through, Perform, Ask, asks, lends-none, shares-none, apart, performs, gathers}
+use Rattle.walks_lent.proofs.Door.{Door, first, through, Perform, Ask, asks, lends-none, shares-none, comes-none, apart, performs, gathers}
 
 module _ (D : Door) (KP : Kind) where
   abbrev C : RattleType
@@ -73,7 +74,7 @@ module _ (D : Door) (KP : Kind) where
 
     -- ---- the walk
     module _ (asked : of KP .Denot → of (D .request) .Denot)
-        (so : (ys : List (C .Denot)) (m ln : List ℕ) (i : of KP .Denot) (r : of (D .answer) .Denot) (zs : List (C .Denot)) (ms ls os : List ℕ) → D .says ys m ln (asked i) [] [] r zs ms ls os → X ys m ln i (D .turned r) zs ms ls)
+        (so : (ys : List (C .Denot)) (m ln : List ℕ) (i : of KP .Denot) (r : of (D .answer) .Denot) (zs : List (C .Denot)) (ms ls : List ℕ) → D .says ys m ln (asked i) [] [] r zs ms ls [] → X ys m ln i (D .turned r) zs ms ls)
         (fa fp ft : Name) {M : Type 1} (𝓤 : URA M) (H : Heap 𝓤) (A : Atoms 𝓤) (W : Given 𝓤 H A) (𝓣 : Tables 𝓤 H) (k-ask : Triple 𝓤 (𝓣 .C fa) (Ask D 𝓤 H A (KP ∷ []) (λ v. asked (v .0)))) (k-perform : Triple 𝓤 (𝓣 .C fp) (Perform D 𝓤 H A)) (k-turn : Triple 𝓤 (𝓣 .C ft) (Turn (through D ps over) 𝓤 H A)) where
       pub door-one-meets : Meets 𝓤 H A (lent (first D ps) (of (D .result)) .signature) (WpFn 𝓤 H (𝓣 .C) (𝓣 .Λ) (function fa fp ft)) (closing 𝓤 H A (lent (first D ps) (of (D .result))) (ensuring (first D ps) 𝓤 (of (D .result)) over))
       door-one-meets = lent-meets (through D ps over) 𝓤 H A W 𝓣 (function fa fp ft) (λ κs qs a are.
@@ -95,10 +96,10 @@ module _ (D : Door) (KP : Kind) where
           sets ! 3 refl (addr ! (from ! (stop !))) (tt, tt) $ sets ! 1 refl (agg ! (and-then ! (loc ! 3 refl) (and-then ! (lit ! tt) (no-more !)))) (tt, (tt, (record { fits = ltb→lt _ _ tt }, tt))) $
           apart D ps over κs qs a ! $ drop ! $ drop ! $ lends-none ! tt l₇ (λ μ δ. shares-none ! tt l₆ (λ ν γ.
           performs D ps over κs qs a ! 𝓣 k-perform (asked (a .1 .1 .1 .0)) iq (xs-at u8 l₆ 0 γ []) (xs-at u8 l₇ 0 δ []) (λ y. (and-then ! (loc ! 17 refl) (and-then ! (loc ! 13 refl) (and-then ! (loc ! 9 refl) (and-then ! (loc ! 29 refl) (and-then ! (loc ! 5 refl) (and-then ! (loc ! 1 refl) (no-more !)))))))) (λ r ir zs ms ls os h.
-          drop ! $ drop ! $ drop ! $ nothing ! $ nothing ! $ fjoin ! $ use0 W (raw (toks 𝓤 A 0 tt tt)) (id⊢ 𝓤 _) $
-          gathers D ps over κs qs a ! r zs ms ls (tt, tt) (so (now (a .0)) (now (a .1 .0)) (now (a .1 .1 .0)) (a .1 .1 .1 .0) r zs ms ls os h) $
+          drop ! $ drop ! $ comes-none ! os (λ e. nothing ! $ nothing ! $ fjoin ! $ use0 W (raw (toks 𝓤 A 0 tt tt)) (id⊢ 𝓤 _) $
+          gathers D ps over κs qs a ! r zs ms ls (tt, tt) (so (now (a .0)) (now (a .1 .0)) (now (a .1 .1 .0)) (a .1 .1 .1 .0) r zs ms ls (subst (λ (u : List ℕ). D .says (now (a .0)) (now (a .1 .0)) (now (a .1 .1 .0)) (asked (a .1 .1 .1 .0)) [] [] r zs ms ls u) e h)) $
           land ! (from ! (stop !)) (init ! 23 refl (D .answer .elem .typed 𝓤 H A W r ir .0)) $
           turns (through D ps over) ! 𝓣 k-turn r ir (and-then ! (loc ! 24 refl) (no-more !)) (λ ib. land ! (from ! (stop !)) (init ! 21 refl (D .result .elem .typed 𝓤 H A W (D .turned r) ib .0)) $
           sets ! 39 refl (of-opd ! (loc ! 21 refl)) (D .result .elem .typed 𝓤 H A W (D .turned r) ib .0) $
           returns ! (look ! 39 refl) $ frees1 ! 39 refl refl $ frees1 ! 37 refl refl $ frees1 ! 35 refl refl $ frees1 ! 33 refl refl $ frees1 ! 31 refl refl $ frees1 ! 29 refl refl $ frees1 ! 27 refl refl $ frees1 ! 25 refl refl $ frees1 ! 23 refl refl $ frees1 ! 21 refl refl $ frees1 ! 19 refl refl $ frees1 ! 17 refl refl $ frees1 ! 15 refl refl $ frees1 ! 13 refl refl $ frees1 ! 11 refl refl $ frees1 ! 9 refl refl $ frees1 ! 7 refl refl $ frees1 ! 5 refl refl $ frees1 ! 3 refl refl $ frees1 ! 1 refl refl $ free0 ! $
-          by ! (ends (through D ps over) 𝓤 H A W κs qs a r ib)))))))))))))))))))))))))))
+          by ! (ends (through D ps over) 𝓤 H A W κs qs a r ib))))))))))))))))))))))))))))

@@ -9,7 +9,7 @@
 --         r
 --     }
 -- where `perform` is the door, without a `requires`, `ask` ensures `r ≡ asked i` and `turn` ensures `r ≡ turned a`. It ensures of `turned a` what
--- follows of what the door ensures of a at that request, with no octets in out.
+-- follows of what the door ensures of a at that request, with no octets in out, before and after.
 --     door-taking-meets    its arguments: the door; the kinds of the plain arguments; what this function ensures (a relation); `asked`; that what the
 --                          door ensures gives it; the names of `ask`, `perform` and `turn`; then the model, the tables, and that each of the
 --                          three meets its contract
@@ -17,6 +17,7 @@
 use Rattle.walks.proofs.Walk.{refl, List, [], _∷_, ℕ, ltb→lt, URA, named, imm, mut, w8, w16, w64, tyInt, tyRef, ftrue, flft, Heap, WpFn, Tables, Atoms, id⊢}
 use Rattle.walks.proofs.Walk.{Given, ‵, raw, _⊛_, _$_, _∵_, !, qed, by, use1, move, drop, split, join, fsplit, fjoin, nothing, agg, whole, sub, look-in, look, init, stop, hop, fld, from, lit, addr, of-opd, and-then, no-more, land, returns, enter, alloc1, alloc0, params1, pass1, pass0, free0, pointee, u8, sliceTy, Triple}
 use package.mir.Syntax.{Fn, Name, tyArray, erased, local, valueLocal, memorySlot, place, field, deref, copy, int, rvOpd, addrOf, aggregate, seq, assign, call, return}
+use mathlib.Core.Path.{subst}
 use contract.Lifetimes.{toks}
 use denote.RattleType.{RattleType}
 use denote.Ref.{now}
@@ -25,7 +26,7 @@ use denote.Triple.Spec.{Meets}
 use Rattle.walks.proofs.Tab.{xs-at, loc, fld-at, sets, frees1}
 use Rattle.walks.proofs.Plain.{Kind, of}
 use Rattle.walks_lent.proofs.Lending.{Part, shr-slice, by-value, lent, Relates, values, ensuring, Turn, Passed, turns, ends, lent-meets}
-use Rattle.walks_lent.proofs.Door.{Door, first, through, Perform, Ask, asks, lends-none, apart, performs, gathers}
+use Rattle.walks_lent.proofs.Door.{Door, first, through, Perform, Ask, asks, lends-none, comes-none, apart, performs, gathers}
 
 module _ (D : Door) (KP : Kind) where
   abbrev C : RattleType
@@ -69,7 +70,7 @@ module _ (D : Door) (KP : Kind) where
 
     -- ---- the walk
     module _ (asked : of KP .Denot → of (D .request) .Denot)
-        (so : (ys : List (C .Denot)) (m ln : List ℕ) (i : of KP .Denot) (pk : List ℕ) (r : of (D .answer) .Denot) (zs : List (C .Denot)) (ms ls os : List ℕ) → D .says ys m ln (asked i) pk [] r zs ms ls os → X ys m ln i pk (D .turned r) zs ms ls)
+        (so : (ys : List (C .Denot)) (m ln : List ℕ) (i : of KP .Denot) (pk : List ℕ) (r : of (D .answer) .Denot) (zs : List (C .Denot)) (ms ls : List ℕ) → D .says ys m ln (asked i) pk [] r zs ms ls [] → X ys m ln i pk (D .turned r) zs ms ls)
         (fa fp ft : Name) {M : Type 1} (𝓤 : URA M) (H : Heap 𝓤) (A : Atoms 𝓤) (W : Given 𝓤 H A) (𝓣 : Tables 𝓤 H) (k-ask : Triple 𝓤 (𝓣 .C fa) (Ask D 𝓤 H A (KP ∷ []) (λ v. asked (v .0)))) (k-perform : Triple 𝓤 (𝓣 .C fp) (Perform D 𝓤 H A)) (k-turn : Triple 𝓤 (𝓣 .C ft) (Turn (through D ps over) 𝓤 H A)) where
       pub door-taking-meets : Meets 𝓤 H A (lent (first D ps) (of (D .result)) .signature) (WpFn 𝓤 H (𝓣 .C) (𝓣 .Λ) (function fa fp ft)) (closing 𝓤 H A (lent (first D ps) (of (D .result))) (ensuring (first D ps) 𝓤 (of (D .result)) over))
       door-taking-meets = lent-meets (through D ps over) 𝓤 H A W 𝓣 (function fa fp ft) (λ κs qs a are.
@@ -89,10 +90,10 @@ module _ (D : Door) (KP : Kind) where
           sets ! 3 refl (addr ! (from ! (stop !))) (tt, tt) $ sets ! 1 refl (agg ! (and-then ! (loc ! 3 refl) (and-then ! (lit ! tt) (no-more !)))) (tt, (tt, (record { fits = ltb→lt _ _ tt }, tt))) $
           apart D ps over κs qs a ! $ use1 W (‵ (flft (κs .1 .1 .1 .0) (qs .1 .1 .1 .0)) ⊛ ‵ ftrue) (id⊢ 𝓤 _) $ split ! $ move ! (2 ∷ []) $ fsplit ! $ drop ! $ fsplit ! $ move ! (1 ∷ 3 ∷ []) $ drop ! $ drop ! $ lends-none ! tt l₇ (λ μ δ. move ! (2 ∷ 3 ∷ []) $
           performs D ps over κs qs a ! 𝓣 k-perform (asked (a .1 .1 .1 .0)) iq (a .1 .1 .1 .1 .0) (xs-at u8 l₇ 0 δ []) (λ y. (and-then ! (loc ! 13 refl) (and-then ! (loc ! 9 refl) (and-then ! (loc ! 5 refl) (and-then ! (loc ! 23 refl) (and-then ! (loc ! 25 refl) (and-then ! (loc ! 1 refl) (no-more !)))))))) (λ r ir zs ms ls os h.
-          move ! (1 ∷ 2 ∷ []) $ drop ! $ drop ! $ nothing ! $ move ! (1 ∷ 0 ∷ []) $ join ! $ use1 W (raw (toks 𝓤 A 1 (κs .1 .1 .1) (qs .1 .1 .1))) (id⊢ 𝓤 _) $ nothing ! $ nothing ! $ fjoin ! $ nothing ! $ fjoin ! $ move ! (1 ∷ []) $
-          gathers D ps over κs qs a ! r zs ms ls (tt, (tt, tt)) (so (now (a .0)) (now (a .1 .0)) (now (a .1 .1 .0)) (a .1 .1 .1 .0) (now (a .1 .1 .1 .1 .0)) r zs ms ls os h) $
+          move ! (1 ∷ 2 ∷ []) $ drop ! $ comes-none ! os (λ e. nothing ! $ move ! (1 ∷ 0 ∷ []) $ join ! $ use1 W (raw (toks 𝓤 A 1 (κs .1 .1 .1) (qs .1 .1 .1))) (id⊢ 𝓤 _) $ nothing ! $ nothing ! $ fjoin ! $ nothing ! $ fjoin ! $ move ! (1 ∷ []) $
+          gathers D ps over κs qs a ! r zs ms ls (tt, (tt, tt)) (so (now (a .0)) (now (a .1 .0)) (now (a .1 .1 .0)) (a .1 .1 .1 .0) (now (a .1 .1 .1 .1 .0)) r zs ms ls (subst (λ (u : List ℕ). D .says (now (a .0)) (now (a .1 .0)) (now (a .1 .1 .0)) (asked (a .1 .1 .1 .0)) (now (a .1 .1 .1 .1 .0)) [] r zs ms ls u) e h)) $
           land ! (from ! (stop !)) (init ! 19 refl (D .answer .elem .typed 𝓤 H A W r ir .0)) $
           turns (through D ps over) ! 𝓣 k-turn r ir (and-then ! (loc ! 20 refl) (no-more !)) (λ ib. land ! (from ! (stop !)) (init ! 17 refl (D .result .elem .typed 𝓤 H A W (D .turned r) ib .0)) $
           sets ! 35 refl (of-opd ! (loc ! 17 refl)) (D .result .elem .typed 𝓤 H A W (D .turned r) ib .0) $
           returns ! (look ! 35 refl) $ frees1 ! 35 refl refl $ frees1 ! 33 refl refl $ frees1 ! 31 refl refl $ frees1 ! 29 refl refl $ frees1 ! 27 refl refl $ frees1 ! 25 refl refl $ frees1 ! 23 refl refl $ frees1 ! 21 refl refl $ frees1 ! 19 refl refl $ frees1 ! 17 refl refl $ frees1 ! 15 refl refl $ frees1 ! 13 refl refl $ frees1 ! 11 refl refl $ frees1 ! 9 refl refl $ frees1 ! 7 refl refl $ frees1 ! 5 refl refl $ frees1 ! 3 refl refl $ frees1 ! 1 refl refl $ free0 ! $
-          by ! (ends (through D ps over) 𝓤 H A W κs qs a r ib))))))))))))))))))))))))
+          by ! (ends (through D ps over) 𝓤 H A W κs qs a r ib)))))))))))))))))))))))))
