@@ -51,12 +51,12 @@ module _ {n : ℕ} where
   abbrev pub by-value : Kind → Part n
   by-value K = record { slot = plain (λ _. of K); vals = λ κs x. K .elem .val x ∷ []; tells = λ κs. K .elem .tells }
 
-  abbrev slots : List (Part n) → List (Slot n)
+  abbrev pub slots : List (Part n) → List (Slot n)
   slots [] = []
   slots (p ∷ ps) = p .slot ∷ slots ps
 
   module _ (κs : Lfts n) where
-    abbrev rows : List (Part n) → List RattleType
+    abbrev pub rows : List (Part n) → List RattleType
     rows ps = typesAt (slots ps) κs
 
     abbrev valsOf : (ps : List (Part n)) → Spells (rows ps)
@@ -80,7 +80,7 @@ module _ {n : ℕ} where
       Exit = Outs κs (slots ps) (all yes (slots ps))
 
       -- their machine values, one list for each; all in a row; and what they show of the parameters
-      abbrev each : Entry → Valss (rows κs ps)
+      abbrev pub each : Entry → Valss (rows κs ps)
       each a = valss (rows κs ps) (valsOf κs ps) a
 
       abbrev pub values : Entry → List Val
@@ -156,7 +156,7 @@ module _ {n : ℕ} (L : Turned n) where
         Passed = raw (Perform .pre passed)
 
         -- what `perform` has said of the last values ws, and all that it leaves: that, at some ws, and the tokens
-        abbrev Last : N .Denot → Lasts (lent (L .parts) N) κs a → Item 𝓤
+        abbrev pub Last : N .Denot → Lasts (lent (L .parts) N) κs a → Item 𝓤
         Last r ws = ‵ (lasts (lent (L .parts) N) κs a ws) ⊛ raw (fact 𝓤 (L .before κs a r (atExit (lent (L .parts) N) κs a ws)))
 
         abbrev pub Had : N .Denot → Item 𝓤

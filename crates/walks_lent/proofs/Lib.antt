@@ -5,3 +5,9 @@ pub mod LentReading
 pub mod LentFiling
 pub mod LentSweeping
 pub mod LentMaking
+pub mod Door
+pub mod DoorOne
+pub mod DoorTwo
+pub mod DoorTaking
+pub mod DoorGiving
+pub mod DoorWhole
