@@ -155,9 +155,12 @@ impl Node {
 
     fn tick_all(&mut self) -> Result<Answer, Refusal> {
         self.test_records()?;
-        let ticked = self.channels.iter_mut().map(Channel::tick);
-        let inactive: Vec<bool> = ticked.collect();
-        let lowest = inactive.iter().position(|&went| went);
+        let mut lowest = None;
+        for (index, channel) in self.channels.iter_mut().enumerate() {
+            if channel.tick() {
+                lowest = lowest.or(Some(index));
+            }
+        }
         Ok(lowest.map_or(Answer::DONE, |index| Answer::INACTIVE.at(index)))
     }
 

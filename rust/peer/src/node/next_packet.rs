@@ -16,10 +16,9 @@ impl Node {
         self.test_records()?;
         let index = self.next_channel().ok_or(Refusal::Nothing)?;
         let node = self.node;
-        Ok(self.serve(index, |channel, _| {
-            let end = channel.sending()?;
-            hand_out_of(end, &node, out).map(Answer::written)
-        }))
+        let end = self.channels[index].sending();
+        let length = end.and_then(|end| hand_out_of(end, &node, out));
+        Ok(Answer::from(length.map(Answer::written)).at(index))
     }
 
     /// "Control before resent Data before new Data; among channels of equal
