@@ -1,10 +1,11 @@
-/* Peatwimple: a SpaceWire-R node for C. Every call is proved to give what docs/PROMISES.md says.
+/* Peatwimple: a SpaceWire-R node for C. Every call's source is proved to give what docs/PROMISES.md says, which also says what that rests on.
  *
  * The library keeps no state and allocates nothing. All that it works on is lent by the caller, for the time of one call, as pointers
- * with counts; a count is of elements, not of octets. The caller sees to three things, and to no other:
+ * with counts; a count is of elements, not of octets. The caller sees to four things, and to no other:
  *   - each pointer is good for its count of elements, and aligned; with a count of 0 it is not followed;
  *   - what a call may change (a pointer without const) overlaps nothing else that is lent to the same call;
- *   - no other thread uses what is lent while the call runs. Calls on other tables may run at the same time.
+ *   - no other thread uses what is lent while the call runs. Calls on other tables may run at the same time;
+ *   - the stack has room: 16 KB do. Up to 8.2 KB was measured for a call (tests/c/stack.c), which is no proved bound.
  * Any octets, any records, any counts may be lent: what is wrong is refused by number and never undefined.
  *
  * A node is lent in three parts, the same ones in every call:
@@ -15,7 +16,11 @@
  *
  * A refusal is any answer but 0, 9 and 15. It leaves table, memory, lengths and buffer as they were, to the last octet. A call that writes
  * a packet, a reply or a unit writes it at the front of the lent buffer and leaves the octets past its end. No call but peat_settings and
- * peat_tick changes another channel than the one it serves. */
+ * peat_tick changes another channel than the one it serves, whose index the answer tells. peat_transfer and peat_arrival alone change
+ * memory or lengths: the other calls that take them without const go through the same function, and leave them as they were.
+ *
+ * With 11 the answer's length says how many octets were wanted, and none was written: what is to be read from a buffer, or sent, is told
+ * by 0 and 15 alone. */
 #ifndef PEATWIMPLE_H
 #define PEATWIMPLE_H
 
@@ -42,16 +47,14 @@ PeatSaid peat_settings(PeatChannel *table, size_t records, const uint8_t *memory
  *   5       the channel is not CLOSED
  *   10      units are unreclaimed (sender) or untaken (receiver)
  *   0       ENABLED, a new opening: window start 1, no mark, no timer, no reason; at a sender an Open is ready */
-PeatSaid peat_open(PeatChannel *table, size_t records, const uint8_t *memory, size_t octets, const uint16_t *lengths, size_t slots,
-                   size_t index);
+PeatSaid peat_open(PeatChannel *table, size_t records, uint8_t *memory, size_t octets, uint16_t *lengths, size_t slots, size_t index);
 
 /* A Close directive.
  *   13, 14  as above
  *   5       a receiver; a sender in CLOSED or CLOSING; one in ENABLED that keeps a Close already
  *   0       in ENABLED: kept until the Open is acknowledged. In OPEN: CLOSING, a Close is ready, no Data goes out any more; every
  *           unconfirmed unit is still held, whole */
-PeatSaid peat_close(PeatChannel *table, size_t records, const uint8_t *memory, size_t octets, const uint16_t *lengths, size_t slots,
-                    size_t index);
+PeatSaid peat_close(PeatChannel *table, size_t records, uint8_t *memory, size_t octets, uint16_t *lengths, size_t slots, size_t index);
 
 /* A unit of any length, 0 too, for a sender to hold and send. The unit is only read, and need not be kept.
  *   13, 14  as above
@@ -61,42 +64,51 @@ PeatSaid peat_close(PeatChannel *table, size_t records, const uint8_t *memory, s
 PeatSaid peat_transfer(PeatChannel *table, size_t records, uint8_t *memory, size_t octets, uint16_t *lengths, size_t slots,
                        size_t index, const uint8_t *unit, size_t count);
 
+/* What peat_transfer would answer now to a unit of count octets: 13, 14, 5, 6, 7 or 0, by the same tests. Nothing changes, whatever the
+ * answer. */
+PeatSaid peat_would_transfer(PeatChannel *table, size_t records, uint8_t *memory, size_t octets, uint16_t *lengths, size_t slots,
+                             size_t index, size_t count);
+
 /* The oldest complete unit of a receiver, in any state.
  *   13, 14  as above
  *   5       a sender
- *   12, 11  no complete unit is held; it is longer than the buffer, and still held
+ *   12, 11  no complete unit is held; it is longer than the buffer, and still held: length tells its octets
  *   0       the unit at the front of out, its octets counted by length; its slots are free */
-PeatSaid peat_take(PeatChannel *table, size_t records, const uint8_t *memory, size_t octets, const uint16_t *lengths, size_t slots,
+PeatSaid peat_take(PeatChannel *table, size_t records, uint8_t *memory, size_t octets, uint16_t *lengths, size_t slots,
                    size_t index, uint8_t *out, size_t count);
 
 /* The oldest unit of a sender in CLOSED that was not confirmed, whole.
  *   13, 14  as above
  *   5       a receiver; a sender that is not CLOSED
- *   12, 11  no unit is held; it is longer than the buffer, and still held
+ *   12, 11  no unit is held; it is longer than the buffer, and still held: length tells its octets
  *   0       the unit at the front of out, its octets counted by length; its slots are free */
-PeatSaid peat_reclaim(PeatChannel *table, size_t records, const uint8_t *memory, size_t octets, const uint16_t *lengths, size_t slots,
+PeatSaid peat_reclaim(PeatChannel *table, size_t records, uint8_t *memory, size_t octets, uint16_t *lengths, size_t slots,
                       size_t index, uint8_t *out, size_t count);
 
 /* The packet that goes out next: Control before resent Data before new Data; among channels of equal rank the lowest index; within a
  * channel the lowest segment. 12 + P octets hold any packet of a channel.
  *   13      as above
- *   12, 11  no sender has a packet ready; the one that goes next is longer than the buffer, and is still ready
+ *   12      no sender has a packet ready; the index is that of no channel
+ *   11      the one that goes next is longer than the buffer, and is still ready: length tells its octets, index whose it is
  *   0       the packet at the front of out, its octets counted by length; its timer runs from the timeout on */
-PeatSaid peat_next_packet(PeatChannel *table, size_t records, const uint8_t *memory, size_t octets, const uint16_t *lengths, size_t slots,
+PeatSaid peat_next_packet(PeatChannel *table, size_t records, uint8_t *memory, size_t octets, uint16_t *lengths, size_t slots,
                           PeatNode node, uint8_t *out, size_t count);
 
-/* A packet that came in: any octets, any number of them. The packet is only read. With length 12 the reply is to be sent.
+/* A packet that came in: any octets, any number of them. The packet is only read. With 0 or 15 and length 12 the reply is to be sent. Up to
+ * and with 14 the index is that of no channel, below that of the channel found.
  *   13      as above
- *   11      the reply buffer has under 12 octets, whatever came
+ *   11      the reply buffer has under 12 octets, whatever came: length is 12
  *   1, 2, 4, 3  the packet is refused alone; 3 also for another node's destination or protocol ID
  *   14      no record has its channel number and source: Data and Control look for a receiver, Acks for a sender
  *   3       Data with a payload over P
  *   5       the state does not allow it
  *   16      an ack that nothing waits for
- *   15      a second Open before Data, a further Close, or Data held already or behind the window: the reply alone is written, an Ack
+ *   15      a second Open before Data, a further Close, or Data held already or at most k behind the window: the reply alone is written,
+ *           an Ack
  *   8       new Data as many slots or more past the oldest segment not yet taken
- *   9       the channel went inactive for the reason told: CLOSED, units complete by then stay to be taken, unfinished ones go. No
- *           reply is written. With the reason flags the segment was filed, else no octet and no length has changed
+ *   9       the channel went inactive for the reason told, Data more than k behind the window being one: CLOSED, units complete by then
+ *           stay to be taken, unfinished ones go. No reply is written. With the reason flags the segment was filed, else no octet and
+ *           no length has changed
  *   0       Data: filed in its slot, and a Data Ack is the reply. Open or Close: its state, and a Control Ack is the reply. A Control Ack:
  *           its state, no reply. A Data Ack: recorded, no reply; confirmed tells how many units it confirmed, whose slots are free */
 PeatSaid peat_arrival(PeatChannel *table, size_t records, uint8_t *memory, size_t octets, uint16_t *lengths, size_t slots,
@@ -105,8 +117,9 @@ PeatSaid peat_arrival(PeatChannel *table, size_t records, uint8_t *memory, size_
 /* One tick of every timer of every channel: a packet whose timer ends is ready again, or with no resend left its channel goes inactive; a
  * receiver whose close timer ends is CLOSED.
  *   13  as above
- *   9   some channel went inactive, by its retries; all were ticked, and each record says its own reason. Units are still held
- *   0   all were ticked */
+ *   9   some channel went inactive, by its retries; all were ticked, and each record says its own reason. Units are still held. The index
+ *       is the lowest of those that went inactive in this tick, and the reason is that channel's
+ *   0   all were ticked; the index is that of no channel */
 PeatSaid peat_tick(PeatChannel *table, size_t records, const uint8_t *memory, size_t octets, const uint16_t *lengths, size_t slots);
 
 /* ---- the packet alone ----
@@ -118,8 +131,8 @@ uint16_t peat_crc(const uint8_t *octets, size_t count);
 /* Reads a packet where it lies: 1, 2, 4, 3 in this order, else 0. Nothing is written. */
 PeatReading peat_read_packet(const uint8_t *packet, size_t count);
 
-/* Writes a packet: 4, 3 (also a payload over 65,535 octets), 11 in this order and out as it was; else 0, the packet at the front of out and
- * its octets past it as they were. */
+/* Writes a packet: 4, 3 (also a payload over 65,535 octets), 11 in this order and out as it was, with 11 its whole length being told; else
+ * 0, the packet at the front of out and its octets past it as they were. */
 PeatWriting peat_write_packet(PeatFields fields, const uint8_t *payload, size_t payload_count, uint8_t *out, size_t count);
 
 #ifdef __cplusplus

@@ -31,7 +31,7 @@ enum {
 /* Directions. */
 enum { PEAT_SENDS = 0, PEAT_RECEIVES = 1 };
 
-/* States of a channel (000, 4.4.2 and 4.5.2). */
+/* States of a channel (000, 4.4.3 and 4.5.2). */
 enum { PEAT_CLOSED = 0, PEAT_ENABLED = 1, PEAT_OPEN = 2, PEAT_CLOSING = 3 };
 
 /* Why a channel went inactive. */
@@ -40,7 +40,7 @@ enum {
     PEAT_RETRIES = 1,        /* a packet's retries were used up */
     PEAT_LATE_OPEN = 2,      /* an Open came after Data was accepted */
     PEAT_CONTROL_NUMBER = 3, /* a Control packet had another number than 0 */
-    PEAT_DATA_NUMBER = 4,    /* Data had a number neither in the window nor behind it */
+    PEAT_DATA_NUMBER = 4,    /* Data had a number neither in the window nor at most k behind it */
     PEAT_BROKEN_FLAGS = 5    /* the flags of segments in a row do not make units */
 };
 
@@ -134,12 +134,15 @@ typedef struct PeatChannel {
     uint8_t acked[PEAT_SLOTS]; /* by place: not 0 once acknowledged */
 } PeatChannel;
 
-/* What a call of the node answers. */
+/* What a call of the node answers. A call that serves one channel tells its index, also where that channel's own step refused. Where none
+ * was served the index is as many as the table has records: with 13 and 14, when an arrival is refused before its channel is found, with 12
+ * of peat_next_packet, and by peat_settings. What it is of a tick stands at peat_tick. */
 typedef struct PeatSaid {
     uint32_t number;  /* the answer */
-    uint32_t reason;  /* with 9 why the channel went inactive, else 0 */
-    size_t length;    /* with 0 and 15 the octets written, else 0 */
+    uint32_t reason;  /* with 9 why the channel of the index went inactive, else 0 */
+    size_t length;    /* with 0 and 15 the octets written, with 11 the octets wanted, else 0 */
     size_t confirmed; /* with 0 the units that a Data Ack confirmed, else 0 */
+    size_t index;     /* the channel that the call served */
 } PeatSaid;
 
 /* ---- the packet alone ---- */
@@ -167,7 +170,7 @@ typedef struct PeatReading {
     size_t length;
 } PeatReading;
 
-/* With 0 the octets written, else 0. */
+/* With 0 the octets written, with 11 the whole length of the packet, else 0. */
 typedef struct PeatWriting {
     uint32_t answer;
     size_t length;

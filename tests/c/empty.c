@@ -7,22 +7,23 @@
 
 static const PeatNode NODE = {64, PEAT_PROTOCOL};
 
-static int says(PeatSaid said, uint32_t number) {
-    return said.number == number && said.reason == 0 && said.length == 0 && said.confirmed == 0;
+static int says(PeatSaid said, uint32_t number, size_t index) {
+    return said.number == number && said.reason == 0 && said.length == 0 && said.confirmed == 0 && said.index == index;
 }
 
 #define NONE NULL, 0, NULL, 0, NULL, 0
 
 static void nothing_is_lent(void) {
-    CHECK(says(peat_settings(NONE, NULL, 0), PEAT_SETTINGS));
-    CHECK(says(peat_open(NONE, 0), PEAT_SETTINGS));
-    CHECK(says(peat_close(NONE, 0), PEAT_SETTINGS));
-    CHECK(says(peat_transfer(NONE, 0, NULL, 0), PEAT_SETTINGS));
-    CHECK(says(peat_take(NONE, 0, NULL, 0), PEAT_SETTINGS));
-    CHECK(says(peat_reclaim(NONE, 0, NULL, 0), PEAT_SETTINGS));
-    CHECK(says(peat_next_packet(NONE, NODE, NULL, 0), PEAT_SETTINGS));
-    CHECK(says(peat_arrival(NONE, NODE, NULL, 0, NULL, 0), PEAT_SETTINGS));
-    CHECK(says(peat_tick(NONE), PEAT_SETTINGS));
+    CHECK(says(peat_settings(NONE, NULL, 0), PEAT_SETTINGS, 0));
+    CHECK(says(peat_open(NONE, 0), PEAT_SETTINGS, 0));
+    CHECK(says(peat_close(NONE, 0), PEAT_SETTINGS, 0));
+    CHECK(says(peat_transfer(NONE, 0, NULL, 0), PEAT_SETTINGS, 0));
+    CHECK(says(peat_would_transfer(NONE, 0, 0), PEAT_SETTINGS, 0));
+    CHECK(says(peat_take(NONE, 0, NULL, 0), PEAT_SETTINGS, 0));
+    CHECK(says(peat_reclaim(NONE, 0, NULL, 0), PEAT_SETTINGS, 0));
+    CHECK(says(peat_next_packet(NONE, NODE, NULL, 0), PEAT_SETTINGS, 0));
+    CHECK(says(peat_arrival(NONE, NODE, NULL, 0, NULL, 0), PEAT_SETTINGS, 0));
+    CHECK(says(peat_tick(NONE), PEAT_SETTINGS, 0));
     CHECK(peat_read_packet(NULL, 0).answer == PEAT_SHORT);
 }
 
@@ -37,11 +38,11 @@ static void never_set(int octet) {
 
     memset(table, octet, sizeof table);
     memset(before, octet, sizeof before);
-    CHECK(says(peat_open(LENT, 0), PEAT_SETTINGS));
-    CHECK(says(peat_transfer(LENT, 0, packet, 1), PEAT_SETTINGS));
-    CHECK(says(peat_next_packet(LENT, NODE, out, sizeof out), PEAT_SETTINGS));
-    CHECK(says(peat_arrival(LENT, NODE, packet, sizeof packet, out, sizeof out), PEAT_SETTINGS));
-    CHECK(says(peat_tick(table, 1, memory, sizeof memory, lengths, 4), PEAT_SETTINGS));
+    CHECK(says(peat_open(LENT, 0), PEAT_SETTINGS, 17));
+    CHECK(says(peat_transfer(LENT, 0, packet, 1), PEAT_SETTINGS, 17));
+    CHECK(says(peat_next_packet(LENT, NODE, out, sizeof out), PEAT_SETTINGS, 17));
+    CHECK(says(peat_arrival(LENT, NODE, packet, sizeof packet, out, sizeof out), PEAT_SETTINGS, 17));
+    CHECK(says(peat_tick(table, 1, memory, sizeof memory, lengths, 4), PEAT_SETTINGS, 1));
     CHECK(memcmp(table, before, sizeof table) == 0);
     CHECK(memcmp(out, clear, sizeof out) == 0);
 }
@@ -68,14 +69,14 @@ static void an_empty_unit(void) {
     uint8_t memory[4] = {0};
     uint16_t lengths[4] = {0};
 
-    CHECK(says(peat_settings(LENT, settings, 2), PEAT_DONE));
-    CHECK(says(peat_open(LENT, 0), PEAT_DONE));
-    CHECK(says(peat_open(LENT, 1), PEAT_DONE));
+    CHECK(says(peat_settings(LENT, settings, 2), PEAT_DONE, 2));
+    CHECK(says(peat_open(LENT, 0), PEAT_DONE, 0));
+    CHECK(says(peat_open(LENT, 1), PEAT_DONE, 1));
     CHECK(exchange(table, memory, lengths) == 0);
-    CHECK(says(peat_transfer(LENT, 0, NULL, 0), PEAT_DONE));
+    CHECK(says(peat_transfer(LENT, 0, NULL, 0), PEAT_DONE, 0));
     CHECK(exchange(table, memory, lengths) == 1);
-    CHECK(says(peat_take(LENT, 1, NULL, 0), PEAT_DONE));
-    CHECK(says(peat_take(LENT, 1, NULL, 0), PEAT_NOTHING));
+    CHECK(says(peat_take(LENT, 1, NULL, 0), PEAT_DONE, 1));
+    CHECK(says(peat_take(LENT, 1, NULL, 0), PEAT_NOTHING, 1));
 }
 
 int main(void) {

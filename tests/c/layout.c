@@ -75,6 +75,7 @@ static void channel_and_answer(void) {
     FIELD(Said, reason);
     FIELD(Said, length);
     FIELD(Said, confirmed);
+    FIELD(Said, index);
 }
 
 static void packet_alone(void) {

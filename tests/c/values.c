@@ -1,5 +1,5 @@
 /* What passes by value between C and the library, field by field: PeatFields of 12 octets in, PeatReading of 32 and PeatWriting of 16 out, a
- * PeatNode of 2 in, a PeatSaid of 24 out. On x86-64 those of up to 16 octets go through registers, the others through memory. */
+ * PeatNode of 2 in, a PeatSaid of 32 out. On x86-64 those of up to 16 octets go through registers, the others through memory. */
 #include <string.h>
 
 #include "check.h"
@@ -26,7 +26,8 @@ static void a_packet_alone(void) {
     CHECK(memcmp(&reading.fields, &FIELDS, sizeof FIELDS) == 0);
     reading = peat_read_packet(out, 16);
     CHECK(reading.answer == PEAT_SHORT && reading.start == 0 && reading.length == 0 && reading.fields.channel == 0);
-    CHECK(peat_write_packet(FIELDS, payload, 5, out, 16).answer == PEAT_SMALL);
+    writing = peat_write_packet(FIELDS, payload, 5, out, 16);
+    CHECK(writing.answer == PEAT_SMALL && writing.length == 17);
 }
 
 static void check_sums(void) {
@@ -52,7 +53,7 @@ static void a_node(void) {
     said = peat_open(LENT, 0);
     CHECK(said.number == PEAT_DONE && table[0].phase.state == PEAT_ENABLED);
     said = peat_next_packet(LENT, node, out, sizeof out);
-    CHECK(said.number == PEAT_DONE && said.length == 12 && said.confirmed == 0);
+    CHECK(said.number == PEAT_DONE && said.length == 12 && said.confirmed == 0 && said.index == 0);
     CHECK(out[0] == 65 && out[1] == 238 && out[9] == 64);
     said = peat_tick(LENT);
     CHECK(said.number == PEAT_INACTIVE && said.reason == PEAT_RETRIES && said.length == 0);

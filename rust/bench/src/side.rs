@@ -13,7 +13,7 @@ pub use plain::Plain;
 pub struct Given {
     /// The answer number.
     pub number: u32,
-    /// The octets written.
+    /// The octets written, or with 11 wanted.
     pub length: usize,
 }
 

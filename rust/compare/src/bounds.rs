@@ -105,7 +105,9 @@ fn good(count: usize, noise: &mut Noise) -> Vec<Settings> {
 fn give(settings: &[Settings], records: usize, noise: &mut Noise, tally: &mut Tally) -> u32 {
     let mut twin = Twin::new(NODE, records, settings, noise);
     let answer = twin.call(Call::Settings(settings), 0, tally).said.number;
-    for call in [Call::Open(0), Call::Tick, Call::NextPacket, Call::Open(16)] {
+    let others = [Call::Open(0), Call::Tick, Call::NextPacket, Call::Open(16)];
+    let question = [0, 16].map(|index| Call::WouldTransfer(index, 1));
+    for call in others.into_iter().chain(question) {
         twin.call(call, 64, tally);
     }
     answer

@@ -18,6 +18,8 @@ pub enum Call<'a> {
     Close(usize),
     /// A unit to be sent.
     Transfer(usize, &'a [u8]),
+    /// What a transfer of so many octets would answer.
+    WouldTransfer(usize, usize),
     /// The oldest complete unit is asked for.
     Take(usize),
     /// The oldest unconfirmed unit is asked for.
@@ -52,6 +54,7 @@ impl Call<'_> {
             Call::Open(_) => "open",
             Call::Close(_) => "close",
             Call::Transfer(..) => "transfer",
+            Call::WouldTransfer(..) => "would_transfer",
             Call::Take(_) => "take",
             Call::Reclaim(_) => "reclaim",
             Call::NextPacket => "next_packet",
@@ -77,6 +80,9 @@ impl Call<'_> {
             Call::Open(index) => calls::open(table, memory, lengths, index),
             Call::Close(index) => calls::close(table, memory, lengths, index),
             Call::Transfer(index, unit) => calls::transfer(table, memory, lengths, index, unit),
+            Call::WouldTransfer(index, count) => {
+                calls::would_transfer(table, memory, lengths, index, count)
+            }
             Call::Take(index) => calls::take(table, memory, lengths, index, out),
             Call::Reclaim(index) => calls::reclaim(table, memory, lengths, index, out),
             Call::NextPacket => calls::next_packet(table, memory, lengths, node, out),
@@ -92,12 +98,22 @@ impl Call<'_> {
             Call::Open(index) => node.open(index),
             Call::Close(index) => node.close(index),
             Call::Transfer(index, unit) => node.transfer(index, unit),
+            Call::WouldTransfer(index, count) => node.would_transfer(index, count),
             Call::Take(index) => node.take(index, out),
             Call::Reclaim(index) => node.reclaim(index, out),
             Call::NextPacket => node.next_packet(out),
             Call::Arrival(packet) => node.arrival(packet, out),
             Call::Tick => node.tick(),
         }
+    }
+}
+
+/// What a table of so many records that fails the test for 13 is answered.
+pub fn unlawful(records: usize) -> Said {
+    Said {
+        number: 13,
+        index: records,
+        ..Said::default()
     }
 }
 

@@ -36,7 +36,8 @@ pub fn writing(request: &Request, noise: &mut Noise) -> u32 {
     );
     assert_eq!(given, expected, "{what}");
     assert!(by_proved == by_peer, "{what}: the octets differ");
-    let end = MARGIN + given.length;
+    let written = if given.answer == 0 { given.length } else { 0 };
+    let end = MARGIN + written;
     assert!(by_proved[..MARGIN] == before[..MARGIN], "{what}: before it");
     assert!(by_proved[end..] == before[end..], "{what}: past its end");
     given.answer
@@ -85,7 +86,7 @@ fn writing_of_peer(request: &Request, out: &mut [u8]) -> proved::Writing {
     let result = peer::packet::write(&request.fields, &request.payload, out);
     proved::Writing {
         answer: result.err().map_or(0, Refusal::number),
-        length: result.unwrap_or(0),
+        length: result.unwrap_or_else(Refusal::wanted),
     }
 }
 

@@ -5,7 +5,7 @@
 use link::Noise;
 use proved::record::Channel;
 
-use crate::call::Call;
+use crate::call::{unlawful, Call};
 use crate::condition::is_lawful;
 use crate::strays::from_other_end;
 use crate::tally::Tally;
@@ -83,7 +83,7 @@ pub fn overwrite_and_call(twin: &mut Twin, noise: &mut Noise, tally: &mut Tally)
     }
     let unit = [7; 3];
     let settings = twin.settings.clone();
-    let call = match noise.below(9) {
+    let call = match noise.below(10) {
         0 => Call::Settings(&settings),
         1 => Call::Open(index),
         2 => Call::Close(index),
@@ -92,6 +92,7 @@ pub fn overwrite_and_call(twin: &mut Twin, noise: &mut Noise, tally: &mut Tally)
         5 => Call::Reclaim(index),
         6 => Call::NextPacket,
         7 => Call::Arrival(&packet),
+        8 => Call::WouldTransfer(index, 3),
         _ => Call::Tick,
     };
     check(twin, call, tally);
@@ -135,8 +136,7 @@ fn check(twin: &mut Twin, call: Call, tally: &mut Tally) {
         tally.case("13: an overwritten record has its condition, and keeps it");
     } else {
         tally.case("13: an overwritten record lacks its condition");
-        let values = (said.number, said.reason, said.length, said.confirmed);
-        assert_eq!(values, (13, 0, 0, 0), "{call:?}");
+        assert_eq!(said, unlawful(twin.table.len()), "{call:?}");
         assert!(twin.table == before.0, "a refusal changed a record");
         assert!(twin.memory == before.1 && twin.lengths == before.2);
         assert_eq!(out, [0xA5; 64]);

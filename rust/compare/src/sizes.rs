@@ -3,7 +3,7 @@
 //! its storage to itself, so that this is asked of the proved library alone;
 //! settings over such storage are asked of both, in `bounds`.
 
-use crate::call::{Call, Lent};
+use crate::call::{unlawful, Call, Lent};
 use crate::tally::Tally;
 use crate::twin::Twin;
 use link::Noise;
@@ -49,7 +49,7 @@ pub fn lend_wrongly(twin: &Twin, packet: &[u8], noise: &mut Noise, tally: &mut T
     let before = (table.clone(), memory.clone(), lengths.clone());
     let index = noise.below(twin.table.len() + 1);
     let unit = [7; 3];
-    let call = match noise.below(8) {
+    let call = match noise.below(9) {
         0 => Call::Open(index),
         1 => Call::Close(index),
         2 => Call::Transfer(index, &unit),
@@ -57,6 +57,7 @@ pub fn lend_wrongly(twin: &Twin, packet: &[u8], noise: &mut Noise, tally: &mut T
         4 => Call::Reclaim(index),
         5 => Call::NextPacket,
         6 => Call::Arrival(packet),
+        7 => Call::WouldTransfer(index, 3),
         _ => Call::Tick,
     };
     let mut out = [0xA5; 64];
@@ -73,8 +74,7 @@ pub fn lend_wrongly(twin: &Twin, packet: &[u8], noise: &mut Noise, tally: &mut T
     if matches!(call, Call::Arrival(_)) {
         tally.answer("not read", said.number);
     }
-    let values = (said.number, said.reason, said.length, said.confirmed);
-    assert_eq!(values, (13, 0, 0, 0), "{name}: {call:?}");
+    assert_eq!(said, unlawful(table.len()), "{name}: {call:?}");
     assert!((table, memory, lengths) == before, "{name}: {call:?}");
     assert_eq!(out, [0xA5; 64], "{name}: {call:?}");
 }

@@ -10,11 +10,12 @@ use std::fmt;
 /// passes the tests 11, 1, 2, 4 and the first 3, and so has a kind that counts.
 /// Data alone can find the slots full or have a payload over P; an Ack alone
 /// is ignored; a receive end alone goes inactive by a packet or answers 15.
-pub const POSSIBLE: [(&str, &[u32]); 15] = [
+pub const POSSIBLE: [(&str, &[u32]); 16] = [
     ("settings", &[0, 13]),
     ("open", &[0, 5, 10, 13, 14]),
     ("close", &[0, 5, 13, 14]),
     ("transfer", &[0, 5, 6, 7, 13, 14]),
+    ("would_transfer", &[0, 5, 6, 7, 13, 14]),
     ("take", &[0, 5, 11, 12, 13, 14]),
     ("reclaim", &[0, 5, 11, 12, 13, 14]),
     ("next_packet", &[0, 11, 12, 13]),

@@ -108,7 +108,7 @@ impl Twin {
         tally.answer(call.name(), said.number);
         self.compare(&call, said, answer);
         assert!(by_proved == by_peer, "the octets written differ");
-        let octets = by_proved[lent][..said.length].to_vec();
+        let octets = by_proved[lent][..said.written()].to_vec();
         (self.by_proved, self.by_peer) = (by_proved, by_peer);
         Outcome { said, octets }
     }
@@ -117,6 +117,8 @@ impl Twin {
         assert_eq!(said.number, u32::from(answer.number), "the number");
         assert_eq!(said.length, answer.length, "the length");
         assert_eq!(said.confirmed, answer.confirmed, "the units confirmed");
+        let served = answer.index.unwrap_or(self.table.len());
+        assert_eq!(said.index, served, "the index");
         assert!(self.lengths == self.peer.lengths(), "the lengths differ");
         assert!(self.memory == self.peer.memory(), "the memory differs");
         let records = 0..self.table.len();
@@ -124,13 +126,13 @@ impl Twin {
         let changed: Vec<usize> = changed.collect();
         match (said.number, call) {
             (0, Call::Settings(_)) | (0 | 9, Call::Tick) => {}
-            (0, _) => assert!(changed.len() <= 1, "other records changed"),
-            (9, _) => assert_eq!(changed.len(), 1),
+            (_, Call::WouldTransfer(..)) => assert!(changed.is_empty(), "a question changed one"),
+            (0, _) => assert!(changed.iter().all(|&one| one == served), "another changed"),
+            (9, _) => assert_eq!(changed, [served]),
             _ => assert!(changed.is_empty(), "a refusal changed a record"),
         }
-        let reason = match (said.number, call) {
-            (9, Call::Tick) => 1,
-            (9, _) => reason_number(self.peer.reason(changed[0]).expect("a record")),
+        let reason = match said.number {
+            9 => reason_number(self.peer.reason(served).expect("a record")),
             _ => 0,
         };
         assert_eq!(said.reason, u32::from(reason), "the reason");

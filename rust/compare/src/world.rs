@@ -91,7 +91,7 @@ impl World {
         let outcome = self.twins[node].call(call, room, &mut self.tally);
         self.idle[node] = match (call, outcome.said.number) {
             (Call::NextPacket, number) => number == 12,
-            (Call::Take(_) | Call::Reclaim(_), _) => self.idle[node],
+            (Call::Take(_) | Call::Reclaim(_) | Call::WouldTransfer(..), _) => self.idle[node],
             (_, 0) => false,
             _ => self.idle[node],
         };
@@ -148,8 +148,13 @@ impl World {
     }
 
     fn tick(&mut self, node: usize) {
-        if self.call(node, Call::Tick, 0).said.number == 9 {
+        let said = self.call(node, Call::Tick, 0).said;
+        if said.number == 9 {
             self.tally.case("inactive: retries");
+        }
+        if said.number == 9 && said.index > 0 {
+            self.tally
+                .case("index: a tick names another than the first");
         }
     }
 

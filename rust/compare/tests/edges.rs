@@ -110,6 +110,22 @@ fn the_last_retry() {
     }
 }
 
+/// Of the channels that go inactive in one tick, the answer names the lowest.
+#[test]
+fn several_inactive_in_one_tick() {
+    let table = [(1, 3), (2, 0), (3, 0)];
+    let mut nodes = Nodes::open(&table.map(|(channel, retries)| settings(channel, 1, retries)));
+    for index in [2, 1, 0] {
+        assert_eq!(nodes.call(0, Call::Transfer(index, b"unit"), 0), 0);
+    }
+    while nodes.packet().is_some() {}
+    let said = nodes.twins[0].call(Call::Tick, 0, &mut nodes.tally).said;
+    assert_eq!((said.number, said.index, said.reason), (9, 1, 1));
+    let reasons = [0, 1, 2].map(|index| nodes.twins[0].peer.reason(index));
+    let expected = [Reason::None, Reason::Retries, Reason::Retries];
+    assert_eq!(reasons, expected.map(Some));
+}
+
 /// Timers of 65,535 ticks: of a segment, of a Close, and of a receiver in CLOSING.
 #[test]
 fn the_longest_timers() {
@@ -148,7 +164,9 @@ fn the_largest_table_and_the_longest_unit() {
     let longest = 128 * 1_024;
     let unit = Noise::new(8).octets(longest + 1);
     for index in [15, 0] {
+        assert_eq!(nodes.call(0, Call::WouldTransfer(index, longest + 1), 0), 6);
         assert_eq!(nodes.call(0, Call::Transfer(index, &unit), 0), 6);
+        assert_eq!(nodes.call(0, Call::WouldTransfer(index, longest), 0), 0);
         let unit = &unit[..longest];
         assert_eq!(nodes.call(0, Call::Transfer(index, unit), 0), 0);
         assert_eq!(nodes.call(0, Call::Transfer(index, &[]), 0), 7);

@@ -2,7 +2,7 @@
 //! answered, how many units the host was told are confirmed, what it reclaimed,
 //! and what the station took or still has.
 
-use proved::{Answer, Refusal};
+use proved::{Outcome, Refusal};
 use std::fmt;
 
 #[cfg(test)]
@@ -12,7 +12,7 @@ mod tests;
 #[derive(Default)]
 pub struct Seen {
     /// Each event, and what the host's node answered to it.
-    pub published: Vec<(String, Answer)>,
+    pub published: Vec<(String, Outcome)>,
     /// Units that the host was told are confirmed.
     pub confirmed: usize,
     /// Units that the host reclaimed.
@@ -43,7 +43,7 @@ pub enum Fate {
 impl Seen {
     /// The events that the host's node accepted.
     pub fn accepted(&self) -> Vec<&str> {
-        let done = self.published.iter().filter(|(_, at)| *at == Answer::DONE);
+        let done = self.published.iter().filter(|(_, at)| *at == Outcome::DONE);
         done.map(|(event, _)| event.as_str()).collect()
     }
 
@@ -51,9 +51,9 @@ impl Seen {
     pub fn fates(&self) -> Vec<(&str, Fate)> {
         let mut place = 0;
         let mut fates = Vec::new();
-        for (event, answer) in &self.published {
-            let fate = match answer {
-                Answer::Refused(refusal) => Fate::Refused(*refusal),
+        for (event, outcome) in &self.published {
+            let fate = match outcome {
+                Outcome::Refused(refusal) => Fate::Refused(*refusal),
                 _ => {
                     place += 1;
                     self.fate(place - 1)

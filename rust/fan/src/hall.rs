@@ -5,7 +5,7 @@ use crate::account::Seen;
 use crate::events::event;
 use crate::link::Link;
 use crate::options::Options;
-use proved::{Answer, NodeTable, State};
+use proved::{Answer, NodeTable, Outcome, State};
 
 /// Ticks from one publication to the next.
 const PACE: usize = 5;
@@ -73,12 +73,12 @@ impl Hall<'_> {
             return;
         }
         let event = event(self.seen.published.len());
-        let answer = self.host.transfer(0, event.as_bytes());
-        self.tell(match answer {
-            Answer::Refused(why) => format!("refused   {event} ({}, {why})", why.number()),
+        let outcome = self.host.transfer(0, event.as_bytes()).outcome;
+        self.tell(match outcome {
+            Outcome::Refused(why) => format!("refused   {event} ({}, {why})", why.number()),
             _ => format!("published {event}"),
         });
-        self.seen.published.push((event, answer));
+        self.seen.published.push((event, outcome));
         if self.seen.published.len() == self.options.events.div_ceil(2) {
             self.silent = true;
             self.tell("the cooling station falls silent: its answers go out no more".into());
@@ -87,7 +87,7 @@ impl Hall<'_> {
 
     fn host_sends(&mut self) {
         let mut out = [0; ROOM];
-        while let Answer::Done { length, .. } = self.host.next_packet(&mut out) {
+        while let Outcome::Done { length, .. } = self.host.next_packet(&mut out).outcome {
             self.there.send(self.now, &out[..length]);
         }
     }
@@ -97,7 +97,7 @@ impl Hall<'_> {
         for packet in self.there.arriving(self.now) {
             let mut reply = [0; 12];
             let answer = self.station.arrival(&packet, &mut reply);
-            if let Answer::Inactive(reason) = answer {
+            if let Outcome::Inactive(reason) = answer.outcome {
                 self.tell(format!("the station's channel is inactive ({reason})"));
             }
             if answer.length() != 0 && !self.silent {
@@ -143,7 +143,7 @@ impl Hall<'_> {
     fn tick(&mut self) {
         self.now += 1;
         self.station.tick();
-        let Answer::Inactive(reason) = self.host.tick() else {
+        let Outcome::Inactive(reason) = self.host.tick().outcome else {
             return;
         };
         self.tell(format!("the channel is inactive ({reason}), and CLOSED"));
@@ -159,7 +159,7 @@ impl Hall<'_> {
 fn units(mut call: impl FnMut(&mut [u8]) -> Answer) -> Vec<Vec<u8>> {
     let mut out = [0; ROOM];
     let mut units = Vec::new();
-    while let Answer::Done { length, .. } = call(&mut out) {
+    while let Outcome::Done { length, .. } = call(&mut out).outcome {
         units.push(out[..length].to_vec());
     }
     units

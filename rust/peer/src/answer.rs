@@ -6,40 +6,66 @@
 #[derive(Clone, Copy, Debug, PartialEq, Eq)]
 pub enum Refusal {
     /// Under 12 octets, or not 12 + X.
-    Length = 1,
+    Length,
     /// CRC wrong.
-    Crc = 2,
+    Crc,
     /// A header field unexpected that is not one of [`Refusal::NotInBase`], or
     /// a payload where none may be.
-    Header = 3,
+    Header,
     /// Secondary header, prefix, or a type the base lacks.
-    NotInBase = 4,
+    NotInBase,
     /// The state does not allow it, or the direction does not.
-    State = 5,
+    State,
     /// Unit over M segments.
-    TooLong = 6,
+    TooLong,
     /// Slots held and slots needed are more than there are.
-    NoSlots = 7,
+    NoSlots,
     /// Receive slots full.
-    Full = 8,
+    Full,
     /// Open while units are untaken or unreclaimed.
-    UnitsLeft = 10,
+    UnitsLeft,
     /// Lent buffer too small.
-    Buffer = 11,
+    Buffer {
+        /// The octets that it would have to have.
+        wanted: usize,
+    },
     /// Nothing to hand out.
-    Nothing = 12,
+    Nothing,
     /// Bad settings.
-    Settings = 13,
+    Settings,
     /// No such channel.
-    NoChannel = 14,
+    NoChannel,
     /// Ack ignored.
-    Ignored = 16,
+    Ignored,
 }
 
 impl Refusal {
     /// The number that document 01 gives to this refusal.
     pub fn number(self) -> u32 {
-        self as u32
+        match self {
+            Refusal::Length => 1,
+            Refusal::Crc => 2,
+            Refusal::Header => 3,
+            Refusal::NotInBase => 4,
+            Refusal::State => 5,
+            Refusal::TooLong => 6,
+            Refusal::NoSlots => 7,
+            Refusal::Full => 8,
+            Refusal::UnitsLeft => 10,
+            Refusal::Buffer { .. } => 11,
+            Refusal::Nothing => 12,
+            Refusal::Settings => 13,
+            Refusal::NoChannel => 14,
+            Refusal::Ignored => 16,
+        }
+    }
+
+    /// The octets that were wanted of a buffer which is too small, else 0.
+    pub fn wanted(self) -> usize {
+        match self {
+            Refusal::Buffer { wanted } => wanted,
+            _ => 0,
+        }
     }
 }
 
@@ -57,11 +83,15 @@ pub(crate) fn refuse_if(wrong: bool, refusal: Refusal) -> Result<(), Refusal> {
 pub struct Answer {
     /// The number in document 01's table.
     pub number: u8,
-    /// Octets written, of a packet or of a unit. They lie at the front of the
-    /// lent buffer.
+    /// With 0 and 15 the octets written, of a packet or of a unit: they lie at
+    /// the front of the lent buffer. With 11 how many octets were wanted.
     pub length: usize,
     /// Units that this Data Ack confirmed.
     pub confirmed: usize,
+    /// The channel that the call served, by its index, also where its own step
+    /// refused; none where the call came to no channel. Of a tick, the lowest
+    /// of those that went inactive in it.
+    pub index: Option<usize>,
 }
 
 impl Answer {
@@ -76,6 +106,23 @@ impl Answer {
             number,
             length: 0,
             confirmed: 0,
+            index: None,
+        }
+    }
+
+    /// Octets written at the front of the lent buffer.
+    pub fn octets(self) -> usize {
+        match self.number {
+            0 | 15 => self.length,
+            _ => 0,
+        }
+    }
+
+    /// The same, of the channel with this index.
+    pub(crate) fn at(self, index: usize) -> Answer {
+        Answer {
+            index: Some(index),
+            ..self
         }
     }
 
@@ -104,9 +151,18 @@ impl Answer {
     }
 }
 
+impl From<Refusal> for Answer {
+    fn from(refusal: Refusal) -> Answer {
+        Answer {
+            length: refusal.wanted(),
+            ..Answer::of(refusal.number() as u8)
+        }
+    }
+}
+
 impl From<Result<Answer, Refusal>> for Answer {
     fn from(result: Result<Answer, Refusal>) -> Answer {
-        result.unwrap_or_else(|refusal| Answer::of(refusal as u8))
+        result.unwrap_or_else(Answer::from)
     }
 }
 
@@ -118,8 +174,9 @@ mod tests {
     #[test]
     fn the_refusals_are_all_numbers_but_0_9_and_15() {
         use Refusal::*;
+        let small = Buffer { wanted: 12 };
         let refusals = [
-            Length, Crc, Header, NotInBase, State, TooLong, NoSlots, Full, UnitsLeft, Buffer,
+            Length, Crc, Header, NotInBase, State, TooLong, NoSlots, Full, UnitsLeft, small,
             Nothing, Settings, NoChannel, Ignored,
         ];
         let numbers = refusals.map(Refusal::number);
@@ -135,5 +192,12 @@ mod tests {
     fn a_refusal_comes_with_no_length_and_no_count() {
         let answer = Answer::from(Err(Refusal::Full));
         assert_eq!((answer.number, answer.length, answer.confirmed), (8, 0, 0));
+    }
+
+    /// With 11 the length says how many octets were wanted, and none is written.
+    #[test]
+    fn a_small_buffer_comes_with_the_length_wanted() {
+        let answer = Answer::from(Err(Refusal::Buffer { wanted: 40 }));
+        assert_eq!((answer.number, answer.length, answer.octets()), (11, 40, 0));
     }
 }

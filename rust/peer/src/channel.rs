@@ -58,6 +58,14 @@ impl Channel {
         }
     }
 
+    /// The tests of a transfer of so many octets.
+    pub(crate) fn test_transfer(&self, octets: usize) -> Result<(), Refusal> {
+        match self {
+            Channel::Sending(end) => end.test_transfer(octets).map(|_| ()),
+            Channel::Receiving(_) => Err(Refusal::State),
+        }
+    }
+
     /// The transmit end that a request needs; the other direction gives 5.
     pub(crate) fn sending(&mut self) -> Result<&mut SendingEnd, Refusal> {
         match self {

@@ -49,38 +49,51 @@ impl Node {
 
     /// An Open directive.
     pub fn open(&mut self, index: usize) -> Answer {
-        let opened = self.channel(index).and_then(|channel| channel.open());
-        opened.map(|()| Answer::DONE).into()
+        self.serve(index, |channel, _| channel.open().map(|()| Answer::DONE))
     }
 
     /// A Close directive; a receive end takes none (000, 4.5.2).
     pub fn close(&mut self, index: usize) -> Answer {
-        let end = self.channel(index).and_then(|channel| channel.sending());
-        let closed = end.and_then(|end| end.close());
-        closed.map(|()| Answer::DONE).into()
+        self.serve(index, |channel, _| {
+            let end = channel.sending()?;
+            end.close().map(|()| Answer::DONE)
+        })
     }
 
     /// A unit to be sent.
     pub fn transfer(&mut self, index: usize, unit: &[u8]) -> Answer {
-        let transferred = self.part(index).and_then(|(channel, mut slots)| {
+        self.serve(index, |channel, slots| {
             let end = channel.sending()?;
-            end.transfer(unit, &mut slots)
-        });
-        transferred.map(|()| Answer::DONE).into()
+            end.transfer(unit, slots).map(|()| Answer::DONE)
+        })
+    }
+
+    /// What a transfer of so many octets would answer now. Asking changes
+    /// nothing.
+    pub fn would_transfer(&self, index: usize, octets: usize) -> Answer {
+        match self.test_index(index) {
+            Ok(()) => {
+                let tested = self.channels[index].test_transfer(octets);
+                Answer::from(tested.map(|()| Answer::DONE)).at(index)
+            }
+            Err(refusal) => refusal.into(),
+        }
     }
 
     /// Takes the oldest complete unit of a receive end.
     pub fn take(&mut self, index: usize, out: &mut [u8]) -> Answer {
-        let end = self.channel(index).and_then(|channel| channel.receiving());
-        let taken = end.and_then(|end| end.take(out));
-        taken.map(Answer::written).into()
+        self.serve(index, |channel, _| {
+            let end = channel.receiving()?;
+            end.take(out).map(Answer::written)
+        })
     }
 
     /// Reclaims the oldest unconfirmed unit of a transmit end in CLOSED.
     pub fn reclaim(&mut self, index: usize, out: &mut [u8]) -> Answer {
-        let end = self.channel(index).and_then(|channel| channel.sending());
-        let reclaimed = end.and_then(|end| end.reclaim(out));
-        reclaimed.map(Answer::written).into()
+        self.serve(index, |channel, _| {
+            let end = channel.sending()?;
+            end.reclaim(out).map(Answer::written)
+        })
     }
 
     /// A tick for all channels: "answers 9 if any channel went inactive in it,
@@ -96,7 +109,7 @@ impl Node {
 
     /// The next packet for the link.
     pub fn next_packet(&mut self, out: &mut [u8]) -> Answer {
-        self.hand_out(out).map(Answer::written).into()
+        self.hand_out(out).into()
     }
 
     /// The state of a channel, if there is one of this index.
@@ -142,15 +155,13 @@ impl Node {
 
     fn tick_all(&mut self) -> Result<Answer, Refusal> {
         self.test_records()?;
-        let mut inactive = false;
-        for channel in &mut self.channels {
-            inactive |= channel.tick();
+        let mut lowest = None;
+        for (index, channel) in self.channels.iter_mut().enumerate() {
+            if channel.tick() {
+                lowest = lowest.or(Some(index));
+            }
         }
-        if inactive {
-            Ok(Answer::INACTIVE)
-        } else {
-            Ok(Answer::DONE)
-        }
+        Ok(lowest.map_or(Answer::DONE, |index| Answer::INACTIVE.at(index)))
     }
 
     /// Test 13 of every call but settings, "before any other test".
@@ -158,16 +169,29 @@ impl Node {
         refuse_if(self.channels.is_empty(), Refusal::Settings)
     }
 
-    /// The channel of this index, by the tests 13 and 14.
-    fn channel(&mut self, index: usize) -> Result<&mut Channel, Refusal> {
-        self.part(index).map(|(channel, _)| channel)
+    /// The tests 13 and 14 of a request.
+    fn test_index(&self, index: usize) -> Result<(), Refusal> {
+        self.test_records()?;
+        refuse_if(index >= self.channels.len(), Refusal::NoChannel)
+    }
+
+    /// A call that one channel serves. What its step answers, a refusal too,
+    /// comes with its index; what the tests 13 and 14 answer comes with none.
+    fn serve(
+        &mut self,
+        index: usize,
+        step: impl FnOnce(&mut Channel, &mut Slots) -> Result<Answer, Refusal>,
+    ) -> Answer {
+        match self.part(index) {
+            Ok((channel, mut slots)) => Answer::from(step(channel, &mut slots)).at(index),
+            Err(refusal) => refusal.into(),
+        }
     }
 
     /// The channel of this index and its part of the storage, by the tests 13
     /// and 14.
     fn part(&mut self, index: usize) -> Result<(&mut Channel, Slots<'_>), Refusal> {
-        self.test_records()?;
-        refuse_if(index >= self.channels.len(), Refusal::NoChannel)?;
+        self.test_index(index)?;
         let (before, others) = self.channels.split_at_mut(index);
         let before: Vec<Settings> = before.iter().map(|one| *one.settings()).collect();
         let (octets_from, lengths_from) = storage(&before);

@@ -113,14 +113,14 @@ pub fn read(packet: &[u8]) -> Result<Reading, Refusal> {
 pub fn write(fields: &Fields, payload: &[u8], out: &mut [u8]) -> Result<usize, Refusal> {
     test_base(fields)?;
     test_header(fields, payload.len())?;
-    let whole = HEADER_LENGTH + payload.len() + TRAILER_LENGTH;
-    let packet = out.get_mut(..whole).ok_or(Refusal::Buffer)?;
-    let (body, trailer) = packet.split_at_mut(whole - TRAILER_LENGTH);
+    let wanted = HEADER_LENGTH + payload.len() + TRAILER_LENGTH;
+    let packet = out.get_mut(..wanted).ok_or(Refusal::Buffer { wanted })?;
+    let (body, trailer) = packet.split_at_mut(wanted - TRAILER_LENGTH);
     let (header, room) = body.split_at_mut(HEADER_LENGTH);
     header.copy_from_slice(&header_of(fields, payload.len() as u16));
     room.copy_from_slice(payload);
     trailer.copy_from_slice(&crc(body).to_be_bytes());
-    Ok(whole)
+    Ok(wanted)
 }
 
 /// Test 1: the payload length X of a packet of exactly 12 + X octets. A true

@@ -77,9 +77,10 @@ pub(crate) fn rejoin(segments: &[Segment], out: &mut [u8]) -> Result<usize, Refu
         .iter()
         .flat_map(|segment| segment.octets.iter().copied())
         .collect();
-    let room = out.get_mut(..unit.len()).ok_or(Refusal::Buffer)?;
+    let wanted = unit.len();
+    let room = out.get_mut(..wanted).ok_or(Refusal::Buffer { wanted })?;
     room.copy_from_slice(&unit);
-    Ok(unit.len())
+    Ok(wanted)
 }
 
 #[cfg(test)]
@@ -147,6 +148,7 @@ mod tests {
         let segments = cut(b"0123456789", 4, 1);
         assert_eq!(rejoin(&segments, &mut out), Ok(10));
         assert_eq!(&out, b"0123456789\x09\x09");
-        assert_eq!(rejoin(&segments, &mut out[..9]), Err(Refusal::Buffer));
+        let small = Err(Refusal::Buffer { wanted: 10 });
+        assert_eq!(rejoin(&segments, &mut out[..9]), small);
     }
 }

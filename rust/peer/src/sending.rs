@@ -108,22 +108,30 @@ impl SendingEnd {
         Ok(())
     }
 
-    /// Accepts a unit and files its segments (000, 4.4.2).
-    pub(crate) fn transfer(&mut self, unit: &[u8], slots: &mut Slots) -> Result<(), Refusal> {
-        let held: usize = self.held.iter().map(Vec::len).sum();
-        let Phase::Open(window) = &mut self.phase else {
-            return Err(Refusal::State);
-        };
-        let most_payload = self.settings.most_payload as usize;
-        let needed = segment_count(unit.len(), most_payload);
+    /// The tests of a transfer, 5, 6 and 7; gives how many segments a unit of
+    /// so many octets has.
+    pub(crate) fn test_transfer(&self, octets: usize) -> Result<usize, Refusal> {
+        refuse_if(self.state() != State::Open, Refusal::State)?;
+        let needed = segment_count(octets, self.settings.most_payload as usize);
         refuse_if(
             needed > self.settings.most_segments as usize,
             Refusal::TooLong,
         )?;
+        let held: usize = self.held.iter().map(Vec::len).sum();
         refuse_if(
             held + needed > self.settings.slots as usize,
             Refusal::NoSlots,
         )?;
+        Ok(needed)
+    }
+
+    /// Accepts a unit and files its segments (000, 4.4.2).
+    pub(crate) fn transfer(&mut self, unit: &[u8], slots: &mut Slots) -> Result<(), Refusal> {
+        let needed = self.test_transfer(unit.len())?;
+        let Phase::Open(window) = &mut self.phase else {
+            return Err(Refusal::State);
+        };
+        let most_payload = self.settings.most_payload as usize;
         let segments = cut(unit, most_payload, window.add(needed));
         for segment in &segments {
             slots.file(segment.number, &segment.octets);

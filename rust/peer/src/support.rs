@@ -165,7 +165,7 @@ impl Rig {
     /// The whole answer of an arrival. A reply must be the packet's ack.
     pub(crate) fn arrival(&mut self, packet: &[u8]) -> Answer {
         let (answer, reply) = self.call(|node, out| node.arrival(packet, out));
-        if answer.length > 0 {
+        if answer.octets() > 0 {
             let fields = packet::read(packet).unwrap().fields;
             let ack = match fields.kind {
                 kind::DATA => kind::DATA_ACK,
@@ -207,10 +207,10 @@ impl Rig {
         if ![0, 9, 15].contains(&answer.number) {
             assert_eq!(self.node, before);
         }
-        if ![0, 15].contains(&answer.number) {
+        if ![0, 11, 15].contains(&answer.number) {
             assert_eq!((answer.length, answer.confirmed), (0, 0));
         }
-        let past = out.split_off(answer.length);
+        let past = out.split_off(answer.octets());
         assert!(past.iter().all(|&octet| octet == NOISE));
         (answer, out)
     }

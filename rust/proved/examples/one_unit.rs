@@ -3,7 +3,8 @@
 //! confirmed. What is a link between two machines elsewhere is here a buffer.
 
 use proved::record::{direction, PROTOCOL};
-use proved::{storage, Addresses, Answer, Channel, Limits, Node, NodeTable, Refusal, Settings};
+use proved::{storage, Addresses, Answer, Channel, Limits, Node, NodeTable, Outcome};
+use proved::{Refusal, Settings};
 
 const HOST: u8 = 64;
 const STATION: u8 = 65;
@@ -34,7 +35,7 @@ fn node(address: u8) -> Node {
 
 /// One packet from one end to the other, and the ack back. Gives how many units
 /// the ack confirmed.
-fn exchange(from: &mut NodeTable, to: &mut NodeTable, what: &str) -> Result<usize, Answer> {
+fn exchange(from: &mut NodeTable, to: &mut NodeTable, what: &str) -> Result<usize, Outcome> {
     let (mut packet, mut ack) = ([0; 28], [0; 12]);
     let (length, _) = done(from.next_packet(&mut packet))?;
     let (reply, _) = done(to.arrival(&packet[..length], &mut ack))?;
@@ -44,14 +45,14 @@ fn exchange(from: &mut NodeTable, to: &mut NodeTable, what: &str) -> Result<usiz
 }
 
 /// The length written and the units confirmed, or the answer that was not meant.
-fn done(answer: Answer) -> Result<(usize, usize), Answer> {
-    match answer {
-        Answer::Done { length, confirmed } => Ok((length, confirmed)),
+fn done(answer: Answer) -> Result<(usize, usize), Outcome> {
+    match answer.outcome {
+        Outcome::Done { length, confirmed } => Ok((length, confirmed)),
         other => Err(other),
     }
 }
 
-fn play(host: &mut NodeTable, station: &mut NodeTable) -> Result<(), Answer> {
+fn play(host: &mut NodeTable, station: &mut NodeTable) -> Result<(), Outcome> {
     done(host.open(0))?;
     done(station.open(0))?;
     exchange(host, station, "Open")?;
@@ -71,14 +72,14 @@ fn play(host: &mut NodeTable, station: &mut NodeTable) -> Result<(), Answer> {
 
     done(host.close(0))?;
     exchange(host, station, "Close")?;
-    match host.reclaim(0, &mut unit) {
-        Answer::Refused(Refusal::Nothing) => println!("nothing is left to reclaim: answer 12"),
+    match host.reclaim(0, &mut unit).outcome {
+        Outcome::Refused(Refusal::Nothing) => println!("nothing is left to reclaim: answer 12"),
         other => return Err(other),
     }
     Ok(())
 }
 
-fn main() -> Result<(), Answer> {
+fn main() -> Result<(), Outcome> {
     let of_host = settings(STATION, direction::SENDS);
     let of_station = settings(HOST, direction::RECEIVES);
     let (octets, lengths) = storage(&of_host);
@@ -91,6 +92,6 @@ fn main() -> Result<(), Answer> {
     let [l0, l1] = &mut slots;
     let host = NodeTable::settings(node(HOST), t0, m0, l0, &of_host);
     let station = NodeTable::settings(node(STATION), t1, m1, l1, &of_station);
-    let mut host = host.map_err(Answer::Refused)?;
-    play(&mut host, &mut station.map_err(Answer::Refused)?)
+    let mut host = host.map_err(Outcome::Refused)?;
+    play(&mut host, &mut station.map_err(Outcome::Refused)?)
 }

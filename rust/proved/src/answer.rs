@@ -1,12 +1,23 @@
-//! What a call answers, as an enum (document 01, Answer numbers).
+//! What a call answers, in words (document 01, Answer numbers).
 
 use crate::c::Said;
 use crate::words::Reason;
 use std::fmt;
 
-/// What a call answers.
+/// What a call answers: which channel it served, and what came of it.
 #[derive(Clone, Copy, Debug, PartialEq, Eq)]
-pub enum Answer {
+pub struct Answer {
+    /// The index of the channel that the call served, also where that channel's
+    /// own step refused; none where the call came to no channel. Of a tick, the
+    /// lowest of those that went inactive in it.
+    pub index: Option<usize>,
+    /// What came of it.
+    pub outcome: Outcome,
+}
+
+/// What came of a call.
+#[derive(Clone, Copy, Debug, PartialEq, Eq)]
+pub enum Outcome {
     /// 0: done.
     Done {
         /// Octets written.
@@ -27,69 +38,82 @@ pub enum Answer {
 
 /// Why nothing was done. Each has document 01's number.
 #[derive(Clone, Copy, Debug, PartialEq, Eq)]
-#[repr(u32)]
 pub enum Refusal {
     /// Under 12 octets, or not 12 + X.
-    Short = 1,
+    Short,
     /// The check sum is wrong.
-    Damaged = 2,
+    Damaged,
     /// Another header field is unexpected, or the payload is too long, or there
     /// is one where none may be.
-    Strange = 3,
+    Strange,
     /// Secondary header, prefix, or a type that the base lacks.
-    Lacking = 4,
+    Lacking,
     /// The state, or the direction, does not allow it.
-    State = 5,
+    State,
     /// The unit has over M segments.
-    Long = 6,
+    Long,
     /// Slots held and slots needed are over the slots.
-    NoRoom = 7,
+    NoRoom,
     /// The receive slots are full.
-    Full = 8,
+    Full,
     /// Units are untaken or unreclaimed.
-    Untaken = 10,
+    Untaken,
     /// The lent buffer is too small.
-    Small = 11,
+    Small {
+        /// The octets that it would have to have.
+        wanted: usize,
+    },
     /// There is nothing to hand out.
-    Nothing = 12,
+    Nothing,
     /// Bad settings, sizes that do not fit, or a record that lacks its standing
     /// condition.
-    Settings = 13,
+    Settings,
     /// No such channel.
-    NoChannel = 14,
+    NoChannel,
     /// The ack is ignored.
-    Ignored = 16,
+    Ignored,
 }
 
 impl Refusal {
-    /// Every refusal, by its number.
-    pub const ALL: [Refusal; 14] = [
-        Refusal::Short,
-        Refusal::Damaged,
-        Refusal::Strange,
-        Refusal::Lacking,
-        Refusal::State,
-        Refusal::Long,
-        Refusal::NoRoom,
-        Refusal::Full,
-        Refusal::Untaken,
-        Refusal::Small,
-        Refusal::Nothing,
-        Refusal::Settings,
-        Refusal::NoChannel,
-        Refusal::Ignored,
-    ];
-
     /// Document 01's number.
     pub fn number(self) -> u32 {
-        self as u32
+        match self {
+            Refusal::Short => 1,
+            Refusal::Damaged => 2,
+            Refusal::Strange => 3,
+            Refusal::Lacking => 4,
+            Refusal::State => 5,
+            Refusal::Long => 6,
+            Refusal::NoRoom => 7,
+            Refusal::Full => 8,
+            Refusal::Untaken => 10,
+            Refusal::Small { .. } => 11,
+            Refusal::Nothing => 12,
+            Refusal::Settings => 13,
+            Refusal::NoChannel => 14,
+            Refusal::Ignored => 16,
+        }
     }
 
-    /// The refusal with this number.
-    pub fn of(number: u32) -> Option<Refusal> {
-        Refusal::ALL
-            .into_iter()
-            .find(|refusal| refusal.number() == number)
+    /// The refusal with this number, and with the length that came with it.
+    pub fn of(number: u32, length: usize) -> Option<Refusal> {
+        Some(match number {
+            1 => Refusal::Short,
+            2 => Refusal::Damaged,
+            3 => Refusal::Strange,
+            4 => Refusal::Lacking,
+            5 => Refusal::State,
+            6 => Refusal::Long,
+            7 => Refusal::NoRoom,
+            8 => Refusal::Full,
+            10 => Refusal::Untaken,
+            11 => Refusal::Small { wanted: length },
+            12 => Refusal::Nothing,
+            13 => Refusal::Settings,
+            14 => Refusal::NoChannel,
+            16 => Refusal::Ignored,
+            _ => return None,
+        })
     }
 }
 
@@ -105,7 +129,7 @@ impl fmt::Display for Refusal {
             Refusal::NoRoom => "no room in the slots",
             Refusal::Full => "receive slots full",
             Refusal::Untaken => "units untaken or unreclaimed",
-            Refusal::Small => "buffer too small",
+            Refusal::Small { .. } => "buffer too small",
             Refusal::Nothing => "nothing to hand out",
             Refusal::Settings => "bad settings",
             Refusal::NoChannel => "no such channel",
@@ -114,9 +138,9 @@ impl fmt::Display for Refusal {
     }
 }
 
-impl Answer {
+impl Outcome {
     /// Done, with nothing written and nothing confirmed.
-    pub const DONE: Answer = Answer::Done {
+    pub const DONE: Outcome = Outcome::Done {
         length: 0,
         confirmed: 0,
     };
@@ -124,46 +148,62 @@ impl Answer {
     /// Document 01's number.
     pub fn number(self) -> u32 {
         match self {
-            Answer::Done { .. } => 0,
-            Answer::Repeated { .. } => 15,
-            Answer::Inactive(_) => 9,
-            Answer::Refused(refusal) => refusal.number(),
-        }
-    }
-
-    /// Octets written.
-    pub fn length(self) -> usize {
-        match self {
-            Answer::Done { length, .. } | Answer::Repeated { length } => length,
-            Answer::Inactive(_) | Answer::Refused(_) => 0,
-        }
-    }
-
-    /// Units that a Data Ack confirmed.
-    pub fn confirmed(self) -> usize {
-        match self {
-            Answer::Done { confirmed, .. } => confirmed,
-            _ => 0,
+            Outcome::Done { .. } => 0,
+            Outcome::Repeated { .. } => 15,
+            Outcome::Inactive(_) => 9,
+            Outcome::Refused(refusal) => refusal.number(),
         }
     }
 }
 
-/// The library answers by document 01's numbers and reasons alone: that is
-/// proved (`saidOf`), so that a number without a name here means that something
-/// else was linked.
-impl From<Said> for Answer {
-    fn from(said: Said) -> Self {
+impl Answer {
+    /// What a call over so many records said. The library answers by document
+    /// 01's numbers and reasons alone: that is proved (`saidOf`), so that a number
+    /// without a name here means that something else was linked.
+    pub fn of(said: Said, records: usize) -> Answer {
         let Said {
             number,
             reason,
             length,
             confirmed,
+            index,
         } = said;
-        match number {
-            0 => Answer::Done { length, confirmed },
-            15 => Answer::Repeated { length },
-            9 => Answer::Inactive(named(u8::try_from(reason).ok().and_then(Reason::of))),
-            _ => Answer::Refused(named(Refusal::of(number))),
+        let outcome = match number {
+            0 => Outcome::Done { length, confirmed },
+            15 => Outcome::Repeated { length },
+            9 => Outcome::Inactive(named(u8::try_from(reason).ok().and_then(Reason::of))),
+            _ => Outcome::Refused(named(Refusal::of(number, length))),
+        };
+        let index = (index < records).then_some(index);
+        Answer { index, outcome }
+    }
+
+    /// Document 01's number.
+    pub fn number(self) -> u32 {
+        self.outcome.number()
+    }
+
+    /// Octets written.
+    pub fn length(self) -> usize {
+        match self.outcome {
+            Outcome::Done { length, .. } | Outcome::Repeated { length } => length,
+            Outcome::Inactive(_) | Outcome::Refused(_) => 0,
+        }
+    }
+
+    /// Octets that were wanted of a buffer that is too small, if it is.
+    pub fn wanted(self) -> Option<usize> {
+        match self.outcome {
+            Outcome::Refused(Refusal::Small { wanted }) => Some(wanted),
+            _ => None,
+        }
+    }
+
+    /// Units that a Data Ack confirmed.
+    pub fn confirmed(self) -> usize {
+        match self.outcome {
+            Outcome::Done { confirmed, .. } => confirmed,
+            _ => 0,
         }
     }
 }

@@ -52,7 +52,7 @@ pub struct Reading {
 pub struct Writing {
     /// The answer number of document 01.
     pub answer: u32,
-    /// Octets written; 0 when it was refused.
+    /// With 0 the octets written, with 11 the octets wanted, else 0.
     pub length: usize,
 }
 
@@ -64,10 +64,24 @@ pub struct Said {
     pub number: u32,
     /// With 9 why the channel went inactive, else 0.
     pub reason: u32,
-    /// With 0 and 15 the octets written, else 0.
+    /// With 0 and 15 the octets written, with 11 the octets wanted, else 0.
     pub length: usize,
     /// With 0 the units that a Data Ack confirmed, else 0.
     pub confirmed: usize,
+    /// The index of the channel that the call served; as many as the table has
+    /// records where it served none. Of a tick, the lowest of those that went
+    /// inactive in it.
+    pub index: usize,
+}
+
+impl Said {
+    /// Octets that the call wrote at the front of its buffer.
+    pub fn written(self) -> usize {
+        match self.number {
+            0 | 15 => self.length,
+            _ => 0,
+        }
+    }
 }
 
 extern "C" {
@@ -94,18 +108,18 @@ extern "C" {
     pub fn peat_open(
         table: *mut Channel,
         records: usize,
-        memory: *const u8,
+        memory: *mut u8,
         octets: usize,
-        lengths: *const u16,
+        lengths: *mut u16,
         slots: usize,
         index: usize,
     ) -> Said;
     pub fn peat_close(
         table: *mut Channel,
         records: usize,
-        memory: *const u8,
+        memory: *mut u8,
         octets: usize,
-        lengths: *const u16,
+        lengths: *mut u16,
         slots: usize,
         index: usize,
     ) -> Said;
@@ -120,12 +134,22 @@ extern "C" {
         unit: *const u8,
         count: usize,
     ) -> Said;
+    pub fn peat_would_transfer(
+        table: *mut Channel,
+        records: usize,
+        memory: *mut u8,
+        octets: usize,
+        lengths: *mut u16,
+        slots: usize,
+        index: usize,
+        count: usize,
+    ) -> Said;
     pub fn peat_take(
         table: *mut Channel,
         records: usize,
-        memory: *const u8,
+        memory: *mut u8,
         octets: usize,
-        lengths: *const u16,
+        lengths: *mut u16,
         slots: usize,
         index: usize,
         out: *mut u8,
@@ -134,9 +158,9 @@ extern "C" {
     pub fn peat_reclaim(
         table: *mut Channel,
         records: usize,
-        memory: *const u8,
+        memory: *mut u8,
         octets: usize,
-        lengths: *const u16,
+        lengths: *mut u16,
         slots: usize,
         index: usize,
         out: *mut u8,
@@ -145,9 +169,9 @@ extern "C" {
     pub fn peat_next_packet(
         table: *mut Channel,
         records: usize,
-        memory: *const u8,
+        memory: *mut u8,
         octets: usize,
-        lengths: *const u16,
+        lengths: *mut u16,
         slots: usize,
         node: Node,
         out: *mut u8,

@@ -1,7 +1,9 @@
 //! Every call of the node over lent slices, with its answer as numbers, in the
 //! order of arguments of `crates/host`. docs/PROMISES.md says for each what it
 //! answers and what it leaves in every slice. No call has a condition: records
-//! that were spoilt, and slices of another size, are refused with 13.
+//! that were spoilt, and slices of another size, are refused with 13. Calls that
+//! serve one channel are lent memory and lengths to write, as one function serves
+//! them all; only a transfer and an arrival change an octet or a length there.
 //!
 //! Every `unsafe` here is sound for one reason: each pointer goes with the count
 //! of its own slice, a slice that is only read is lent as shared, and those that
@@ -35,15 +37,15 @@ pub fn settings(
 }
 
 /// An Open directive: 0, 5, 10, 13 or 14.
-pub fn open(table: &mut [Channel], memory: &[u8], lengths: &[u16], index: usize) -> Said {
+pub fn open(table: &mut [Channel], memory: &mut [u8], lengths: &mut [u16], index: usize) -> Said {
     // SAFETY: as above.
     unsafe {
         c::peat_open(
             table.as_mut_ptr(),
             table.len(),
-            memory.as_ptr(),
+            memory.as_mut_ptr(),
             memory.len(),
-            lengths.as_ptr(),
+            lengths.as_mut_ptr(),
             lengths.len(),
             index,
         )
@@ -51,15 +53,15 @@ pub fn open(table: &mut [Channel], memory: &[u8], lengths: &[u16], index: usize)
 }
 
 /// A Close directive: 0, 5, 13 or 14.
-pub fn close(table: &mut [Channel], memory: &[u8], lengths: &[u16], index: usize) -> Said {
+pub fn close(table: &mut [Channel], memory: &mut [u8], lengths: &mut [u16], index: usize) -> Said {
     // SAFETY: as above.
     unsafe {
         c::peat_close(
             table.as_mut_ptr(),
             table.len(),
-            memory.as_ptr(),
+            memory.as_mut_ptr(),
             memory.len(),
-            lengths.as_ptr(),
+            lengths.as_mut_ptr(),
             lengths.len(),
             index,
         )
@@ -90,11 +92,35 @@ pub fn transfer(
     }
 }
 
+/// What a transfer of so many octets would answer now: 0, 5, 6, 7, 13 or 14.
+/// Nothing changes, whatever the answer.
+pub fn would_transfer(
+    table: &mut [Channel],
+    memory: &mut [u8],
+    lengths: &mut [u16],
+    index: usize,
+    count: usize,
+) -> Said {
+    // SAFETY: as above.
+    unsafe {
+        c::peat_would_transfer(
+            table.as_mut_ptr(),
+            table.len(),
+            memory.as_mut_ptr(),
+            memory.len(),
+            lengths.as_mut_ptr(),
+            lengths.len(),
+            index,
+            count,
+        )
+    }
+}
+
 /// The oldest complete unit of a receiver: 0, 5, 11, 12, 13 or 14.
 pub fn take(
     table: &mut [Channel],
-    memory: &[u8],
-    lengths: &[u16],
+    memory: &mut [u8],
+    lengths: &mut [u16],
     index: usize,
     out: &mut [u8],
 ) -> Said {
@@ -103,9 +129,9 @@ pub fn take(
         c::peat_take(
             table.as_mut_ptr(),
             table.len(),
-            memory.as_ptr(),
+            memory.as_mut_ptr(),
             memory.len(),
-            lengths.as_ptr(),
+            lengths.as_mut_ptr(),
             lengths.len(),
             index,
             out.as_mut_ptr(),
@@ -117,8 +143,8 @@ pub fn take(
 /// The oldest unconfirmed unit of a sender in CLOSED: 0, 5, 11, 12, 13 or 14.
 pub fn reclaim(
     table: &mut [Channel],
-    memory: &[u8],
-    lengths: &[u16],
+    memory: &mut [u8],
+    lengths: &mut [u16],
     index: usize,
     out: &mut [u8],
 ) -> Said {
@@ -127,9 +153,9 @@ pub fn reclaim(
         c::peat_reclaim(
             table.as_mut_ptr(),
             table.len(),
-            memory.as_ptr(),
+            memory.as_mut_ptr(),
             memory.len(),
-            lengths.as_ptr(),
+            lengths.as_mut_ptr(),
             lengths.len(),
             index,
             out.as_mut_ptr(),
@@ -141,8 +167,8 @@ pub fn reclaim(
 /// The packet that goes out next: 0, 11, 12 or 13.
 pub fn next_packet(
     table: &mut [Channel],
-    memory: &[u8],
-    lengths: &[u16],
+    memory: &mut [u8],
+    lengths: &mut [u16],
     node: Node,
     out: &mut [u8],
 ) -> Said {
@@ -151,9 +177,9 @@ pub fn next_packet(
         c::peat_next_packet(
             table.as_mut_ptr(),
             table.len(),
-            memory.as_ptr(),
+            memory.as_mut_ptr(),
             memory.len(),
-            lengths.as_ptr(),
+            lengths.as_mut_ptr(),
             lengths.len(),
             node,
             out.as_mut_ptr(),

@@ -12,7 +12,7 @@ pub mod numbers;
 pub mod record;
 mod words;
 
-pub use answer::{Answer, Refusal};
+pub use answer::{Answer, Outcome, Refusal};
 pub use c::{Fields, Reading, Said, Writing};
 pub use node_table::{storage, NodeTable};
 pub use record::{Addresses, Channel, Limits, Lone, Node, Phase, Settings, Timers, Window};

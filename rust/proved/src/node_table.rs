@@ -1,7 +1,8 @@
 //! The node as a type: settings make it over what is lent, and hold that for as
 //! long as it lives, so that nothing else can touch a record between two calls.
 
-use crate::answer::{Answer, Refusal};
+use crate::answer::{Answer, Outcome, Refusal};
+use crate::c::Said;
 use crate::calls;
 use crate::record::{Channel, Node, Settings};
 use crate::words::{Reason, State};
@@ -41,8 +42,9 @@ impl<'a> NodeTable<'a> {
         lengths: &'a mut [u16],
         settings: &[Settings],
     ) -> Result<Self, Refusal> {
-        match calls::settings(table, memory, lengths, settings).into() {
-            Answer::Refused(refusal) => Err(refusal),
+        let said = calls::settings(table, memory, lengths, settings);
+        match Answer::of(said, table.len()).outcome {
+            Outcome::Refused(refusal) => Err(refusal),
             _ => Ok(NodeTable {
                 node,
                 table,
@@ -73,43 +75,63 @@ impl<'a> NodeTable<'a> {
 
     /// An Open directive.
     pub fn open(&mut self, index: usize) -> Answer {
-        calls::open(self.table, self.memory, self.lengths, index).into()
+        let said = calls::open(self.table, self.memory, self.lengths, index);
+        self.answer(said)
     }
 
     /// A Close directive.
     pub fn close(&mut self, index: usize) -> Answer {
-        calls::close(self.table, self.memory, self.lengths, index).into()
+        let said = calls::close(self.table, self.memory, self.lengths, index);
+        self.answer(said)
     }
 
     /// A unit for a sender to hold and send.
     pub fn transfer(&mut self, index: usize, unit: &[u8]) -> Answer {
-        calls::transfer(self.table, self.memory, self.lengths, index, unit).into()
+        let said = calls::transfer(self.table, self.memory, self.lengths, index, unit);
+        self.answer(said)
+    }
+
+    /// What a transfer of so many octets would answer now. Nothing changes,
+    /// whatever the answer.
+    pub fn would_transfer(&mut self, index: usize, count: usize) -> Answer {
+        let (table, memory) = (&mut *self.table, &mut *self.memory);
+        let said = calls::would_transfer(table, memory, self.lengths, index, count);
+        self.answer(said)
     }
 
     /// The oldest complete unit of a receiver, at the front of `out`.
     pub fn take(&mut self, index: usize, out: &mut [u8]) -> Answer {
-        calls::take(self.table, self.memory, self.lengths, index, out).into()
+        let said = calls::take(self.table, self.memory, self.lengths, index, out);
+        self.answer(said)
     }
 
     /// The oldest unconfirmed unit of a sender in CLOSED, at the front of `out`.
     pub fn reclaim(&mut self, index: usize, out: &mut [u8]) -> Answer {
-        calls::reclaim(self.table, self.memory, self.lengths, index, out).into()
+        let said = calls::reclaim(self.table, self.memory, self.lengths, index, out);
+        self.answer(said)
     }
 
     /// The packet that goes out next, at the front of `out`.
     pub fn next_packet(&mut self, out: &mut [u8]) -> Answer {
-        calls::next_packet(self.table, self.memory, self.lengths, self.node, out).into()
+        let said = calls::next_packet(self.table, self.memory, self.lengths, self.node, out);
+        self.answer(said)
     }
 
     /// A packet that came in; its reply, if it has one, at the front of `reply`,
     /// which has at least 12 octets.
     pub fn arrival(&mut self, packet: &[u8], reply: &mut [u8]) -> Answer {
         let (table, memory) = (&mut *self.table, &mut *self.memory);
-        calls::arrival(table, memory, self.lengths, self.node, packet, reply).into()
+        let said = calls::arrival(table, memory, self.lengths, self.node, packet, reply);
+        self.answer(said)
     }
 
     /// One tick of every timer.
     pub fn tick(&mut self) -> Answer {
-        calls::tick(self.table, self.memory, self.lengths).into()
+        let said = calls::tick(self.table, self.memory, self.lengths);
+        self.answer(said)
+    }
+
+    fn answer(&self, said: Said) -> Answer {
+        Answer::of(said, self.table.len())
     }
 }

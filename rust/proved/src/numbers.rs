@@ -18,7 +18,7 @@ pub mod direction {
     pub const RECEIVES: u8 = 1;
 }
 
-/// The states of a channel (000, 4.4.2 and 4.5.2).
+/// The states of a channel (000, 4.4.3 and 4.5.2).
 pub mod state {
     /// Nothing is sent or received.
     pub const CLOSED: u8 = 0;
@@ -40,7 +40,7 @@ pub mod reason {
     pub const LATE_OPEN: u8 = 2;
     /// A Control packet had another number than 0.
     pub const CONTROL_NUMBER: u8 = 3;
-    /// Data had a number neither in the window nor behind it.
+    /// Data had a number neither in the window nor at most k behind it.
     pub const DATA_NUMBER: u8 = 4;
     /// The flags of segments in a row do not make units.
     pub const BROKEN_FLAGS: u8 = 5;

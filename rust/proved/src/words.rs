@@ -3,7 +3,7 @@
 use crate::numbers::{reason, state};
 use std::fmt;
 
-/// The states of a channel (000, 4.4.2 and 4.5.2).
+/// The states of a channel (000, 4.4.3 and 4.5.2).
 #[derive(Clone, Copy, Debug, PartialEq, Eq)]
 pub enum State {
     /// Nothing is sent or received.
@@ -49,7 +49,7 @@ pub enum Reason {
     LateOpen,
     /// A Control packet had another number than 0.
     ControlNumber,
-    /// Data had a number neither in the window nor behind it.
+    /// Data had a number neither in the window nor at most k behind it.
     DataNumber,
     /// The flags of segments in a row do not make units.
     BrokenFlags,

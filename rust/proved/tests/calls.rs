@@ -1,10 +1,10 @@
 //! Every call of the node through the C interface: one unit goes from a host to a
 //! station and is confirmed. What passes by value is looked at field by field: a
-//! `Node` of two octets, which lies in every packet, and a `Said` of 24.
+//! `Node` of two octets, which lies in every packet, and a `Said` of 32.
 
 mod ends;
 
-use ends::{both_open, done, refused, End, HOST, LIMITS, STATION};
+use ends::{both_open, done, refused, unserved, End, HOST, LIMITS, STATION};
 use proved::record::{direction, reason, state};
 use proved::{calls, Node, Said};
 
@@ -47,7 +47,7 @@ fn the_node_by_value_lies_in_its_packets() {
     let others = [(65, 5), (66, 238), (238, 65)];
     for (address, protocol) in others {
         station.node = Node { address, protocol };
-        assert_eq!(station.arrival(&open).0, refused(3));
+        assert_eq!(station.arrival(&open).0, unserved(3));
     }
     station.node = STATION;
     let (said, ack) = station.arrival(&open);
@@ -61,10 +61,10 @@ fn nine_with_its_reason_then_reclaimed() {
     assert_eq!(host.transfer(b"held"), done(0, 0));
     for _ in 0..2 {
         host.packet();
-        assert!((0..5).all(|_| host.tick() == done(0, 0)));
+        assert!((0..5).all(|_| host.tick() == unserved(0)));
     }
     host.packet();
-    assert!((0..4).all(|_| host.tick() == done(0, 0)));
+    assert!((0..4).all(|_| host.tick() == unserved(0)));
     let inactive = Said {
         number: 9,
         reason: u32::from(reason::RETRIES),
@@ -99,15 +99,18 @@ fn closed_by_its_ack() {
 #[test]
 fn empty_slices_are_refused() {
     let (t, mem, lens) = (&mut [][..], &mut [][..], &mut [][..]);
-    assert_eq!(calls::settings(t, mem, lens, &[]), refused(13));
-    assert_eq!(calls::open(t, mem, lens, 0), refused(13));
-    assert_eq!(calls::close(t, mem, lens, 0), refused(13));
-    assert_eq!(calls::transfer(t, mem, lens, 0, &[]), refused(13));
-    assert_eq!(calls::take(t, mem, lens, 0, &mut []), refused(13));
-    assert_eq!(calls::reclaim(t, mem, lens, 0, &mut []), refused(13));
+    // As many as there are records is 0 here.
+    let none = refused(13);
+    assert_eq!(calls::settings(t, mem, lens, &[]), none);
+    assert_eq!(calls::open(t, mem, lens, 0), none);
+    assert_eq!(calls::close(t, mem, lens, 0), none);
+    assert_eq!(calls::transfer(t, mem, lens, 0, &[]), none);
+    assert_eq!(calls::would_transfer(t, mem, lens, 0, 0), none);
+    assert_eq!(calls::take(t, mem, lens, 0, &mut []), none);
+    assert_eq!(calls::reclaim(t, mem, lens, 0, &mut []), none);
     let next = calls::next_packet(t, mem, lens, HOST, &mut []);
-    assert_eq!(next, refused(13));
+    assert_eq!(next, none);
     let came = calls::arrival(t, mem, lens, HOST, &[], &mut []);
-    assert_eq!(came, refused(13));
-    assert_eq!(calls::tick(t, mem, lens), refused(13));
+    assert_eq!(came, none);
+    assert_eq!(calls::tick(t, mem, lens), none);
 }

@@ -1,7 +1,7 @@
 //! The numbers of the C header are those of this crate, and none is left out.
 
 use proved::record::{direction, lone, reason, state, PROTOCOL, RECORDS, SLOTS};
-use proved::{Answer, Reason, Refusal};
+use proved::{Outcome, Reason, Refusal};
 
 const HEADER: &str = include_str!("../../../include/peatwimple_records.h");
 
@@ -23,14 +23,15 @@ fn numbers() -> Vec<(String, usize)> {
 fn of_answers() -> Vec<(&'static str, usize)> {
     let refusals = "SHORT DAMAGED STRANGE LACKING STATE LONG NO_ROOM FULL UNTAKEN SMALL NOTHING \
                     SETTINGS NO_CHANNEL IGNORED";
-    let numbers = Refusal::ALL.map(|refusal| refusal.number() as usize);
+    let named = (0..=16).filter_map(|number| Refusal::of(number, 0));
+    let numbers = named.map(|refusal| refusal.number() as usize);
     let mut answers: Vec<(&str, usize)> = refusals.split(' ').zip(numbers).collect();
     let others = [
-        ("DONE", Answer::DONE),
-        ("INACTIVE", Answer::Inactive(Reason::Retries)),
-        ("REPEATED", Answer::Repeated { length: 12 }),
+        ("DONE", Outcome::DONE),
+        ("INACTIVE", Outcome::Inactive(Reason::Retries)),
+        ("REPEATED", Outcome::Repeated { length: 12 }),
     ];
-    answers.extend(others.map(|(name, answer)| (name, answer.number() as usize)));
+    answers.extend(others.map(|(name, outcome)| (name, outcome.number() as usize)));
     answers
 }
 

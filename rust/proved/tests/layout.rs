@@ -44,7 +44,7 @@ fn records_lie_as_the_table_says() {
         Window: start place behind ahead flight way;
         Timers: closing left tries;
         Channel: addresses limits phase window timers marks acked;
-        Said: number reason length confirmed;
+        Said: number reason length confirmed index;
         Fields: destination protocol version secondary flags kind channel number reserved prefix source;
         Reading: answer fields start length;
         Writing: answer length;

@@ -4,9 +4,8 @@ mod ends;
 
 use ends::{HOST, LIMITS, STATION};
 use proved::record::direction;
-use proved::{
-    storage, Addresses, Answer, Channel, NodeTable, Reason, Refusal, Said, Settings, State,
-};
+use proved::{storage, Addresses, Answer, Channel, NodeTable, Outcome};
+use proved::{Reason, Refusal, Said, Settings, State};
 
 /// Channel 0 sends, channel 1 receives, to and from the node itself.
 fn settings() -> [Settings; 2] {
@@ -28,6 +27,12 @@ fn with_node(play: impl FnOnce(&mut NodeTable)) {
     play(&mut made.expect("these settings are good"));
 }
 
+/// What the channel of this index gave.
+fn at(index: usize, outcome: Outcome) -> Answer {
+    let index = Some(index);
+    Answer { index, outcome }
+}
+
 /// The next packet to the node itself, and its ack.
 fn exchange(node: &mut NodeTable) -> [Answer; 3] {
     let (mut packet, mut ack) = ([0; 28], [0; 12]);
@@ -40,31 +45,29 @@ fn exchange(node: &mut NodeTable) -> [Answer; 3] {
 #[test]
 fn a_unit_to_itself() {
     with_node(|node| {
-        assert_eq!([node.open(0), node.open(1)], [Answer::DONE; 2]);
+        assert_eq!(node.open(0), at(0, Outcome::DONE));
+        assert_eq!(node.open(1), at(1, Outcome::DONE));
         assert_eq!(node.state(0), Some(State::Enabled));
-        assert_eq!(node.transfer(0, b"early"), Answer::Refused(Refusal::State));
+        let early = node.transfer(0, b"early");
+        assert_eq!(early, at(0, Outcome::Refused(Refusal::State)));
         exchange(node);
         assert_eq!([node.state(0), node.state(1)], [Some(State::Open); 2]);
-        assert_eq!(node.transfer(0, b"event"), Answer::DONE);
-        let (length, confirmed) = (17, 0);
-        let out = Answer::Done { length, confirmed };
-        let (length, confirmed) = (12, 0);
-        let there = Answer::Done { length, confirmed };
-        let (length, confirmed) = (0, 1);
-        let back = Answer::Done { length, confirmed };
-        assert_eq!(exchange(node), [out, there, back]);
+        assert_eq!(node.transfer(0, b"event"), at(0, Outcome::DONE));
+        let done = |length, confirmed| Outcome::Done { length, confirmed };
+        let expected = [at(0, done(17, 0)), at(1, done(12, 0)), at(0, done(0, 1))];
+        assert_eq!(exchange(node), expected);
         let mut unit = [0; 6];
-        assert_eq!(
-            node.take(1, &mut unit[..4]),
-            Answer::Refused(Refusal::Small)
-        );
+        let small = Outcome::Refused(Refusal::Small { wanted: 5 });
+        assert_eq!(node.take(1, &mut unit[..4]), at(1, small));
         assert_eq!(node.take(1, &mut unit).length(), 5);
         assert_eq!(&unit, b"event\0");
-        assert_eq!(node.close(0), Answer::DONE);
+        assert_eq!(node.close(0), at(0, Outcome::DONE));
         exchange(node);
         assert_eq!(node.state(0), Some(State::Closed));
         assert_eq!(node.state(1), Some(State::Closing));
-        assert_eq!(node.open(2), Answer::Refused(Refusal::NoChannel));
+        let outcome = Outcome::Refused(Refusal::NoChannel);
+        let index = None;
+        assert_eq!(node.open(2), Answer { index, outcome });
         assert_eq!((node.state(2), node.reason(2)), (None, None));
     });
 }
@@ -79,11 +82,12 @@ fn a_channel_goes_inactive() {
             (0..5).map(|_| node.tick()).collect::<Vec<_>>()
         });
         let last = ticks.last();
-        assert_eq!(last, Some(Answer::Inactive(Reason::Retries)));
+        let inactive = Outcome::Inactive(Reason::Retries);
+        assert_eq!(last, Some(at(0, inactive)));
         assert_eq!(node.reason(0), Some(Reason::Retries));
         assert_eq!(node.state(0), Some(State::Closed));
-        let nothing = Answer::Refused(Refusal::Nothing);
-        assert_eq!(node.reclaim(0, &mut packet), nothing);
+        let nothing = Outcome::Refused(Refusal::Nothing);
+        assert_eq!(node.reclaim(0, &mut packet), at(0, nothing));
         assert_eq!(node.records()[0].addresses, settings()[0].addresses);
     });
 }
@@ -105,14 +109,22 @@ fn bad_settings_make_no_node() {
 fn every_number_has_its_name() {
     for number in 0..=16 {
         let reason = if number == 9 { 4 } else { 0 };
+        let (length, confirmed, index) = (7, 0, 1);
         let said = Said {
             number,
             reason,
-            length: 0,
-            confirmed: 0,
+            length,
+            confirmed,
+            index,
         };
-        assert_eq!(Answer::from(said).number(), number);
+        let answer = Answer::of(said, 2);
+        assert_eq!((answer.number(), answer.index), (number, Some(1)));
+        let written = matches!(number, 0 | 15);
+        assert_eq!(answer.length(), if written { 7 } else { 0 });
+        assert_eq!(answer.wanted(), (number == 11).then_some(7));
+        assert_eq!(Answer::of(said, 1).index, None);
     }
-    let named = Refusal::ALL.map(Refusal::number);
+    let named = (0..=20).filter_map(|number| Refusal::of(number, 0));
+    let named: Vec<u32> = named.map(Refusal::number).collect();
     assert_eq!(named, [1, 2, 3, 4, 5, 6, 7, 8, 10, 11, 12, 13, 14, 16]);
 }

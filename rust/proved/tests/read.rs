@@ -9,7 +9,7 @@
 
 mod ends;
 
-use ends::{both_open, done, refused, End, HOST, LIMITS, STATION};
+use ends::{both_open, done, refused, unserved, End, HOST, LIMITS, STATION};
 use proved::record::{direction, lone, reason, state, SLOTS};
 use proved::{calls, Channel, Limits, Said, Settings};
 
@@ -18,6 +18,7 @@ const INACTIVE: Said = Said {
     reason: reason::RETRIES as u32,
     length: 0,
     confirmed: 0,
+    index: 0,
 };
 
 type Overwrite = fn(&mut Channel);
@@ -49,10 +50,10 @@ fn receiving() -> End {
 fn all_refused(end: fn() -> End, overwrites: &[Overwrite]) {
     for (place, overwrite) in overwrites.iter().enumerate() {
         let mut end = end();
-        assert_eq!(end.tick(), done(0, 0));
+        assert_eq!(end.tick(), unserved(0));
         overwrite(end.record());
         let before = *end.record();
-        assert_eq!(end.tick(), refused(13), "overwrite {place}");
+        assert_eq!(end.tick(), unserved(13), "overwrite {place}");
         assert_eq!(*end.record(), before, "overwrite {place}");
     }
 }
@@ -125,9 +126,9 @@ fn every_mark() {
     let mut host = End::made(HOST, STATION, direction::SENDS, limits);
     for place in 0..SLOTS {
         host.record().marks[place] = 5;
-        assert_eq!(host.tick(), refused(13), "place {place}");
+        assert_eq!(host.tick(), unserved(13), "place {place}");
         host.record().marks[place] = 0;
-        assert_eq!(host.tick(), done(0, 0));
+        assert_eq!(host.tick(), unserved(0));
     }
 }
 
@@ -145,7 +146,7 @@ fn every_timer_and_its_tries() {
         let (mut host, _) = both_open(limits);
         host.record().timers.left[place] = 1;
         host.record().timers.tries[place] = 1;
-        assert_eq!(host.tick(), done(0, 0), "place {place}");
+        assert_eq!(host.tick(), unserved(0), "place {place}");
         assert_eq!(host.record().timers.left[place], 0);
     }
 }
@@ -155,7 +156,7 @@ fn what_the_condition_leaves_free() {
     let mut host = End::enabled(HOST, STATION, direction::SENDS, LIMITS);
     host.packet();
     host.record().phase.control.timer = 1;
-    assert_eq!(host.tick(), done(0, 0));
+    assert_eq!(host.tick(), unserved(0));
     assert_eq!(host.record().phase.control.state, lone::AGAIN);
     host.packet();
     host.record().phase.control.timer = 1;
@@ -173,7 +174,7 @@ fn what_the_condition_leaves_free() {
     host.packet();
     station.record().phase.state = state::CLOSING;
     station.record().timers.closing = 1;
-    assert_eq!(station.tick(), done(0, 0));
+    assert_eq!(station.tick(), unserved(0));
     assert_eq!(station.record().phase.state, state::CLOSED);
 }
 

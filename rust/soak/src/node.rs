@@ -45,12 +45,12 @@ impl Node {
 
     /// An Open directive.
     pub fn open(&mut self, index: usize) -> Said {
-        calls::open(&mut self.table, &self.memory, &self.lengths, index)
+        calls::open(&mut self.table, &mut self.memory, &mut self.lengths, index)
     }
 
     /// A Close directive.
     pub fn close(&mut self, index: usize) -> Said {
-        calls::close(&mut self.table, &self.memory, &self.lengths, index)
+        calls::close(&mut self.table, &mut self.memory, &mut self.lengths, index)
     }
 
     /// A unit to be sent.
@@ -107,7 +107,7 @@ impl Node {
         } = self;
         let mut reply = [0; 12];
         let said = calls::arrival(table, memory, lengths, *own, packet, &mut reply);
-        (said, reply[..said.length].to_vec())
+        (said, reply[..said.written()].to_vec())
     }
 
     /// A tick.

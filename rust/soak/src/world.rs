@@ -143,6 +143,9 @@ impl World {
         let account = &mut self.accounts[usize::from(flight.channel)];
         let place = [account.host, account.subscriber][end];
         account.follow(end, self.nodes[node].record(place.index));
+        if !flight.damaged {
+            assert_eq!(said.index, place.index, "{said:?}");
+        }
         if flight.damaged {
             assert!([1, 2].contains(&said.number), "{said:?}");
             self.counts.packets[1] += 1;

@@ -51,11 +51,11 @@ impl Side for Ours {
     }
 
     fn open(&mut self, index: usize) -> Given {
-        proved::calls::open(&mut self.table, &self.memory, &self.lengths, index).into()
+        proved::calls::open(&mut self.table, &mut self.memory, &mut self.lengths, index).into()
     }
 
     fn close(&mut self, index: usize) -> Given {
-        proved::calls::close(&mut self.table, &self.memory, &self.lengths, index).into()
+        proved::calls::close(&mut self.table, &mut self.memory, &mut self.lengths, index).into()
     }
 
     fn transfer(&mut self, index: usize, unit: &[u8]) -> Given {
@@ -66,11 +66,17 @@ impl Side for Ours {
     }
 
     fn take(&mut self, index: usize, out: &mut [u8]) -> Given {
-        proved::calls::take(&mut self.table, &self.memory, &self.lengths, index, out).into()
+        let Ours {
+            memory, lengths, ..
+        } = self;
+        proved::calls::take(&mut self.table, memory, lengths, index, out).into()
     }
 
     fn reclaim(&mut self, index: usize, out: &mut [u8]) -> Given {
-        proved::calls::reclaim(&mut self.table, &self.memory, &self.lengths, index, out).into()
+        let Ours {
+            memory, lengths, ..
+        } = self;
+        proved::calls::reclaim(&mut self.table, memory, lengths, index, out).into()
     }
 
     fn next_packet(&mut self, out: &mut [u8]) -> Given {

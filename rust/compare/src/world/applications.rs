@@ -72,7 +72,19 @@ impl World {
             _ => self.noise.below(longest + 1),
         };
         let unit = self.noise.octets(length);
+        if self.noise.one_in(4) {
+            return self.ask_and_transfer(node, index, &unit);
+        }
         self.call(node, Call::Transfer(index, &unit), 0);
+    }
+
+    /// The question, and then the transfer: it answers what was told.
+    fn ask_and_transfer(&mut self, node: usize, index: usize, unit: &[u8]) {
+        let question = Call::WouldTransfer(index, unit.len());
+        let told = self.call(node, question, 0).said;
+        let said = self.call(node, Call::Transfer(index, unit), 0).said;
+        assert_eq!(said, told);
+        self.tally.case("question: what the transfer then answers");
     }
 
     /// A buffer that the oldest unit fits into, or mostly.
@@ -120,13 +132,15 @@ impl World {
         let length = self.noise.below(4);
         let unit = self.noise.octets(length);
         let room = self.noise.below(40);
-        let call = match self.noise.below(8) {
+        let count = self.noise.one_of(&[length, 100, 70_000, usize::MAX]);
+        let call = match self.noise.below(10) {
             0 => Call::Open(index),
             // A Close of one that is there ends its opening.
             1 if self.trouble.breaking == 0 => Call::Close(beyond),
             1 => Call::Close(index),
             2 | 3 => Call::Transfer(index, &unit),
             4 | 5 => Call::Take(index),
+            6 | 7 => Call::WouldTransfer(index, count),
             _ => Call::Reclaim(index),
         };
         self.call(node, call, room);

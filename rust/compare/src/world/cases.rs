@@ -1,9 +1,10 @@
 //! Which cases a call was, for the table that is printed.
 
 use super::*;
+use proved::Said;
 
 /// Every case that a run must have had, beside those with a list of their own.
-pub const CASES: [&str; 18] = [
+pub const CASES: [&str; 21] = [
     "inactive: retries",
     "inactive: late Open",
     "inactive: Control number",
@@ -12,6 +13,9 @@ pub const CASES: [&str; 18] = [
     "confirmed: no unit by a Data Ack",
     "confirmed: one unit by a Data Ack",
     "confirmed: several units by a Data Ack",
+    "index: a tick names another than the first",
+    "index: a unit of another than the first is confirmed",
+    "question: what the transfer then answers",
     "wrapped: Data number 0 accepted",
     "wrapped: the ack of number 0 recorded",
     "taken: a unit of no octets",
@@ -61,16 +65,20 @@ impl World {
             ("read Data", 0) if packet[7] == 0 => {
                 self.tally.case("wrapped: Data number 0 accepted")
             }
-            ("read Data Ack", 0) => self.note_ack(packet[7], said.confirmed),
+            ("read Data Ack", 0) => self.note_ack(packet[7], said),
             _ => {}
         }
     }
 
-    fn note_ack(&mut self, number: u8, confirmed: usize) {
+    fn note_ack(&mut self, number: u8, said: Said) {
         if number == 0 {
             self.tally.case("wrapped: the ack of number 0 recorded");
         }
-        self.tally.case(match confirmed {
+        if said.confirmed > 0 && said.index > 0 {
+            self.tally
+                .case("index: a unit of another than the first is confirmed");
+        }
+        self.tally.case(match said.confirmed {
             0 => "confirmed: no unit by a Data Ack",
             1 => "confirmed: one unit by a Data Ack",
             _ => "confirmed: several units by a Data Ack",

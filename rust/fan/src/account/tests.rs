@@ -1,7 +1,7 @@
 //! Each way in which the account could be wrong is noticed.
 
 use super::{AtStation, Fate, Seen};
-use proved::{Answer, Refusal};
+use proved::{Outcome, Refusal};
 
 fn units(words: &[&str]) -> Vec<Vec<u8>> {
     words.iter().map(|word| word.as_bytes().to_vec()).collect()
@@ -9,9 +9,9 @@ fn units(words: &[&str]) -> Vec<Vec<u8>> {
 
 /// Of events 1, 2 and 4, while 3 was refused: 1 is confirmed, 2 came and is not.
 fn sound() -> Seen {
-    let full = Answer::Refused(Refusal::NoRoom);
-    let answers = [Answer::DONE, Answer::DONE, full, Answer::DONE];
-    let published = ["1", "2", "3", "4"].into_iter().zip(answers);
+    let full = Outcome::Refused(Refusal::NoRoom);
+    let outcomes = [Outcome::DONE, Outcome::DONE, full, Outcome::DONE];
+    let published = ["1", "2", "3", "4"].into_iter().zip(outcomes);
     Seen {
         published: published.map(|(event, at)| (event.into(), at)).collect(),
         confirmed: 1,

@@ -4,7 +4,8 @@
 use crate::answer::{refuse_if, Answer, Refusal};
 use crate::packet::{self, kind, Fields, HEADER_LENGTH, TRAILER_LENGTH};
 use crate::receiving::Reaction;
-use crate::settings::Direction;
+use crate::sending::SendingEnd;
+use crate::settings::{Direction, NodeSettings};
 
 use super::Node;
 
@@ -14,7 +15,8 @@ const ACK_LENGTH: usize = HEADER_LENGTH + TRAILER_LENGTH;
 impl Node {
     pub(super) fn arrive(&mut self, packet: &[u8], reply: &mut [u8]) -> Result<Answer, Refusal> {
         self.test_records()?;
-        refuse_if(reply.len() < ACK_LENGTH, Refusal::Buffer)?;
+        let wanted = ACK_LENGTH;
+        refuse_if(reply.len() < wanted, Refusal::Buffer { wanted })?;
         let reading = packet::read(packet)?;
         let fields = reading.fields;
         let for_this_node =
@@ -30,12 +32,7 @@ impl Node {
     /// An Ack looks for a sending record.
     fn ack_arrives(&mut self, fields: &Fields) -> Result<Answer, Refusal> {
         let index = self.find(Direction::Sending, fields)?;
-        let end = self.channel(index)?.sending()?;
-        if fields.kind == kind::DATA_ACK {
-            end.data_ack(fields.number).map(Answer::confirmed)
-        } else {
-            end.control_ack(fields.number).map(|()| Answer::DONE)
-        }
+        Ok(self.serve(index, |channel, _| acknowledged(channel.sending()?, fields)))
     }
 
     /// Data and Control, the packets of the forward direction (000, 4.2), look
@@ -47,18 +44,20 @@ impl Node {
         reply: &mut [u8],
     ) -> Result<Answer, Refusal> {
         let index = self.find(Direction::Receiving, fields)?;
-        let (channel, mut slots) = self.part(index)?;
-        let end = channel.receiving()?;
-        let reaction = if fields.kind == kind::DATA {
-            end.data(fields.number, fields.flags, payload, &mut slots)?
-        } else {
-            end.control(fields.kind, fields.number)?
-        };
-        match reaction {
-            Reaction::Accepted => self.acknowledge(fields, reply).map(Answer::written),
-            Reaction::Repeated => self.acknowledge(fields, reply).map(Answer::repeated),
-            Reaction::Inactive => Ok(Answer::INACTIVE),
-        }
+        let node = self.node;
+        Ok(self.serve(index, |channel, slots| {
+            let end = channel.receiving()?;
+            let reaction = if fields.kind == kind::DATA {
+                end.data(fields.number, fields.flags, payload, slots)?
+            } else {
+                end.control(fields.kind, fields.number)?
+            };
+            match reaction {
+                Reaction::Accepted => acknowledge(&node, fields, reply).map(Answer::written),
+                Reaction::Repeated => acknowledge(&node, fields, reply).map(Answer::repeated),
+                Reaction::Inactive => Ok(Answer::INACTIVE),
+            }
+        }))
     }
 
     /// The record for a packet: "none found is 14". The source address is the
@@ -72,20 +71,29 @@ impl Node {
             })
             .ok_or(Refusal::NoChannel)
     }
+}
 
-    /// Writes the ack for a packet: its number copied (000, 4.5.3.4), back to
-    /// its source (000, 4.2.3.1).
-    fn acknowledge(&self, fields: &Fields, reply: &mut [u8]) -> Result<usize, Refusal> {
-        let kind = if fields.kind == kind::DATA {
-            kind::DATA_ACK
-        } else {
-            kind::CONTROL_ACK
-        };
-        let ack = Fields {
-            kind,
-            number: fields.number,
-            ..self.node.header(fields.source, fields.channel)
-        };
-        packet::write(&ack, &[], reply)
+/// What an Ack does to the transmit end that it is for.
+fn acknowledged(end: &mut SendingEnd, fields: &Fields) -> Result<Answer, Refusal> {
+    if fields.kind == kind::DATA_ACK {
+        end.data_ack(fields.number).map(Answer::confirmed)
+    } else {
+        end.control_ack(fields.number).map(|()| Answer::DONE)
     }
+}
+
+/// Writes the ack for a packet: its number copied (000, 4.5.3.4), back to its
+/// source (000, 4.2.3.1).
+fn acknowledge(node: &NodeSettings, fields: &Fields, reply: &mut [u8]) -> Result<usize, Refusal> {
+    let kind = if fields.kind == kind::DATA {
+        kind::DATA_ACK
+    } else {
+        kind::CONTROL_ACK
+    };
+    let ack = Fields {
+        kind,
+        number: fields.number,
+        ..node.header(fields.source, fields.channel)
+    };
+    packet::write(&ack, &[], reply)
 }

@@ -2,6 +2,7 @@ mod arrivals;
 mod channels;
 mod packets;
 mod requests;
+mod served;
 mod table;
 
 use super::*;

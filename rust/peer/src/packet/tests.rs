@@ -187,5 +187,7 @@ fn writing_tests_4_then_3_then_11() {
     assert_eq!(refused(version, b"", 0), Refusal::Header);
     assert_eq!(refused(data(4), b"", 0), Refusal::Header);
     assert_eq!(refused(whole, &[0; 65_536], 0), Refusal::Header);
-    assert_eq!(refused(whole, b"abc", 14), Refusal::Buffer);
+    let small = Refusal::Buffer { wanted: 15 };
+    assert_eq!(refused(whole, b"abc", 14), small);
+    assert_eq!(refused(whole, b"abc", 0), small);
 }

@@ -3,6 +3,7 @@
 use std::collections::BTreeSet;
 
 use link::Noise;
+use peer::answer::Answer;
 use peer::crc::crc;
 use peer::node::Node;
 use peer::packet::{flags, kind};
@@ -102,6 +103,7 @@ impl Player {
             _ => self.noise.octets(length),
         };
         let (memory, lengths) = (self.node.memory().to_vec(), self.node.lengths().to_vec());
+        let before = self.node.clone();
         let (answer, reply) = checked(&mut self.node, buffer, |node, out| match choice {
             0..=9 => node.arrival(&octets, out),
             10 | 11 => node.open(index),
@@ -118,7 +120,33 @@ impl Player {
         if let (0..=9, 0, 12) = (choice, answer.number, reply.len()) {
             self.accepted[usize::from(reply[6])] = reply[7];
         }
+        match choice {
+            17 => self.check_tick(&before, answer),
+            _ => self.check_others(&before, answer),
+        }
+        if let 13 | 14 = choice {
+            assert_eq!(before.would_transfer(index, octets.len()), answer);
+        }
         answer.number
+    }
+
+    /// "an arrival or request reads and changes its own channel alone", the one
+    /// that the answer names.
+    fn check_others(&self, before: &Node, answer: Answer) {
+        for index in (0..4).filter(|&index| answer.index != Some(index)) {
+            assert_eq!(self.node.state(index), before.state(index));
+            assert_eq!(self.node.sight(index), before.sight(index));
+        }
+    }
+
+    /// The answer names the lowest of the channels that went inactive.
+    fn check_tick(&self, before: &Node, answer: Answer) {
+        let went = |&index: &usize| {
+            before.reason(index) == Some(Reason::None)
+                && self.node.reason(index) != Some(Reason::None)
+        };
+        assert_eq!(answer.index, (0..4).find(went));
+        assert_eq!(answer.number == 9, answer.index.is_some());
     }
 
     /// A reason stands in CLOSED alone, and each direction has its own.

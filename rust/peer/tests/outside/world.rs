@@ -150,7 +150,7 @@ impl World {
             assert!(pair.receiver.node != node || reason != Some(Reason::Flags));
         }
         self.shadows[node].check(&self.nodes[node]);
-        if answer.length > 0 {
+        if answer.octets() > 0 {
             self.links[1 - node].send(&reply, None, self.weather, &mut self.noise);
         }
     }

@@ -48,7 +48,7 @@ impl End {
         };
         let settings = [Settings { addresses, limits }];
         let said = calls::settings(&mut end.table, &end.memory, &end.lengths, &settings);
-        assert_eq!(said, done(0, 0));
+        assert_eq!(said, unserved(0));
         end
     }
 
@@ -64,11 +64,11 @@ impl End {
     }
 
     pub fn open(&mut self) -> Said {
-        calls::open(&mut self.table, &self.memory, &self.lengths, 0)
+        calls::open(&mut self.table, &mut self.memory, &mut self.lengths, 0)
     }
 
     pub fn close(&mut self) -> Said {
-        calls::close(&mut self.table, &self.memory, &self.lengths, 0)
+        calls::close(&mut self.table, &mut self.memory, &mut self.lengths, 0)
     }
 
     pub fn tick(&mut self) -> Said {
@@ -83,21 +83,23 @@ impl End {
     /// The answer, and the unit.
     pub fn take(&mut self) -> (Said, Vec<u8>) {
         let mut out = [UNTOUCHED; 64];
-        let said = calls::take(&mut self.table, &self.memory, &self.lengths, 0, &mut out);
+        let (memory, lengths) = (&mut self.memory, &mut self.lengths);
+        let said = calls::take(&mut self.table, memory, lengths, 0, &mut out);
         (said, written(&out, said))
     }
 
     /// The answer, and the unit.
     pub fn reclaim(&mut self) -> (Said, Vec<u8>) {
         let mut out = [UNTOUCHED; 64];
-        let said = calls::reclaim(&mut self.table, &self.memory, &self.lengths, 0, &mut out);
+        let (memory, lengths) = (&mut self.memory, &mut self.lengths);
+        let said = calls::reclaim(&mut self.table, memory, lengths, 0, &mut out);
         (said, written(&out, said))
     }
 
     /// The answer, and the packet that goes out next.
     pub fn next(&mut self) -> (Said, Vec<u8>) {
         let mut out = [UNTOUCHED; 64];
-        let (memory, lengths) = (&self.memory, &self.lengths);
+        let (memory, lengths) = (&mut self.memory, &mut self.lengths);
         let said = calls::next_packet(&mut self.table, memory, lengths, self.node, &mut out);
         (said, written(&out, said))
     }
@@ -121,23 +123,33 @@ impl End {
 
 /// The octets written; those past them are untouched.
 fn written(buffer: &[u8], said: Said) -> Vec<u8> {
-    let (front, past) = buffer.split_at(said.length);
+    let (front, past) = buffer.split_at(said.written());
     assert!(past.iter().all(|octet| *octet == UNTOUCHED));
     front.to_vec()
 }
 
+/// Done by the one channel.
 pub fn done(length: usize, confirmed: usize) -> Said {
     Said {
-        number: 0,
-        reason: 0,
         length,
         confirmed,
+        ..Said::default()
     }
 }
 
+/// Refused by the one channel.
 pub fn refused(number: u32) -> Said {
     Said {
         number,
+        ..Said::default()
+    }
+}
+
+/// Answered where no channel was served: the index is the count of records.
+pub fn unserved(number: u32) -> Said {
+    Said {
+        number,
+        index: 1,
         ..Said::default()
     }
 }

@@ -38,7 +38,8 @@ fn a_reply_buffer_under_12_octets_gives_11() {
         alone(OPEN, 0),
         alone(DATA_ACK, 1),
     ] {
-        assert_eq!(rig.node.arrival(&packet, &mut reply).number, 11);
+        let small = rig.node.arrival(&packet, &mut reply);
+        assert_eq!((small.number, small.length, small.index), (11, 12, None));
     }
     assert_eq!((&rig.node, reply), (&before, [NOISE; 11]));
     let mut reply = [NOISE; 12];

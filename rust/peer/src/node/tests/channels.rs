@@ -122,10 +122,10 @@ fn a_node_may_talk_to_itself() {
         let length = node.arrival(&packet[..length], &mut reply).length;
         node.arrival(&reply[..length], &mut packet)
     };
-    assert_eq!(turn(&mut node), Answer::DONE);
-    assert_eq!(node.transfer(0, b"hello"), Answer::DONE);
-    assert_eq!(turn(&mut node), Answer::confirmed(1));
+    assert_eq!(turn(&mut node), Answer::DONE.at(0));
+    assert_eq!(node.transfer(0, b"hello"), Answer::DONE.at(0));
+    assert_eq!(turn(&mut node), Answer::confirmed(1).at(0));
     let mut unit = [0; 5];
-    assert_eq!(node.take(1, &mut unit), Answer::written(5));
+    assert_eq!(node.take(1, &mut unit), Answer::written(5).at(1));
     assert_eq!(&unit, b"hello");
 }

@@ -101,7 +101,8 @@ fn a_buffer_too_small_for_the_chosen_packet() {
     rig.transfer(1, b"");
     let before = rig.node.clone();
     let mut out = [NOISE; 16];
-    assert_eq!(rig.node.next_packet(&mut out[..14]).number, 11);
+    let small = rig.node.next_packet(&mut out[..14]);
+    assert_eq!((small.number, small.length, small.index), (11, 15, Some(0)));
     assert_eq!((&rig.node, out), (&before, [NOISE; 16]));
     let answer = rig.node.next_packet(&mut out[..15]);
     assert_eq!((answer.number, answer.length), (0, 15));

@@ -40,7 +40,8 @@ fn nothing_comes_before_the_buffer() {
     rig.next().unwrap();
     rig.arrive(&alone(CONTROL_ACK, 0));
     let before = rig.node.clone();
-    assert_eq!(rig.node.reclaim(0, &mut [0; 2]).number, 11);
+    let small = rig.node.reclaim(0, &mut [0; 2]);
+    assert_eq!((small.number, small.length), (11, 3));
     assert_eq!(rig.node, before);
     let answer = rig.node.reclaim(0, &mut [0; 3]);
     assert_eq!((answer.number, answer.length), (0, 3));
@@ -64,12 +65,46 @@ fn lengths_of_calls_that_write_nothing() {
     let ack = alone(CONTROL_ACK, 0);
     let data_ack = alone(DATA_ACK, 1);
     let out = &mut [0; 64];
-    assert_eq!(node.open(0), Answer::DONE);
-    assert_eq!(node.next_packet(out), Answer::written(12));
-    assert_eq!(node.arrival(&ack, out), Answer::DONE);
-    assert_eq!(node.transfer(0, b"abc"), Answer::DONE);
-    assert_eq!(node.next_packet(out), Answer::written(15));
+    assert_eq!(node.open(0), Answer::DONE.at(0));
+    assert_eq!(node.next_packet(out), Answer::written(12).at(0));
+    assert_eq!(node.arrival(&ack, out), Answer::DONE.at(0));
+    assert_eq!(node.transfer(0, b"abc"), Answer::DONE.at(0));
+    assert_eq!(node.next_packet(out), Answer::written(15).at(0));
     assert_eq!(node.tick(), Answer::DONE);
-    assert_eq!(node.arrival(&data_ack, out), Answer::confirmed(1));
-    assert_eq!(node.close(0), Answer::DONE);
+    assert_eq!(node.arrival(&data_ack, out), Answer::confirmed(1).at(0));
+    assert_eq!(node.close(0), Answer::DONE.at(0));
+}
+
+/// The question gives what the transfer then gives, and 14, 5, 6 and 7 in this
+/// order; asking has changed nothing.
+#[test]
+fn what_a_transfer_would_answer() {
+    let mut rig = Rig::new(&[SENDING, RECEIVING]);
+    let asked = |rig: &Rig, index: usize, octets: usize| {
+        let before = rig.node.clone();
+        let answer = rig.node.would_transfer(index, octets);
+        assert_eq!(rig.node, before);
+        (answer.number, answer.index)
+    };
+    assert_eq!(asked(&rig, 2, 65), (14, None));
+    assert_eq!(asked(&rig, 0, 65), (5, Some(0)));
+    assert_eq!(asked(&rig, 1, 65), (5, Some(1)));
+    rig.open(0);
+    rig.next().unwrap();
+    rig.arrive(&alone(CONTROL_ACK, 0));
+    for (held, octets, number) in [
+        (0, usize::MAX, 6),
+        (0, 65, 6),
+        (0, 64, 0),
+        (4, 64, 0),
+        (8, 65, 6),
+        (8, 64, 7),
+        (8, 0, 7),
+    ] {
+        assert_eq!(rig.node.sight(0).unwrap().held.len(), held);
+        assert_eq!(asked(&rig, 0, octets), (number, Some(0)));
+        if octets < 100 {
+            assert_eq!(rig.transfer(0, &vec![0; octets]), number);
+        }
+    }
 }

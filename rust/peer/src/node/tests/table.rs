@@ -3,12 +3,13 @@
 use super::*;
 
 /// The answer numbers of all other calls.
-fn all_calls(node: &mut Node) -> [u8; 9] {
+fn all_calls(node: &mut Node) -> [u8; 10] {
     let out = &mut [0; 64];
     [
         node.open(0),
         node.close(0),
         node.transfer(0, b"a"),
+        node.would_transfer(0, 1),
         node.take(0, out),
         node.reclaim(0, out),
         node.tick(),
@@ -16,7 +17,10 @@ fn all_calls(node: &mut Node) -> [u8; 9] {
         node.arrival(&[], &mut []),
         node.next_packet(out),
     ]
-    .map(|answer| answer.number)
+    .map(|answer| {
+        assert_eq!(answer.index, None);
+        answer.number
+    })
 }
 
 /// "gives 13 before any other test"
@@ -24,7 +28,7 @@ fn all_calls(node: &mut Node) -> [u8; 9] {
 fn without_settings_every_call_gives_13() {
     let mut node = unset_node(&[SENDING]);
     let before = node.clone();
-    assert_eq!(all_calls(&mut node), [13; 9]);
+    assert_eq!(all_calls(&mut node), [13; 10]);
     assert_eq!(node.open(7).number, 13);
     assert_eq!(node.state(0), None);
     assert_eq!(node, before);
@@ -52,7 +56,7 @@ fn a_table_or_storage_of_another_size() {
     }
     let mut none = Node::new(HERE, 0, vec![], vec![]);
     assert_eq!(none.settings(&[]).number, 13);
-    assert_eq!(all_calls(&mut none), [13; 9]);
+    assert_eq!(all_calls(&mut none), [13; 10]);
     let many: Vec<Settings> = (0..17).map(sending).collect();
     let mut node = unset_node(&many);
     assert_eq!(node.settings(&many).number, 13);
