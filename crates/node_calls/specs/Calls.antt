@@ -12,12 +12,12 @@ use Rattle.channel.specs.Steps.{refusing}
 use Rattle.table.specs.declared.looking.Look.{Look}
 use Rattle.table.specs.declared.looking.Look.the-variants.{Index, Ready, Nobody}
 use Rattle.table.specs.Serving.{Step, serveOne, indexServed, tableOf, alone}
-use Rattle.steps.specs.Requests.{openedBy, closedBy, transferFor, takeFor, reclaimFor}
+use Rattle.steps.specs.Requests.{openedBy, closedBy, transferFor, askedBy, takeFor, reclaimFor}
 use Rattle.steps_handing.specs.Handing.{nextFor}
 use Rattle.arriving_look.specs.Finding.{lookOf}
 use Rattle.steps_arriving.specs.Arriving.{arrivalFor}
 use Rattle.node_calls.specs.declared.request.Request.{Request}
-use Rattle.node_calls.specs.declared.request.Request.the-variants.{Open, Close, Transfer, Take, Reclaim, Arrival, NextPacket, Unknown}
+use Rattle.node_calls.specs.declared.request.Request.the-variants.{Open, Close, Transfer, WouldTransfer, Take, Reclaim, Arrival, NextPacket, Unknown}
 
 -- ---- which channel a request is for, with the octets x read and a lent buffer of so many octets
 
@@ -25,6 +25,7 @@ abbrev pub lookIn : Request → List ℕ → ℕ → Look
 lookIn (Open index) x room = Index index
 lookIn (Close index) x room = Index index
 lookIn (Transfer index) x room = Index index
+lookIn (WouldTransfer index count) x room = Index index
 lookIn (Take index) x room = Index index
 lookIn (Reclaim index) x room = Index index
 lookIn (Arrival node) x room = lookOf node x room
@@ -37,6 +38,7 @@ abbrev pub stepFor : Request → List ℕ → Step
 stepFor (Open index) x = alone openedBy
 stepFor (Close index) x = alone closedBy
 stepFor (Transfer index) x = transferFor x
+stepFor (WouldTransfer index count) x = alone (askedBy count)
 stepFor (Take index) x = takeFor
 stepFor (Reclaim index) x = reclaimFor
 stepFor (Arrival node) x = arrivalFor node x
@@ -61,6 +63,10 @@ closed t mem lens index = tableOf (served t mem lens (Close index) [] [])
 
 abbrev pub transferred : List Channel → List ℕ → List ℕ → ℕ → List ℕ → Called Answer Channel
 transferred t mem lens index unit = served t mem lens (Transfer index) unit []
+
+-- a question: whatever it answers, nothing changes
+abbrev pub wouldAnswer : List Channel → List ℕ → List ℕ → ℕ → ℕ → Changed Answer Channel
+wouldAnswer t mem lens index count = tableOf (served t mem lens (WouldTransfer index count) [] [])
 
 abbrev pub taken : List Channel → List ℕ → List ℕ → ℕ → List ℕ → Called Answer Channel
 taken t mem lens index out = served t mem lens (Take index) [] out

@@ -13,6 +13,8 @@ pub enum Request {
     Close(usize),
     // The octets read are a unit to be sent.
     Transfer(usize),
+    // What a transfer of so many octets would answer: nothing changes.
+    WouldTransfer { index: usize, count: usize },
     // The oldest complete unit of a receiver; the oldest unit that a closed sender holds.
     Take(usize),
     Reclaim(usize),
@@ -31,6 +33,7 @@ pub fn look_in(n: Request, x: &[u8], room: usize) -> Look
         Request::Open(index) => Look::Index(index),
         Request::Close(index) => Look::Index(index),
         Request::Transfer(index) => Look::Index(index),
+        Request::WouldTransfer { index, count: _ } => Look::Index(index),
         Request::Take(index) => Look::Index(index),
         Request::Reclaim(index) => Look::Index(index),
         Request::Arrival(node) => look_of(node, x, room),

@@ -16,7 +16,7 @@ ghost use Rattle.table.specs.Surveying.{Served, stepping};
 ghost use Rattle.steps.specs.Requests.{openedBy, closedBy, transferFor, askedBy, takeFor, reclaimFor};
 
 // An Open directive.
-pub fn open_step(c: Channel, d: Decision, index: usize) -> Stepped
+pub fn open_step(c: Channel) -> Stepped
     requires { ⌜ Ringed (c .limits) (c .window) ⌝ }
     ensures { λ r. ⌜ r ≡ openedBy c ⌝ }
 {
@@ -27,7 +27,7 @@ pub fn open_step(c: Channel, d: Decision, index: usize) -> Stepped
 }
 
 // A Close directive.
-pub fn close_step(c: Channel, d: Decision, index: usize) -> Stepped
+pub fn close_step(c: Channel) -> Stepped
     requires { ⌜ Ringed (c .limits) (c .window) ⌝ }
     ensures { λ r. ⌜ r ≡ closedBy c ⌝ }
 {
@@ -41,7 +41,6 @@ pub fn close_step(c: Channel, d: Decision, index: usize) -> Stepped
 pub fn transfer_step(
     c: Channel,
     d: Decision,
-    index: usize,
     mem: &mut [u8],
     lens: &mut [u16],
     unit: &[u8],
@@ -75,7 +74,6 @@ pub fn ask_step(c: Channel, count: usize) -> Stepped
 pub fn take_step(
     c: Channel,
     d: Decision,
-    index: usize,
     mem: &[u8],
     lens: &[u16],
     out: &mut [u8],
@@ -97,7 +95,6 @@ pub fn take_step(
 pub fn reclaim_step(
     c: Channel,
     d: Decision,
-    index: usize,
     mem: &[u8],
     lens: &[u16],
     out: &mut [u8],

@@ -28,6 +28,9 @@ enum-known-n-5 c = search needs
 enum-known-n-6 : tie.Need-enum-known-n-6
 enum-known-n-6 c = search needs
 
+enum-known-n-7 : tie.Need-enum-known-n-7
+enum-known-n-7 c = search needs
+
 look-of-requires : tie.Need-look-of-requires
 look-of-requires c κs = search needs
 
@@ -53,13 +56,16 @@ returns-5 : tie.Need-returns-5
 returns-5 c = let a = c .before .before .before .before .args in sym (ap (λ (z : Request). lookIn z (a .x .now) (a .room)) (c .before .n5 .given .1))
 
 returns-6 : tie.Need-returns-6
-returns-6 c = let a = c .before .before .before .before .before .args in c .look-of .ensures ∙ sym (ap (λ (z : Request). lookIn z (a .x .now) (a .room)) (c .before .before .n6 .given .1))
+returns-6 c = let a = c .before .before .before .before .args in sym (ap (λ (z : Request). lookIn z (a .x .now) (a .room)) (c .before .n6 .given .1))
 
 returns-7 : tie.Need-returns-7
-returns-7 c = search needs
+returns-7 c = let a = c .before .before .before .before .before .args in c .look-of .ensures ∙ sym (ap (λ (z : Request). lookIn z (a .x .now) (a .room)) (c .before .before .n7 .given .1))
 
 returns-8 : tie.Need-returns-8
-returns-8 c = let a = c .before .before .before .args in sym (ap (λ (z : Request). lookIn z (a .x .now) (a .room)) (c .enum-told2 .given .1))
+returns-8 c = search needs
+
+returns-9 : tie.Need-returns-9
+returns-9 c = let a = c .before .before .before .args in sym (ap (λ (z : Request). lookIn z (a .x .now) (a .room)) (c .enum-told2 .given .1))
 
 pub look-in-spec : {M : Type 1} → statement M
 look-in-spec =
@@ -71,6 +77,7 @@ look-in-spec =
     enum-known-n-4
     enum-known-n-5
     enum-known-n-6
+    enum-known-n-7
     look-of-requires
     enum-told
     enum-told-2
@@ -81,4 +88,5 @@ look-in-spec =
     returns-5
     returns-6
     returns-7
-    returns-8)
+    returns-8
+    returns-9)

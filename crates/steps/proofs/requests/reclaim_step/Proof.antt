@@ -37,7 +37,7 @@ add-octets : tie.Need-add-octets
 add-octets c = search needs
 
 add-slots : tie.Need-add-slots
-add-slots c = let a = c .before .before .before .before .before .before .before .args in let s = c .before .before .before .before .before .before .before .pre in let f = fit-is (a .c .limits) (s .standing .fit) in omega (arith, s .slots, c .before .before .before .before .before .before .before .good .1 .1 .1 .1 .0)
+add-slots c = let a = c .before .before .before .before .before .before .before .args in let s = c .before .before .before .before .before .before .before .pre in let f = fit-is (a .c .limits) (s .standing .fit) in omega (arith, s .slots, c .before .before .before .before .before .before .before .good .1 .1 .1 .0)
 
 sub-reclaim-step : tie.Need-sub-reclaim-step
 sub-reclaim-step c = search needs
@@ -49,7 +49,7 @@ part-reclaim-step-end : tie.Need-part-reclaim-step-end
 part-reclaim-step-end c = search needs
 
 mul-reclaim-step : tie.Need-mul-reclaim-step
-mul-reclaim-step c = let a = c .before .before .before .before .before .before .before .before .args in let s = c .before .before .before .before .before .before .before .before .pre in let f = fit-is (a .c .limits) (s .standing .fit) in omega (arith, s .slots, c .before .before .before .before .before .before .before .before .good .1 .1 .1 .1 .0)
+mul-reclaim-step c = let a = c .before .before .before .before .before .before .before .before .args in let s = c .before .before .before .before .before .before .before .before .pre in let f = fit-is (a .c .limits) (s .standing .fit) in omega (arith, s .slots, c .before .before .before .before .before .before .before .before .good .1 .1 .1 .0)
 
 sub-reclaim-step-2 : tie.Need-sub-reclaim-step-2
 sub-reclaim-step-2 c = search needs

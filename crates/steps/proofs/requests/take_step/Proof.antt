@@ -37,7 +37,7 @@ add-octets : tie.Need-add-octets
 add-octets c = search needs
 
 add-slots : tie.Need-add-slots
-add-slots c = let a = c .before .before .before .before .before .before .before .args in let s = c .before .before .before .before .before .before .before .pre in let f = fit-is (a .c .limits) (s .standing .fit) in omega (arith, s .slots, c .before .before .before .before .before .before .before .good .1 .1 .1 .1 .0)
+add-slots c = let a = c .before .before .before .before .before .before .before .args in let s = c .before .before .before .before .before .before .before .pre in let f = fit-is (a .c .limits) (s .standing .fit) in omega (arith, s .slots, c .before .before .before .before .before .before .before .good .1 .1 .1 .0)
 
 sub-take-step : tie.Need-sub-take-step
 sub-take-step c = search needs
@@ -49,7 +49,7 @@ part-take-step-end : tie.Need-part-take-step-end
 part-take-step-end c = search needs
 
 mul-take-step : tie.Need-mul-take-step
-mul-take-step c = let a = c .before .before .before .before .before .before .before .before .args in let s = c .before .before .before .before .before .before .before .before .pre in let f = fit-is (a .c .limits) (s .standing .fit) in omega (arith, s .slots, c .before .before .before .before .before .before .before .before .good .1 .1 .1 .1 .0)
+mul-take-step c = let a = c .before .before .before .before .before .before .before .before .args in let s = c .before .before .before .before .before .before .before .before .pre in let f = fit-is (a .c .limits) (s .standing .fit) in omega (arith, s .slots, c .before .before .before .before .before .before .before .before .good .1 .1 .1 .0)
 
 sub-take-step-2 : tie.Need-sub-take-step-2
 sub-take-step-2 c = search needs

@@ -39,7 +39,7 @@ add-octets : tie.Need-add-octets
 add-octets c = search needs
 
 add-slots : tie.Need-add-slots
-add-slots c = let a = c .before .before .before .before .before .before .before .args in let s = c .before .before .before .before .before .before .before .pre in let f = fit-is (a .c .limits) (s .standing .fit) in omega (arith, s .slots, c .before .before .before .before .before .before .before .good .1 .1 .1 .1 .0)
+add-slots c = let a = c .before .before .before .before .before .before .before .args in let s = c .before .before .before .before .before .before .before .pre in let f = fit-is (a .c .limits) (s .standing .fit) in omega (arith, s .slots, c .before .before .before .before .before .before .before .good .1 .1 .1 .0)
 
 sub-transfer-step : tie.Need-sub-transfer-step
 sub-transfer-step c = search needs
@@ -51,7 +51,7 @@ part-transfer-step-end : tie.Need-part-transfer-step-end
 part-transfer-step-end c = search needs
 
 mul-transfer-step : tie.Need-mul-transfer-step
-mul-transfer-step c = let a = c .before .before .before .before .before .before .before .before .args in let s = c .before .before .before .before .before .before .before .before .pre in let f = fit-is (a .c .limits) (s .standing .fit) in omega (arith, s .slots, c .before .before .before .before .before .before .before .before .good .1 .1 .1 .1 .0)
+mul-transfer-step c = let a = c .before .before .before .before .before .before .before .before .args in let s = c .before .before .before .before .before .before .before .before .pre in let f = fit-is (a .c .limits) (s .standing .fit) in omega (arith, s .slots, c .before .before .before .before .before .before .before .before .good .1 .1 .1 .0)
 
 sub-transfer-step-2 : tie.Need-sub-transfer-step-2
 sub-transfer-step-2 c = search needs
