@@ -1,15 +1,9 @@
-// The node: every public call, over a lent table of at most 16 records, one lent memory and one lent slice of lengths. Each call is thin: it surveys
-// the table, copies the record that it is for out, steps it by value, and stores it back.
-pub mod arrivals;
-pub mod packets;
-pub mod requests;
+// The node: one door for every call that serves one channel, over a lent table of at most 16 records, one lent memory and one lent slice of lengths. It
+// surveys the table, copies the record that the request is for out, steps it by value, and stores it back. Settings and ticks go over the whole table.
+pub mod door;
 
-pub use arrivals::arrival;
+pub use door::serve;
+pub use node_calls::Request;
 pub use node_settings::settings;
 pub use node_ticks::ticks::tick;
-pub use packets::next_packet;
-pub use requests::close;
-pub use requests::open;
-pub use requests::reclaim;
-pub use requests::take;
-pub use requests::transfer;
+pub use table::Told;
