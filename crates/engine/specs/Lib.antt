@@ -1,2 +1,2 @@
-pub mod Performing
+pub mod Asking
 pub mod Records

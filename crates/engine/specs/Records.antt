@@ -2,22 +2,32 @@
 use mathlib.Core.List.{List, [], _∷_}
 use Prim.Native.Nat.{ℕ}
 use lib.Dec.{eqb}
+use lib.ListN.{drop}
 use Rattle.laws.specs.Choice.{if_then_else_}
-use Rattle.walks.specs.Serving.{Called, leaves}
+use Rattle.walks.specs.Serving.{Called, leaves, saying}
 use Rattle.channel.specs.declared.record.Node.{Node}
 use Rattle.channel.specs.declared.record.Settings.{Settings}
 use Rattle.channel.specs.declared.record.Channel.{Channel}
-use Rattle.channel.specs.declared.answer.Answer.{Answer}
 use Rattle.channel.specs.Record.{sends, receives}
-use Rattle.node_ticks.specs.Ticks.{ticked}
-use Rattle.engine_look.specs.declared.looking.Request.{Request}
-use Rattle.engine.specs.Performing.{performed}
+use Rattle.table.specs.declared.deciding.Told.{Told}
+use Rattle.table.specs.Serving.{toldOf}
+use Rattle.node_ticks.specs.Ticks.{ticked, tickIndex}
+use Rattle.node_calls.specs.declared.request.Request.{Request}
+use Rattle.node_calls.specs.Calls.{served, servedIndex}
+use Rattle.engine.specs.Asking.{requestOf, octetsFrom}
 
--- kind 2 is a tick; all others serve one channel
-unfoldable pub replayed : List Channel → List ℕ → List ℕ → Node → ℕ → List ℕ → List ℕ → Called Answer Channel
+-- the node's tick, and its one door, each with the index that is told
+abbrev pub ticking : List Channel → List ℕ → List ℕ → List ℕ → Called Told Channel
+ticking t mem lens out = leaves (toldOf (tickIndex t mem lens) (ticked t mem lens .answer)) (ticked t mem lens .table) mem lens out
+
+abbrev pub serving : List Channel → List ℕ → List ℕ → Request → List ℕ → List ℕ → Called Told Channel
+serving t mem lens n x out = saying (toldOf (servedIndex t mem lens n x out)) (served t mem lens n x out)
+
+-- kind 2 is a tick; all others are for one channel
+unfoldable pub replayed : List Channel → List ℕ → List ℕ → Node → ℕ → List ℕ → List ℕ → Called Told Channel
 replayed t mem lens node kind body out =
-    if eqb kind 2 then leaves (ticked t mem lens .answer) (ticked t mem lens .table) mem lens out
-    else performed t mem lens (record { kind = kind; node = node }) body out
+    if eqb kind 2 then ticking t mem lens out
+    else serving t mem lens (requestOf kind body node) (drop (octetsFrom kind body) body) out
 
 -- k 4, slots 8, P 16, M 4, timeouts 4, retries 2
 abbrev pub settingsFor : ℕ → ℕ → ℕ → Settings

@@ -1,45 +1,47 @@
 // Two channels held by value, lent to a call and given back.
-use crate::performing::perform;
-use channel::Answer;
 use channel::Channel;
-use engine_look::looking::Request;
+use node::door::serve;
+use node_calls::Request;
 use node_ticks::ticks::tick;
+use table::Told;
 ghost use mathlib.Core.Path.{_≡_};
-ghost use Rattle.walks.specs.Serving.{leaves, changes};
-ghost use Rattle.node_ticks.specs.Ticks.{ticked};
-ghost use Rattle.engine.specs.Performing.{performed};
+ghost use Rattle.walks.specs.Serving.{leaves, changes, telling};
+ghost use Rattle.table.specs.Serving.{toldOf};
+ghost use Rattle.node_ticks.specs.Ticks.{ticked, tickIndex};
+ghost use Rattle.engine.specs.Records.{serving};
 
-// What a call answered, and the channels after it.
+// What a call told, and the channels after it.
 pub struct Kept {
-    pub answer: Answer,
+    pub told: Told,
     pub table: [Channel; 2],
 }
 
-pub fn perform_in(
+// The node's door.
+pub fn serve_in(
     t: [Channel; 2],
     mem: &mut [u8],
     lens: &mut [u16],
     n: Request,
-    body: &[u8],
+    x: &[u8],
     out: &mut [u8],
 ) -> Kept
-    ensures { λ r. ⌜ leaves (r .answer) (r .table) (now (mem .exit)) (now (lens .exit)) (now (out .exit)) ≡ performed t (now (mem .entry)) (now (lens .entry)) n (now (body .entry)) (now (out .entry)) ⌝ }
+    ensures { λ r. ⌜ leaves (r .told) (r .table) (now (mem .exit)) (now (lens .exit)) (now (out .exit)) ≡ serving t (now (mem .entry)) (now (lens .entry)) n (now (x .entry)) (now (out .entry)) ⌝ }
 {
     let mut u = t;
-    let a = perform(&mut u, mem, lens, n, body, out);
+    let a = serve(&mut u, mem, lens, n, x, out);
     Kept {
-        answer: a,
+        told: a,
         table: u,
     }
 }
 
 pub fn tick_in(t: [Channel; 2], mem: &[u8], lens: &[u16]) -> Kept
-    ensures { λ r. ⌜ changes (r .answer) (r .table) ≡ ticked t (now (mem .entry)) (now (lens .entry)) ⌝ }
+    ensures { λ r. ⌜ changes (r .told) (r .table) ≡ telling (toldOf (tickIndex t (now (mem .entry)) (now (lens .entry)))) (ticked t (now (mem .entry)) (now (lens .entry))) ⌝ }
 {
     let mut u = t;
     let a = tick(&mut u, mem, lens);
     Kept {
-        answer: a,
+        told: a,
         table: u,
     }
 }

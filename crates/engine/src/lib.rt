@@ -1,8 +1,8 @@
 // The replay's engine: a record of a trace in, an answer out (document 01, Replay program). Its two channels are held by value, so that a program
 // over it has no reference to a record; what happens to them is what the node's own calls do.
 pub mod held;
-pub mod performing;
 pub mod records;
+pub mod request;
 pub mod settings;
 
 pub use held::Kept;

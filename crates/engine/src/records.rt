@@ -1,11 +1,12 @@
 // One record of a trace.
 use crate::held::Kept;
-use crate::held::perform_in;
+use crate::held::serve_in;
 use crate::held::tick_in;
+use crate::request::TICK;
+use crate::request::octets_from;
+use crate::request::request_of;
 use channel::Channel;
 use channel::Node;
-use engine_look::looking::Request;
-use engine_look::looking::TICK;
 ghost use mathlib.Core.Path.{_≡_};
 ghost use Prim.Native.Nat.{_+_, _*_};
 ghost use Rattle.walks.specs.Serving.{leaves};
@@ -21,12 +22,14 @@ pub fn step(
     body: &[u8],
     out: &mut [u8],
 ) -> Kept
-    ensures { λ r. ⌜ leaves (r .answer) (r .table) (now (mem .exit)) (now (lens .exit)) (now (out .exit)) ≡ replayed t (now (mem .entry)) (now (lens .entry)) node kind (now (body .entry)) (now (out .entry)) ⌝ }
+    ensures { λ r. ⌜ leaves (r .told) (r .table) (now (mem .exit)) (now (lens .exit)) (now (out .exit)) ≡ replayed t (now (mem .entry)) (now (lens .entry)) node kind (now (body .entry)) (now (out .entry)) ⌝ }
 {
     if kind == TICK {
         return tick_in(t, mem, lens);
     }
-    perform_in(t, mem, lens, Request { kind, node }, body, out)
+    let n = request_of(kind, body, node);
+    let from = octets_from(kind, body);
+    serve_in(t, mem, lens, n, &body[from..], out)
 }
 
 // A number of two octets, the least significant first, as the records have them.

@@ -2,8 +2,9 @@
 -- Assumes nothing.
 use Rattle.walks.proofs.Walk.{refl, true, false, _≡_, givenOf, tables, tablesOf, tripleOf, entered, cited, w64}
 use Rattle.walks_held.proofs.HeldSweeping.{held-sweeping-meets}
-use Rattle.walks.specs.Serving.{changes}
-use Rattle.node_ticks.specs.Ticks.{ticked}
+use Rattle.walks.specs.Serving.{changes, telling}
+use Rattle.table.specs.Serving.{toldOf}
+use Rattle.node_ticks.specs.Ticks.{ticked, tickIndex}
 use Rattle.engine.proofs.Types.{held}
 use Rattle.node_ticks.proofs.ticks.tick as tick
 use Rattle.node_ticks.proofs.ticks.tick.Symbol as tick-def
@@ -18,6 +19,6 @@ unfolding code.routine tablesOf
 tick-in-spec 𝓤 H 𝓜 𝓖 𝓡 =
     entered 𝓤 H (tripleOf 𝓤 H (𝓖 .A) this.signature (this.spec 𝓤 H (𝓖 .A) (𝓜 .mem) (𝓡 .run)))
     (tables 𝓤 H 𝓜 𝓡 code.env .C) (tables 𝓤 H 𝓜 𝓡 code.env .Λ) #engine·held·tick-in code.function (code.unfolded 𝓤 H 𝓜 𝓡)
-    (held-sweeping-meets held (λ ys m l r zs. changes r zs ≡ ticked ys m l)
+    (held-sweeping-meets held (λ ys m l r zs. changes r zs ≡ telling (toldOf (tickIndex ys m l)) (ticked ys m l))
     tick-def.name 𝓤 H (𝓖 .A) (givenOf 𝓤 H 𝓜 𝓖) (tablesOf 𝓤 H 𝓜 (tables 𝓤 H 𝓜 𝓡 code.env))
     (cited 𝓤 H (tripleOf 𝓤 H (𝓖 .A) tick.signature (tick.spec 𝓤 H (𝓖 .A) (𝓜 .mem) (𝓡 .run))) 𝓜 𝓡 code.env tick-def.name tick-def.routine code.calls-node-ticks·ticks·tick (tick-thm.met 𝓤 H 𝓜 𝓖 𝓡)))
