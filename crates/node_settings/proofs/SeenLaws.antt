@@ -1,7 +1,7 @@
 -- What all settings together have shown: the sums, where each is fit and no two clash; else it is not sound. One that is looked at is held beside
 -- those before it, and `eachFit` holds it beside those behind it: as two clash in either order, it is the same.
 -- Assumes nothing.
-use mathlib.Core.Path.{_≡_, refl, sym, ap, ap₂, _∙_}
+use mathlib.Core.Path.{_≡_, refl, sym, ap, ap₂, subst, _∙_}
 use mathlib.Core.Bool.{Bool, true, false, not, _&&_, _||_, true≢false, false≢true, or-false, or-assoc}
 use mathlib.Core.List.{List, [], _∷_}
 use Prim.Native.Nat.{ℕ, zero, suc, _+_, _*_, _≤_, _<_}
@@ -9,15 +9,18 @@ use native.Mathlib.Nat.{add-zero, add-suc, add-assoc, mul-le-mul-right}
 use native.Mathlib.Omega.{arith}
 use borrow.Author.Tests.{ltb-true, ltb-false, eqb-true, eq-eqb, not-true}
 use lib.Dec.{ltb, eqb}
-use lib.ListN.{length, length-set, length-replicate}
+use lib.ListN.{length, take, length-set, length-replicate}
 use lib.Seq.{getD-set-same, getD-set-other}
-use Rattle.laws.proofs.Choice.{both}
+use Rattle.laws.proofs.Choice.{both, either-way}
 use Rattle.walks.specs.Fold.{foldFrom}
+use Rattle.walks_sweeping.proofs.First.{first-count}
 use Rattle.channel.specs.declared.record.Addresses.{Addresses}
 use Rattle.channel.specs.declared.record.Settings.{Settings}
 use Rattle.channel.specs.Settings.{fit, clash}
 use Rattle.channel.specs.Tables.{clashes, eachFit}
 use Rattle.table.specs.Lent.{areaOf, slotsOf, octetsOf}
+use Rattle.table.specs.Surveying.{lookedAt}
+use Rattle.table.proofs.Looked.{looked-enough}
 use Rattle.settings_seen.specs.declared.seeing.Seen.{Seen}
 use Rattle.node_settings.specs.Configuring.{madeTable}
 use Rattle.settings_seen.specs.Seeing.{nowhere, begun, unsound, addressesAt, taken, noted, seeOne}
@@ -181,6 +184,17 @@ unfolding foldFrom
 stays-spoilt lens j v [] e = refl
 stays-spoilt lens j v (s ∷ l) e =
     ap (λ (w : Seen). foldFrom seeOne lens (suc j) w l) (one-spoilt v s lens j e) ∙ stays-spoilt lens (suc j) v l e
+
+-- ---- those that are looked at
+
+spoils-late : (lens : List ℕ) (v : Seen) (s : Settings) (j : ℕ) → 16 ≤ j → seeOne v s lens j .sound ≡ false
+spoils-late lens v s j h = either-way (v .sound) (λ e. ap (λ (w : Seen). w .sound) (one-many v s lens j e h)) (λ e. ap (λ (w : Seen). w .sound) (one-spoilt v s lens j e) ∙ e)
+
+-- what they show is what all do: the 17th makes it unsound, and nothing after that counts
+pub first-seen : (lens : List ℕ) (l : List Settings) (v : Seen) (k : ℕ) → k ≡ lookedAt (length l) → foldFrom seeOne lens 0 v (take k l) ≡ foldFrom seeOne lens 0 v l
+first-seen lens l v k e =
+    first-count seeOne lens (λ w. w .sound ≡ false) 16 (λ w s j. one-spoilt w s lens j) (spoils-late lens) v l k
+    (subst (λ (n : ℕ). n < length l → 16 < n) (sym e) (looked-enough (length l)))
 
 -- all are counted
 pub record Counts (w v : Seen) (l : List Settings) : Type 0 where

@@ -8,6 +8,7 @@ use settings_seen::seeing::see_one;
 use settings_verdict::settling::settings_end;
 use settings_verdict::settling::settle;
 use table::Told;
+use table::surveying::looked_at;
 ghost use mathlib.Core.Path.{_≡_};
 ghost use mathlib.Core.List.{map};
 ghost use lib.ListN.{length};
@@ -18,13 +19,14 @@ ghost use Rattle.table.specs.Serving.{toldOf};
 ghost use Rattle.settings_seen.specs.Seeing.{seeOne};
 ghost use Rattle.node_settings.specs.Configuring.{configured};
 
-// Every one of the settings is looked at, beside those before it.
+// Every one of the settings is looked at, beside those before it, up to the first that is too many: nothing after it counts.
 fn see(s: &[Settings], lens: &[u16], start: Seen) -> Seen
     ensures { λ r. ⌜ r ≡ foldFrom seeOne (now (lens .entry)) 0 start (now (s .entry)) ⌝ }
 {
+    let n = looked_at(s.len());
     let mut a = start;
     let mut j = 0;
-    while j < s.len() {
+    while j < n {
         let b = see_one(a, s[j], lens, j);
         a = b;
         j = j + 1;

@@ -2,19 +2,21 @@
 use channel::Channel;
 use table::Look;
 use table::Survey;
+use table::surveying::looked_at;
 use table_survey::surveying::begin;
 use table_survey::surveying::survey_one;
 ghost use mathlib.Core.Path.{_≡_};
 ghost use Rattle.table.specs.declared.looking.Look.the-variants as look;
 ghost use Rattle.table.specs.Surveying.{begun, surveyed};
 
-// Every record in turn.
+// Every record in turn, up to the first that is too many: nothing after it counts.
 pub fn survey(t: &[Channel], lens: &[u16], start: Survey) -> Survey
     ensures { λ r. ⌜ r ≡ surveyed (now (t .entry)) (now (lens .entry)) start ⌝ }
 {
+    let n = looked_at(t.len());
     let mut a = start;
     let mut j = 0;
-    while j < t.len() {
+    while j < n {
         let b = survey_one(a, t[j], lens, j);
         a = b;
         j = j + 1;

@@ -3,3 +3,4 @@ pub mod Spots
 pub mod SurveyLaws
 pub mod ServeLaws
 pub mod Parts
+pub mod Looked

@@ -60,6 +60,10 @@ surveyOne v c lens j =
     else if not (standing c (partOf (v .slots) (c .limits .slots) lens)) then unsound v
     else noted v c j
 
+-- of n records, or of n settings: one more than there may be shows that there are too many, so no more are looked at
+abbrev pub lookedAt : ℕ → ℕ
+lookedAt n = if ltb 16 n then 17 else n
+
 abbrev pub surveyed : List Channel → List ℕ → Survey → Survey
 surveyed t lens v = foldFrom surveyOne lens 0 v t
 

@@ -3,9 +3,21 @@ use crate::looking::Look;
 use channel::Limits;
 ghost use mathlib.Core.Path.{_≡_};
 ghost use Prim.Native.Nat.{_*_, _≤_};
+ghost use Rattle.table.specs.Surveying.{lookedAt};
 
 // The most records of a table.
 pub const MOST_RECORDS: usize = 16;
+
+// How many of n records, or of n settings, are looked at: one more than there may be shows that there are too many.
+pub fn looked_at(n: usize) -> usize
+    ensures { λ r. ⌜ r ≡ lookedAt n ⌝ }
+{
+    if MOST_RECORDS < n {
+        MOST_RECORDS + 1
+    } else {
+        n
+    }
+}
 
 // No table of sound records has more octets.
 pub const MOST_OCTETS: usize = 2097152;

@@ -1,5 +1,5 @@
--- WHAT THE WALKS OF THE FUNCTIONS THAT CALL A DOOR SHARE (`Asked.antt` and the others of this crate that end in it). A door is one call for every
--- request over a lent table, of the form of `Call.antt`:
+-- WHAT THE WALKS OF THE FUNCTIONS THAT CALL A DOOR SHARE (`DoorOne.antt` and the others of this crate with that first word). A door is one call for
+-- every request over a lent table, of the form of `Call.antt`:
 --     pub fn perform(t: &mut [Channel], mem: &mut [u8], lens: &mut [u16], n: Request, x: &[u8], out: &mut [u8]) -> Told
 -- A function that calls it makes the request of its own plain arguments by a covered function `ask`, lends on t, mem and lens, and x and out where it
 -- has them; where it has not, it lends an empty array of its own. It turns the answer by a covered function `turn`, as those of `Lending.antt` do.
@@ -8,14 +8,14 @@
 --     through          such a function, by its parameters after the first three and what it ensures, as one of `Lending.antt`
 --     asks             the call of `ask`
 --     lends-none, shares-none     an array of no octets is lent as a `&mut [u8]` and as a `&[u8]`: there is nothing in it, so its local is left alone
---     apart            what the function is passed: the first three with their tokens, the other tokens, and what the other parameters own
 --     comes-none       an array of no octets that was lent as a `&mut [u8]` has none at the end
+--     apart            what the function is passed: the first three with their tokens, the other tokens, and what the other parameters own
 --     performs         the call of the door: what is left is what is said of the last values of t, mem, lens and out, and the tokens
 --     gathers          the other way than `apart`, at the end: what the function has to leave
 -- Assumes nothing: `Given`, the laws of a model, is an argument.
 use Rattle.walks.proofs.Walk.{_≡_, refl, List, [], _∷_, ℕ, suc, length, ltb→lt, URA, fullShare, named, ent, emp, GName, Lft, Share, Fml, ftrue, flft, Heap, Env, Tables, Atoms}
 use Rattle.walks.proofs.Walk.{Given, Item, runs, ‵, raw, _⊛_, ⋆, _$_, _∵_, !, qed, use0, use1, move, drop, split, join, fsplit, fjoin, group, frame, done}
-use Rattle.walks.proofs.Walk.{fmOf, Is, owns, u8, u16, sliceVal, slice-vals, MutSlice, ShrSlice, Room, finally, nothing, owned, heard, Contract, Triple, id⊢, fact, RattleType, now}
+use Rattle.walks.proofs.Walk.{fmOf, Is, owns, u8, u16, sliceVal, slice-vals, MutSlice, ShrSlice, Room, finally, nothing, owned, heard, Contract, Triple, yes, id⊢, fact, RattleType, now}
 use mathlib.Core.Path.{subst}
 use lib.ListN.{drop-of-length-le}
 use native.Mathlib.Omega.{arith}
@@ -33,7 +33,6 @@ use denote.Ref.{RefT, ptr, name}
 use denote.Lend.{Held, lends-slice, lends-shr-slice}
 use denote.Triple.End.{Fins, all, lastsOf, outs}
 use denote.Triple.Clauses.{Lasts, atExit}
-use Rattle.walks.proofs.Walk.{yes}
 use Rattle.walks.proofs.Tab.{xs-at}
 use Rattle.walks.proofs.Plain.{Kind, of}
 use Rattle.walks.proofs.ByValue.{ByValue, Values, Lie, passed, always, Takes, calls-by}
@@ -148,8 +147,9 @@ module _ (D : Door) {k : ℕ} (ps : List (Part (suc (suc (suc k))))) {M : Type 1
   Ending ws = ‵ (lastsOf κs (slots ps) (all yes (slots ps)) (a .1 .1 .1) ws)
 
   module _ (κx κo : Lft) (qx qo : Share) (n : Q D .Denot) (x o : RefT (List ℕ)) where
-    abbrev pub Given-door : List (Item 𝓤) → List (Item 𝓤)
-    Given-door Γ = ‵ (ShrSlice (named 3) κx u8 .own x (slice-vals x)) ∷ ‵ (flft κx qx) ∷ ‵ (MutSlice (named 4) κo u8 .own o (slice-vals o)) ∷ ‵ (flft κo qo) ∷ Three Γ
+    -- what the door is given: x and out, each with its token, and the first three
+    abbrev To-door : List (Item 𝓤) → List (Item 𝓤)
+    To-door Γ = ‵ (ShrSlice (named 3) κx u8 .own x (slice-vals x)) ∷ ‵ (flft κx qx) ∷ ‵ (MutSlice (named 4) κo u8 .own o (slice-vals o)) ∷ ‵ (flft κo qo) ∷ Three Γ
 
     abbrev κs′ : Lfts 5
     κs′ = (κs .0, (κs .1 .0, (κs .1 .1 .0, (κx, (κo, tt)))))
@@ -160,8 +160,8 @@ module _ (D : Door) {k : ℕ} (ps : List (Part (suc (suc (suc k))))) {M : Type 1
     abbrev a′ : Entry (door D) κs′
     a′ = (a .0, (a .1 .0, (a .1 .1 .0, (n, (x, (o, tt))))))
 
-    asks-door : Given 𝓤 H A → Is (Q D) n (D .request .elem .val n ∷ []) → ent 𝓤 (⋆ 𝓤 H A (Given-door [])) (Perform D 𝓤 H A .pre ((κs′, qs′, tt, a′, each (door D) κs′ a′), tt))
-    asks-door W is = qed W (Given-door []) ∵ move ! (4 ∷ 5 ∷ 6 ∷ 7 ∷ 8 ∷ 9 ∷ []) $ nothing ! $ move ! (9 ∷ 0 ∷ []) $ fjoin ! $ move ! (7 ∷ 0 ∷ []) $ fjoin ! $ owned ! (Q D) (Is (Q D)) (D .request .elem .makes 𝓤 H A W) n _ is $ fjoin ! $ move ! (6 ∷ 0 ∷ []) $ fjoin ! $ move ! (5 ∷ 0 ∷ []) $ fjoin ! $ move ! (4 ∷ 0 ∷ []) $ fjoin ! $
+    asks-door : Given 𝓤 H A → Is (Q D) n (D .request .elem .val n ∷ []) → ent 𝓤 (⋆ 𝓤 H A (To-door [])) (Perform D 𝓤 H A .pre ((κs′, qs′, tt, a′, each (door D) κs′ a′), tt))
+    asks-door W is = qed W (To-door []) ∵ move ! (4 ∷ 5 ∷ 6 ∷ 7 ∷ 8 ∷ 9 ∷ []) $ nothing ! $ move ! (9 ∷ 0 ∷ []) $ fjoin ! $ move ! (7 ∷ 0 ∷ []) $ fjoin ! $ owned ! (Q D) (Is (Q D)) (D .request .elem .makes 𝓤 H A W) n _ is $ fjoin ! $ move ! (6 ∷ 0 ∷ []) $ fjoin ! $ move ! (5 ∷ 0 ∷ []) $ fjoin ! $ move ! (4 ∷ 0 ∷ []) $ fjoin ! $
         -- [what the six own; the tokens]
         nothing ! $ move ! (6 ∷ 0 ∷ []) $ join ! $ move ! (5 ∷ 0 ∷ []) $ join ! $ move ! (4 ∷ 0 ∷ []) $ join ! $ move ! (3 ∷ 0 ∷ []) $ join ! $ move ! (2 ∷ 0 ∷ []) $ join ! $ join ! $ frame ! $ done !
 
@@ -187,7 +187,7 @@ module _ (D : Door) {k : ℕ} (ps : List (Part (suc (suc (suc k))))) (X : Relate
         → ((y : Item 𝓤) → Opds K W (y ∷ Γ) E xs (sliceVal (ptr (a .0)) (length (now (a .0))) ∷ sliceVal (ptr (a .1 .0)) (length (now (a .1 .0))) ∷ sliceVal (ptr (a .1 .1 .0)) (length (now (a .1 .1 .0))) ∷ D .request .elem .val n ∷ sliceVal (ptr x) (length (now x)) ∷ sliceVal (ptr o) (length (now o)) ∷ []))
         → ((r : N D .Denot) → Is (N D) r (D .answer .elem .val r ∷ []) → (zs : List (of (D .channel) .Denot)) (ms ls os : List ℕ) → D .says (now (a .0)) (now (a .1 .0)) (now (a .1 .1 .0)) n (now x) (now o) r zs ms ls os
         → Seq K W (‵ (flft κx qx) ∷ ‵ (flft κo qo) ∷ ‵ (last-is u8 o os) ∷ ThreeThen D ps 𝓤 H A κs qs a zs ms ls Γ) (lands (𝓣 .C) (𝓣 .Λ) E d (D .answer .elem .val r) rest q))
-        → Seq K W (Given-door D ps 𝓤 H A κs qs a κx κo qx qo n x o Γ) (runs (𝓣 .C) (𝓣 .Λ) E (seq (call f xs d) rest) q)
+        → Seq K W (To-door D ps 𝓤 H A κs qs a κx κo qx qo n x o Γ) (runs (𝓣 .C) (𝓣 .Λ) E (seq (call f xs d) rest) q)
     performs t 𝓣 known {κx} {κo} {qx} {qo} n is x o os k =
         let κs″ : Lfts 5 = κs′ D ps 𝓤 H A κs qs a κx κo qx qo n x o in
         let qs″ : Shares 5 = qs′ D ps 𝓤 H A κs qs a κx κo qx qo n x o in

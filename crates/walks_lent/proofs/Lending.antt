@@ -3,12 +3,13 @@
 -- `turn` gives. So what it is passed is what `perform` asks, and what `perform` leaves of it is what it has to leave: neither is taken apart.
 --     Part             a parameter: its slot in a signature, its machine values, and that what it owns tells them
 --     mut-slice, shr-slice, by-value     a `&mut [R]` and a `&[R]` at the lifetime numbered j, and a plain value
+--     slots, rows, each    of a list of parameters: their slots, their types, and their machine values, one list for each
 --     lent ps R        the signature with the parameters ps and a result of the type R, and each last value kept
 --     Relates ps R     what may be ensured: a relation of the parameters on entry, the result, and the parameters at exit
 --     Turned           the parameters, the kinds of the answer and of what is given; `turned`; what `perform` ensures, what this function ensures,
 --                      and that the one gives the other
 --     Perform, Turn    the contracts of `perform` and of `turn`, which ensures `r ≡ turned a`. Neither has a `requires`
---     Passed, Due      what this function is passed, and what it has to leave.        Had      what `perform` leaves, at its answer
+--     Passed, Due      what this function is passed, and what it has to leave.        Had      what `perform` leaves, at its answer: the tokens, and `Last`
 --     performs, turns  the two calls, as steps.        ends     the end of a walk
 --     lent-meets       from a walk to the contract
 -- Assumes nothing: `Given`, the laws of a model, is an argument.

@@ -4,3 +4,4 @@ pub mod Afresh
 pub mod Sweeping
 pub mod Making
 pub mod Testing
+pub mod First

@@ -1,9 +1,16 @@
 -- `node_settings::see` meets its contract: an instance of the walk of `Fold.antt`.
 -- Assumes nothing.
-use Rattle.walks.proofs.Walk.{givenOf, tables, tablesOf, tripleOf, entered, cited, u16}
+use mathlib.Core.Path.{subst}
+use Rattle.walks.proofs.Walk.{_≡_, sym, ℕ, _≤_, givenOf, tables, tablesOf, tripleOf, entered, cited, u16}
 use Rattle.walks_sweeping.proofs.Fold.{fold-meets}
 use Rattle.table.specs.Serving.{unset}
-use Rattle.settings_seen.specs.Seeing.{seeOne}
+use Rattle.table.specs.Surveying.{lookedAt}
+use Rattle.table.proofs.Looked.{looked-within}
+use Rattle.table.proofs.surveying.looked_at as looked-at
+use Rattle.table.proofs.surveying.looked_at.Symbol as looked-at-def
+use Rattle.table.proofs.surveying.looked_at.Met as looked-at-thm
+use Rattle.settings_seen.specs.Seeing.{seeOne, seen}
+use Rattle.node_settings.proofs.SeenLaws.{first-seen}
 use Rattle.node_settings.proofs.Types.{settings, carried}
 use Rattle.settings_seen.proofs.seeing.see_one as see-one
 use Rattle.settings_seen.proofs.seeing.see_one.Symbol as see-one-def
@@ -18,5 +25,8 @@ unfolding code.routine tablesOf
 see-spec 𝓤 H 𝓜 𝓖 𝓡 =
     entered 𝓤 H (tripleOf 𝓤 H (𝓖 .A) this.signature (this.spec 𝓤 H (𝓖 .A) (𝓜 .mem) (𝓡 .run)))
     (tables 𝓤 H 𝓜 𝓡 code.env .C) (tables 𝓤 H 𝓜 𝓡 code.env .Λ) #node-settings·see code.function (code.unfolded 𝓤 H 𝓜 𝓡)
-    (fold-meets settings unset tt u16 carried seeOne see-one-def.name 𝓤 H (𝓖 .A) (givenOf 𝓤 H 𝓜 𝓖) (tablesOf 𝓤 H 𝓜 (tables 𝓤 H 𝓜 𝓡 code.env))
+    (fold-meets settings unset tt u16 carried seeOne seen
+    (λ n k. k ≡ lookedAt n) (λ n k e. subst (λ (m : ℕ). m ≤ n) (sym e) (looked-within n)) (λ ys es a k. first-seen es ys a k)
+    looked-at-def.name see-one-def.name 𝓤 H (𝓖 .A) (givenOf 𝓤 H 𝓜 𝓖) (tablesOf 𝓤 H 𝓜 (tables 𝓤 H 𝓜 𝓡 code.env))
+    (cited 𝓤 H (tripleOf 𝓤 H (𝓖 .A) looked-at.signature (looked-at.spec 𝓤 H (𝓖 .A) (𝓜 .mem) (𝓡 .run))) 𝓜 𝓡 code.env looked-at-def.name looked-at-def.routine code.calls-table·surveying·looked-at (looked-at-thm.met 𝓤 H 𝓜 𝓖 𝓡))
     (cited 𝓤 H (tripleOf 𝓤 H (𝓖 .A) see-one.signature (see-one.spec 𝓤 H (𝓖 .A) (𝓜 .mem) (𝓡 .run))) 𝓜 𝓡 code.env see-one-def.name see-one-def.routine code.calls-settings-seen·seeing·see-one (see-one-thm.met 𝓤 H 𝓜 𝓖 𝓡)))
