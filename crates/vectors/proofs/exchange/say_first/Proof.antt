@@ -1,14 +1,14 @@
--- `exchange::say_first` meets its contract: the part is within the slice.
+-- `vectors::exchange::say_first` meets its contract: the part is within the slice.
 -- Assumes nothing.
 use mathlib.Core.Path.{sym}
 use native.Mathlib.Omega.{arith}
 use lib.Seq.{length-take-le}
 use borrow.Author.Needs.{needs}
-use Rattle.exchange.proofs.say_first.Statement.{statement}
-use Rattle.exchange.proofs.say_first.Tie as tie
-use Rattle.exchange.proofs.say_first.Reads as reads
-use Rattle.exchange.proofs.say_first.Lts as lts
-use Rattle.exchange.proofs.say.Reads as say-reads
+use Rattle.vectors.proofs.exchange.say_first.Statement.{statement}
+use Rattle.vectors.proofs.exchange.say_first.Tie as tie
+use Rattle.vectors.proofs.exchange.say_first.Reads as reads
+use Rattle.vectors.proofs.exchange.say_first.Lts as lts
+use Rattle.vectors.proofs.show.say.Reads as say-reads
 
 slice-aggregate-say : tie.Need-slice-aggregate-say
 slice-aggregate-say c = sym (length-take-le _ _ (omega arith))

@@ -1,17 +1,17 @@
--- `exchange::over` meets its contract: the part is within the slice.
+-- `vectors::exchange::over` is safe and ends: the part is within the slice.
 -- Assumes nothing.
 use mathlib.Core.Path.{sym}
 use native.Mathlib.Omega.{arith}
 use lib.Seq.{length-take-le}
 use borrow.Author.Needs.{needs}
-use Rattle.exchange.proofs.over.Statement.{statement}
-use Rattle.exchange.proofs.over.Tie as tie
-use Rattle.exchange.proofs.over.Reads as reads
-use Rattle.exchange.proofs.over.Lts as lts
-use Rattle.exchange.proofs.arrives.Reads as arrives-reads
-use Rattle.exchange.proofs.is_number.Reads as is-number-reads
-use Rattle.exchange.proofs.say.Reads as say-reads
-use Rattle.exchange.proofs.say_packet.Reads as say-packet-reads
+use Rattle.vectors.proofs.exchange.over.Statement.{statement}
+use Rattle.vectors.proofs.exchange.over.Tie as tie
+use Rattle.vectors.proofs.exchange.over.Reads as reads
+use Rattle.vectors.proofs.exchange.over.Lts as lts
+use Rattle.vectors.proofs.exchange.arrives.Reads as arrives-reads
+use Rattle.vectors.proofs.exchange.is_number.Reads as is-number-reads
+use Rattle.vectors.proofs.exchange.say_packet.Reads as say-packet-reads
+use Rattle.vectors.proofs.show.say.Reads as say-reads
 
 returns : tie.Need-returns
 returns c = search needs
