@@ -1,2 +1,4 @@
 pub mod Performing
 pub mod Records
+pub mod Trace
+pub mod Reading

@@ -7,7 +7,6 @@ use channel::Node;
 use engine_look::looking::Request;
 use engine_look::looking::TICK;
 ghost use mathlib.Core.Path.{_≡_};
-ghost use Prim.Native.Nat.{_+_, _*_};
 ghost use Rattle.walks.specs.Serving.{leaves};
 ghost use Rattle.engine.specs.Records.{replayed};
 
@@ -27,11 +26,4 @@ pub fn step(
         return tick_in(t, mem, lens);
     }
     perform_in(t, mem, lens, Request { kind, node }, body, out)
-}
-
-// A number of two octets, the least significant first, as the records have them.
-pub fn little(low: u8, high: u8) -> u16
-    ensures { λ r. ⌜ r ≡ high * 256 + low ⌝ }
-{
-    (high as u16) * 256 + (low as u16)
 }
