@@ -1,2 +1,4 @@
 pub mod Asking
 pub mod Records
+pub mod Trace
+pub mod Reading

@@ -8,7 +8,6 @@ use crate::request::request_of;
 use channel::Channel;
 use channel::Node;
 ghost use mathlib.Core.Path.{_≡_};
-ghost use Prim.Native.Nat.{_+_, _*_};
 ghost use Rattle.walks.specs.Serving.{leaves};
 ghost use Rattle.engine.specs.Records.{replayed};
 
@@ -30,11 +29,4 @@ pub fn step(
     let n = request_of(kind, body, node);
     let from = octets_from(kind, body);
     serve_in(t, mem, lens, n, &body[from..], out)
-}
-
-// A number of two octets, the least significant first, as the records have them.
-pub fn little(low: u8, high: u8) -> u16
-    ensures { λ r. ⌜ r ≡ high * 256 + low ⌝ }
-{
-    (high as u16) * 256 + (low as u16)
 }

@@ -1,14 +1,19 @@
 // Replays a trace from standard input (document 01, Replay program): a line for each record, then `end ok`, or `end short` where a record is cut.
-use channel::Answer;
 use channel::Channel;
 use channel::Node;
 use channel::answer::number;
-use engine::Kept;
-use engine::records::little;
+use engine::reading::Fed;
+use engine::reading::feed;
+use engine::reading::is_cut;
+use engine::reading::room;
 use engine::records::step;
 use engine::settings::table_of;
 use libc::STDIN_FILENO;
 use libc::STDOUT_FILENO;
+ghost use mathlib.Core.Path.{_≡_};
+ghost use mathlib.Core.Bool.{true};
+ghost use Prim.Native.Nat.{_≤_};
+ghost use lib.ListN.{length};
 
 // The replay's own address and protocol ID, the other end's address, and the numbers of the two channels.
 const OWN: u8 = 64;
@@ -21,72 +26,102 @@ const FIRST: u16 = 1;
 
 const SECOND: u16 = 1;
 
-// How a turn ended: a record was done, the trace was at its end, or it was cut within a record.
-const DONE: u8 = 0;
-
-const ENDED: u8 = 1;
-
-const CUT: u8 = 2;
-
-struct Turn {
-    pub status: u8,
-    pub kept: Kept,
+// The channels, how many records were done, and how many octets of the next one are in the buffer.
+struct Run {
+    table: [Channel; 2],
+    place: u64,
+    held: usize,
 }
 
 fn main() {
     let mut mem = [0u8; 256];
     let mut lens = [0u16; 16];
-    let mut body = io::large_buffer();
+    let mut piece = io::large_buffer();
+    let mut buffer = room();
     io::write_all(STDOUT_FILENO, b"rec answer\n");
-    if replay(&mut mem, &mut lens, &mut body) {
+    if replay(&mut mem, &mut lens, &mut piece, &mut buffer) {
         io::write_all(STDOUT_FILENO, b"end ok\n");
     } else {
         io::write_all(STDOUT_FILENO, b"end short\n");
     }
 }
 
-// One record after another; true if the trace ended between two. A proved loop has to end, and nothing says that a trace does: no trace has as
-// many records as the loop would count.
-fn replay(mem: &mut [u8], lens: &mut [u16], body: &mut [u8]) -> bool {
-    let mut table = table_of(REMOTE, FIRST, SECOND);
-    let mut place: u64 = 0;
-    while place < u64::MAX {
-        let t = one_record(table, mem, lens, body);
-        if t.status != DONE {
-            return t.status == ENDED;
+// One piece after another; true if the trace ended between two records. A read that fails is no end. A proved loop has to end, and nothing says
+// that a trace does: no trace has as many pieces as the loop would count.
+fn replay(mem: &mut [u8], lens: &mut [u16], piece: &mut [u8], buffer: &mut [u8]) -> bool
+    requires { ⌜ 65539 ≤ length (now buffer) ⌝ }
+{
+    let table = table_of(REMOTE, FIRST, SECOND);
+    let mut run = Run {
+        table,
+        place: 0,
+        held: 0,
+    };
+    let mut turn: u64 = 0;
+    while turn < u64::MAX {
+        let got = libc::read(STDIN_FILENO, piece);
+        if got < 0 {
+            return false;
         }
-        let kept = t.kept;
-        table = kept.table;
-        place += 1;
-        let answer = kept.answer;
-        say_line(place, number(answer));
+        let n = io::count(got, piece);
+        if n == 0 {
+            return !is_cut(run.held, buffer);
+        }
+        let after = do_piece(run, &piece[..n], mem, lens, buffer);
+        run = after;
+        turn += 1;
     }
-    true
+    false
 }
 
-// Reads a record whole, and does it.
-fn one_record(table: [Channel; 2], mem: &mut [u8], lens: &mut [u16], body: &mut [u8]) -> Turn {
-    let mut head = [0u8; 4];
-    let got = io::read_full(STDIN_FILENO, &mut head);
-    if got == 0 {
-        return stopped(table, ENDED);
+// The records that become whole with a piece.
+fn do_piece(run: Run, piece: &[u8], mem: &mut [u8], lens: &mut [u16], buffer: &mut [u8]) -> Run
+    requires { ⌜ 65539 ≤ length (now buffer) ⌝ }
+{
+    let mut r = run;
+    let mut at: usize = 0;
+    while at < piece.len() {
+        let fed = feed(r.held, piece, at, buffer);
+        let after = do_fed(r, fed, mem, lens, buffer);
+        r = after;
+        at = fed.next;
     }
-    if got < 4 {
-        return stopped(table, CUT);
+    r
+}
+
+fn do_fed(run: Run, fed: Fed, mem: &mut [u8], lens: &mut [u16], buffer: &[u8]) -> Run
+    requires { ⌜ (fed .whole ≡ true → (4 ≤ fed .held) × (fed .held ≤ length (now buffer))) ⌝ }
+{
+    let held = fed.held;
+    let table = run.table;
+    let r = Run {
+        table,
+        place: run.place,
+        held,
+    };
+    if fed.whole {
+        return do_record(r, fed.kind, &buffer[4..held], mem, lens);
     }
-    let length = little(head[0], head[1]) as usize;
-    let kind = little(head[2], head[3]);
-    if body.len() < length {
-        return stopped(table, CUT);
-    }
-    let whole = &mut body[..length];
-    let read = io::read_full(STDIN_FILENO, whole);
-    if read < length {
-        return stopped(table, CUT);
-    }
+    r
+}
+
+// A record is done, and its line is said: its place in the trace, from 1, and the answer's number.
+fn do_record(run: Run, kind: u16, body: &[u8], mem: &mut [u8], lens: &mut [u16]) -> Run {
     let mut out = [0u8; 64];
-    let kept = step(table, mem, lens, own(), kind, whole, &mut out);
-    Turn { status: DONE, kept }
+    let table = run.table;
+    let kept = step(table, mem, lens, own(), kind, body, &mut out);
+    let answer = kept.told.answer;
+    let after = kept.table;
+    let place = std::num::wrapping_add_u64(run.place, 1);
+    io::print_decimal(STDOUT_FILENO, place);
+    io::write_all(STDOUT_FILENO, b" ");
+    io::print_decimal(STDOUT_FILENO, wide(number(answer)));
+    io::write_all(STDOUT_FILENO, b"\n");
+    Run {
+        table: after,
+        place,
+        held: run.held,
+    }
 }
 
 fn own() -> Node {
@@ -96,27 +131,6 @@ fn own() -> Node {
     }
 }
 
-fn stopped(table: [Channel; 2], status: u8) -> Turn {
-    Turn {
-        status,
-        kept: Kept {
-            answer: Answer::Done {
-                length: 0,
-                confirmed: 0,
-            },
-            table,
-        },
-    }
-}
-
 fn wide(x: u32) -> u64 {
     x as u64
-}
-
-// The line of one record: its place in the trace, from 1, and the answer's number.
-fn say_line(place: u64, answer: u32) {
-    io::print_decimal(STDOUT_FILENO, place);
-    io::write_all(STDOUT_FILENO, b" ");
-    io::print_decimal(STDOUT_FILENO, wide(answer));
-    io::write_all(STDOUT_FILENO, b"\n");
 }

@@ -1,4 +1,7 @@
-// Runs what document 01 gives as numbers to check of the check sum and the packet, and shows one packet written and read.
+// Runs what document 01 gives as numbers to check and is not proved of a definition, shows one packet written and read, and plays the exchanges of
+// 000, Appendix B.
+mod asking;
+mod exchange;
 mod numbers;
 mod show;
 
@@ -14,6 +17,8 @@ fn main() {
     packet_controls();
     one_packet();
     numbers::say_numbers();
+    say(b"\n");
+    exchange::say_exchanges();
 }
 
 fn check_sums() {

@@ -1,18 +1,32 @@
 // The unstarred numbers of document 01 that the ends give.
+use crate::asking::ARRIVAL;
+use crate::asking::NEXT;
+use crate::asking::OPEN;
+use crate::asking::OWN;
+use crate::asking::TAKE;
+use crate::asking::TRANSFER;
+use crate::asking::ask;
+use crate::asking::does;
+use crate::asking::facing;
 use crate::show::say;
-use crate::show::say_number;
-use channel::Addresses;
+use crate::show::say_answer;
 use channel::Channel;
-use channel::Limits;
-use channel::Settings;
-use channel::record::OPEN;
-use channel::record::made;
+use packet::Fields;
+
+// Types of packets (000, 4.2.3.4).
+const DATA: u8 = 0;
+
+const OPENS: u8 = 2;
+
+const CONTROL_ACK: u8 = 7;
 
 pub fn say_numbers() {
+    let short = [0u8; 65];
+    let long = [0u8; 66];
     say(b"\nP 16, M 4: a unit of 64 octets is answered ");
-    say_asked(64);
+    say_transfer(&short);
     say(b", of 65 ");
-    say_asked(65);
+    say_transfer(&long);
     say(b"\nk 64, segment 1 repeated: at start 193 it is answered ");
     say_repeated(193);
     say(b", at 194 ");
@@ -20,44 +34,75 @@ pub fn say_numbers() {
     say(b"\n");
 }
 
-// What a transfer of so many octets would be answered.
-fn say_asked(n: usize) {
-    let lens = [0u16; 128];
-    let c = opened(0, 1);
-    let stepped = alone::ask(c, n, &lens);
-    let a = stepped.answer;
-    say_number(channel::answer::number(a) as u64);
+// What a transfer is answered by a sender that was opened: channel 0, and then the unit.
+fn say_transfer(body: &[u8]) {
+    let mut mem = [0u8; 256];
+    let mut lens = [0u16; 16];
+    let mut out = [0u8; 64];
+    let closed = facing(4, 8);
+    let enabled = does(closed, OPEN, b"\0", &mut mem, &mut lens);
+    let sent = does(enabled, NEXT, b"", &mut mem, &mut lens);
+    let opened = arrives(sent, CONTROL_ACK, 0, &mut mem, &mut lens);
+    let kept = ask(opened, TRANSFER, body, &mut mem, &mut lens, &mut out);
+    let answer = kept.told.answer;
+    say_answer(answer);
 }
 
-// What the first segment is answered where the window has moved on to a start.
+// What the first segment is answered where it comes again, the window having moved on to a start.
 fn say_repeated(start: u8) {
-    let mut mem = [0u8; 2048];
-    let mut lens = [0u16; 128];
-    let c = opened(1, start);
-    let stepped = alone::data(c, 1, 3, b"", &mut mem, &mut lens);
-    let a = stepped.answer;
-    say_number(channel::answer::number(a) as u64);
+    let mut mem = [0u8; 4096];
+    let mut lens = [0u16; 256];
+    let mut out = [0u8; 64];
+    let moved = moved_to(start, &mut mem, &mut lens);
+    let again = empty_packet(DATA, 1);
+    let kept = ask(moved, ARRIVAL, &again, &mut mem, &mut lens, &mut out);
+    let answer = kept.told.answer;
+    say_answer(answer);
 }
 
-// An open channel with nothing held.
-fn opened(direction: u8, start: u8) -> Channel {
-    let mut c = made(Settings {
-        addresses: Addresses {
-            channel: 1,
-            remote: 65,
-            direction,
-        },
-        limits: Limits {
-            window: 64,
-            slots: 128,
-            payload: 16,
-            segments: 4,
-            timeout: 4,
-            closing: 4,
-            retries: 2,
-        },
-    });
-    c.phase.state = OPEN;
-    c.window.start = start;
-    c
+// A receiver that was sent units of one empty segment, and has given each away.
+fn moved_to(start: u8, mem: &mut [u8], lens: &mut [u16]) -> [Channel; 2] {
+    let closed = facing(64, 128);
+    let enabled = does(closed, OPEN, b"\x01", mem, lens);
+    let opened = arrives(enabled, OPENS, 0, mem, lens);
+    let mut table = opened;
+    let mut number: u8 = 1;
+    while number < start {
+        let arrived = arrives(table, DATA, number, mem, lens);
+        let taken = does(arrived, TAKE, b"\x01", mem, lens);
+        table = taken;
+        number += 1;
+    }
+    table
+}
+
+fn arrives(
+    table: [Channel; 2],
+    kind: u8,
+    number: u8,
+    mem: &mut [u8],
+    lens: &mut [u16],
+) -> [Channel; 2] {
+    let octets = empty_packet(kind, number);
+    does(table, ARRIVAL, &octets, mem, lens)
+}
+
+// A packet without payload, from the other end.
+fn empty_packet(kind: u8, number: u8) -> [u8; 12] {
+    let mut octets = [0u8; 12];
+    let fields = Fields {
+        destination: OWN,
+        protocol: 5,
+        version: 1,
+        secondary: 0,
+        flags: 3,
+        kind,
+        channel: 1,
+        number,
+        reserved: 0,
+        prefix: 0,
+        source: OWN,
+    };
+    packet::write_packet(fields, b"", &mut octets);
+    octets
 }

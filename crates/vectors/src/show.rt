@@ -1,4 +1,6 @@
-// Words, numbers and octets on standard output.
+// Words, numbers, answers and octets on standard output.
+use channel::Answer;
+use channel::answer::number;
 use libc::STDOUT_FILENO;
 
 pub fn say(text: &[u8]) {
@@ -7,6 +9,11 @@ pub fn say(text: &[u8]) {
 
 pub fn say_number(n: u64) {
     io::print_decimal(STDOUT_FILENO, n);
+}
+
+// Document 01's number of an answer.
+pub fn say_answer(answer: Answer) {
+    say_number(number(answer) as u64);
 }
 
 // Two digits in capitals, as the papers write them.

@@ -17,7 +17,8 @@ const USAGE: &str = "usage:
   traces rewrite FILE..            writes the octets into trace files anew
   traces table FOLDER              which trace reaches which answer
   traces run FOLDER INPUTS WORD..  tests the program of these words: every trace,
-                                   INPUTS random inputs, INPUTS changed traces";
+                                   INPUTS random inputs, INPUTS changed traces,
+                                   and inputs that are long, cut or unreadable";
 
 /// A run that takes longer does not end by itself.
 const LIMIT: Duration = Duration::from_secs(30);

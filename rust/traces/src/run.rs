@@ -6,9 +6,9 @@ use std::{env, fs, thread};
 
 use peer::replay::replay;
 
-use crate::program::Program;
+use crate::program::{Feed, Program};
 use crate::trace::Trace;
-use crate::{changed, random};
+use crate::{changed, edges, random};
 
 /// The lines that may be the last.
 const ENDS: [&str; 2] = ["end ok", "end short"];
@@ -16,41 +16,74 @@ const ENDS: [&str; 2] = ["end ok", "end short"];
 /// A program that fails so often need not be tried further.
 const ENOUGH: usize = 30;
 
-/// An input, and what must be printed for it.
+/// An input, how it comes, and what must be printed for it.
 struct Case {
     name: String,
     input: Vec<u8>,
+    feed: Feed,
     expected: String,
 }
 
-/// Runs the program on every trace, each a test of its own, and on so many
-/// random inputs and changed traces, each sort one test. Gives how many tests
-/// passed and how many failed.
+/// Runs the program on every trace, each a test of its own, on so many random
+/// inputs and changed traces, and at the edges of what an input can be, each
+/// sort one test. Gives how many tests passed and how many failed.
 pub fn all(program: &Program, traces: &[Trace], inputs: u64) -> (usize, usize) {
     let written: Vec<Case> = traces.iter().map(of_trace).collect();
     let octets: Vec<Vec<u8>> = traces.iter().map(Trace::input).collect();
-    let random = (0..inputs).map(|place| by_chance("random", place, random::input(place)));
+    let random = (0..inputs).map(|place| by_peer("random", place, random::input(place)));
     let changed =
-        (0..inputs).map(|place| by_chance("changed", place, changed::input(&octets, place)));
-    let failed = failures("traces", program, &written)
-        + failures("random inputs", program, &random.collect::<Vec<_>>()).min(1)
-        + failures("changed traces", program, &changed.collect::<Vec<_>>()).min(1);
-    (traces.len() + 2 - failed, failed)
+        (0..inputs).map(|place| by_peer("changed", place, changed::input(&octets, place)));
+    let sorts = [
+        ("random inputs", random.collect()),
+        ("changed traces", changed.collect()),
+        ("long traces", vec![by_peer("long", 0, edges::long(traces))]),
+        ("cut inputs", cut(Feed::Whole)),
+        ("cut inputs in pieces", cut(Feed::Octets)),
+        ("failing reads", vec![failing()]),
+    ];
+    let failed = failures("traces", program, &written);
+    let of_sorts = sorts
+        .iter()
+        .map(|(sort, cases)| failures(sort, program, cases).min(1));
+    let failed = failed + of_sorts.sum::<usize>();
+    (traces.len() + sorts.len() - failed, failed)
+}
+
+/// An input cut before each of its octets, and whole.
+fn cut(feed: Feed) -> Vec<Case> {
+    let octets = edges::short();
+    let cuts = (0..=octets.len()).map(|end| Case {
+        feed,
+        ..by_peer("cut", end as u64, octets[..end].to_vec())
+    });
+    cuts.collect()
+}
+
+/// An input that cannot be read is not at its end.
+fn failing() -> Case {
+    Case {
+        name: "failing".into(),
+        input: Vec::new(),
+        feed: Feed::Failing,
+        expected: "rec answer\nend short\n".into(),
+    }
 }
 
 fn of_trace(trace: &Trace) -> Case {
     Case {
         name: trace.name.clone(),
         input: trace.input(),
+        feed: Feed::Whole,
         expected: trace.expected(),
     }
 }
 
 /// The peer says what must be printed.
-fn by_chance(sort: &str, place: u64, input: Vec<u8>) -> Case {
+fn by_peer(sort: &str, place: u64, input: Vec<u8>) -> Case {
     Case {
         name: format!("{sort}-{place}"),
         expected: replay(&input),
+        feed: Feed::Whole,
         input,
     }
 }
@@ -86,7 +119,7 @@ fn failures(sort: &str, program: &Program, cases: &[Case]) -> usize {
 
 /// The program prints what it must, and keeps the input if not.
 fn check(program: &Program, case: &Case) -> Result<(), String> {
-    let printed = program.printed(&case.input);
+    let printed = program.printed(&case.input, case.feed);
     let right = printed.and_then(|text| compare(&text, &case.expected));
     right.map_err(|why| {
         let kept = env::temp_dir().join(format!("replay-{}.input", case.name));

@@ -8,7 +8,7 @@ use peer::replay::replay;
 use traces::packet::{Numbers, NUMBERS};
 use traces::run::answers;
 use traces::trace::{rewritten, Trace};
-use traces::{changed, random};
+use traces::{changed, edges, random};
 
 /// Every answer but 11 and 13: a reply of 12 octets, a packet of at most 28 and
 /// a unit of at most M x P = 64 fit the buffers of 64, and the replay's
@@ -129,4 +129,21 @@ fn inputs_by_chance() {
         assert_eq!(reached, BTreeSet::from(REACHABLE));
         assert_eq!(input(7), input(7));
     }
+}
+
+/// There are more records than two octets count, and the last is answered like
+/// any other.
+#[test]
+fn a_long_input() {
+    let printed = replay(&edges::long(&all()));
+    assert!(answers(&printed).count() > edges::LONG);
+    assert!(printed.ends_with("\nend ok\n"));
+}
+
+/// It ends between two records three times, and at its start.
+#[test]
+fn an_input_cut_anywhere() {
+    let octets = edges::short();
+    let ends = (0..=octets.len()).filter(|end| replay(&octets[..*end]).ends_with("end ok\n"));
+    assert_eq!(ends.collect::<Vec<_>>(), [0, 4, 9, octets.len()]);
 }

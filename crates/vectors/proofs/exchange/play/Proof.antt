@@ -1,0 +1,57 @@
+-- `vectors::exchange::play` is safe and ends: the turns are counted, and each buffer keeps its length.
+-- Assumes nothing.
+use mathlib.Core.Path.{_≡_, refl}
+use Prim.Native.Nat.{_≤_, _-_}
+use native.Mathlib.Omega.{arith}
+use lib.ListN.{length}
+use borrow.Author.Needs.{needs}
+use Rattle.vectors.proofs.exchange.play.Statement.{statement}
+use Rattle.vectors.proofs.exchange.play.Tie as tie
+use Rattle.vectors.proofs.exchange.play.Reads as reads
+use Rattle.vectors.proofs.exchange.play.Lts as lts
+use Rattle.vectors.proofs.exchange.act.Reads as act-reads
+
+abbrev Inv-loop : tie.InvT-loop
+Inv-loop mem₀ lens₀ l₀ turn₀ mem lens l turn = (turn ≤ 18) × (length mem ≡ length mem₀) × (length lens ≡ length lens₀)
+
+abbrev μ-loop : tie.MeasureT-loop
+μ-loop mem₀ lens₀ l₀ turn₀ mem lens l turn = 18 - turn
+
+loop-holds : tie.Need-loop-holds Inv-loop μ-loop
+loop-holds c = (omega arith, refl, refl)
+
+act-requires : tie.Need-act-requires Inv-loop μ-loop
+act-requires c κs = search needs
+
+add-turn : tie.Need-add-turn Inv-loop μ-loop
+add-turn c = search needs
+
+loop-less : tie.Need-loop-less Inv-loop μ-loop
+loop-less c = omega arith
+
+loop-again : tie.Need-loop-again Inv-loop μ-loop
+loop-again c = search needs
+
+same-length : tie.Need-same-length Inv-loop μ-loop
+same-length c = search needs
+
+same-length-2 : tie.Need-same-length-2 Inv-loop μ-loop
+same-length-2 c = search needs
+
+returns : tie.Need-returns Inv-loop μ-loop
+returns c = search needs
+
+pub play-spec : {M : Type 1} → statement M
+play-spec =
+    tie.close
+    (tie.spec
+    Inv-loop
+    μ-loop
+    loop-holds
+    act-requires
+    add-turn
+    loop-less
+    loop-again
+    same-length
+    same-length-2
+    returns)
