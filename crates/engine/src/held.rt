@@ -29,10 +29,7 @@ pub fn serve_in(
 {
     let mut u = t;
     let a = serve(&mut u, mem, lens, n, x, out);
-    Kept {
-        told: a,
-        table: u,
-    }
+    Kept { told: a, table: u }
 }
 
 pub fn tick_in(t: [Channel; 2], mem: &[u8], lens: &[u16]) -> Kept
@@ -40,8 +37,5 @@ pub fn tick_in(t: [Channel; 2], mem: &[u8], lens: &[u16]) -> Kept
 {
     let mut u = t;
     let a = tick(&mut u, mem, lens);
-    Kept {
-        told: a,
-        table: u,
-    }
+    Kept { told: a, table: u }
 }

@@ -1,50 +1,72 @@
-// Every call of the node for C: the table, the memory, the lengths and the buffers are lent as they are, and the answer comes as numbers.
+// Every call of the node for C: the table, the memory, the lengths and the buffers are lent as they are, and the answer comes as numbers. Each is a
+// thin call of the node's door; what a call does not have, it lends empty.
+use crate::asking::arrival_asked;
+use crate::asking::close_asked;
+use crate::asking::next_asked;
+use crate::asking::open_asked;
+use crate::asking::reclaim_asked;
+use crate::asking::take_asked;
+use crate::asking::transfer_asked;
+use crate::asking::would_asked;
 use channel::Channel;
 use channel::Node;
 use channel::Settings;
 use host_answers::calls::Said;
 use host_answers::calls::said_of;
-use node::arrivals::arrival;
-use node::packets::next_packet;
-use node::requests::close;
-use node::requests::open;
-use node::requests::reclaim;
-use node::requests::take;
-use node::requests::transfer;
+use node::door::serve;
 use node_settings::settings;
 use node_ticks::ticks::tick;
 ghost use mathlib.Core.Path.{_≡_};
 ghost use mathlib.Core.List.{[]};
-ghost use Rattle.walks.specs.Serving.{leaves, changes, saying, telling};
-ghost use Rattle.node_ticks.specs.Ticks.{ticked};
-ghost use Rattle.node_calls.specs.Calls.{opened, closed, transferred, taken, reclaimed, handed, arrived};
+ghost use lib.ListN.{length};
+ghost use Rattle.walks.specs.Serving.{leaves, changes};
+ghost use Rattle.node_calls.specs.declared.request.Request.the-variants as request;
+ghost use Rattle.node_calls.specs.Calls.{servedIndex, opened, closed, transferred, wouldAnswer, taken, reclaimed, handed, arrived};
+ghost use Rattle.node_ticks.specs.Ticks.{ticked, tickIndex};
 ghost use Rattle.node_settings.specs.Configuring.{configured};
-ghost use Rattle.host_answers.specs.Said.{saidOf};
+ghost use Rattle.host_answers.specs.Said.{saidAt, toldAt};
 
 // A table made afresh.
 #[no_mangle]
 pub extern "C" fn peat_settings(t: &mut [Channel], mem: &[u8], lens: &[u16], s: &[Settings]) -> Said
-    ensures { λ r. ⌜ changes r (now (t .exit)) ≡ telling saidOf (configured (now (t .entry)) (now (mem .entry)) (now (lens .entry)) (now (s .entry))) ⌝ }
+    ensures { λ r. ⌜ changes r (now (t .exit)) ≡ toldAt (length (now (t .entry))) (configured (now (t .entry)) (now (mem .entry)) (now (lens .entry)) (now (s .entry))) ⌝ }
 {
     let a = settings(t, mem, lens, s);
     let r = said_of(a);
     r
 }
 
+// A directive leaves memory and lengths as they were.
 #[no_mangle]
-pub extern "C" fn peat_open(t: &mut [Channel], mem: &[u8], lens: &[u16], index: usize) -> Said
-    ensures { λ r. ⌜ changes r (now (t .exit)) ≡ telling saidOf (opened (now (t .entry)) (now (mem .entry)) (now (lens .entry)) index) ⌝ }
+pub extern "C" fn peat_open(
+    t: &mut [Channel],
+    mem: &mut [u8],
+    lens: &mut [u16],
+    index: usize,
+) -> Said
+    ensures { λ r. ⌜ (changes r (now (t .exit)) ≡ toldAt (servedIndex (now (t .entry)) (now (mem .entry)) (now (lens .entry)) (request.Open index) [] []) (opened (now (t .entry)) (now (mem .entry)) (now (lens .entry)) index)) × (now (mem .exit) ≡ now (mem .entry)) × (now (lens .exit) ≡ now (lens .entry)) ⌝ }
 {
-    let a = open(t, mem, lens, index);
+    let n = open_asked(index);
+    let x: [u8; 0] = [0; 0];
+    let mut out: [u8; 0] = [0; 0];
+    let a = serve(t, mem, lens, n, &x, &mut out);
     let r = said_of(a);
     r
 }
 
 #[no_mangle]
-pub extern "C" fn peat_close(t: &mut [Channel], mem: &[u8], lens: &[u16], index: usize) -> Said
-    ensures { λ r. ⌜ changes r (now (t .exit)) ≡ telling saidOf (closed (now (t .entry)) (now (mem .entry)) (now (lens .entry)) index) ⌝ }
+pub extern "C" fn peat_close(
+    t: &mut [Channel],
+    mem: &mut [u8],
+    lens: &mut [u16],
+    index: usize,
+) -> Said
+    ensures { λ r. ⌜ (changes r (now (t .exit)) ≡ toldAt (servedIndex (now (t .entry)) (now (mem .entry)) (now (lens .entry)) (request.Close index) [] []) (closed (now (t .entry)) (now (mem .entry)) (now (lens .entry)) index)) × (now (mem .exit) ≡ now (mem .entry)) × (now (lens .exit) ≡ now (lens .entry)) ⌝ }
 {
-    let a = close(t, mem, lens, index);
+    let n = close_asked(index);
+    let x: [u8; 0] = [0; 0];
+    let mut out: [u8; 0] = [0; 0];
+    let a = serve(t, mem, lens, n, &x, &mut out);
     let r = said_of(a);
     r
 }
@@ -57,9 +79,30 @@ pub extern "C" fn peat_transfer(
     index: usize,
     unit: &[u8],
 ) -> Said
-    ensures { λ r. ⌜ leaves r (now (t .exit)) (now (mem .exit)) (now (lens .exit)) [] ≡ saying saidOf (transferred (now (t .entry)) (now (mem .entry)) (now (lens .entry)) index (now (unit .entry))) ⌝ }
+    ensures { λ r. ⌜ leaves r (now (t .exit)) (now (mem .exit)) (now (lens .exit)) [] ≡ saidAt (servedIndex (now (t .entry)) (now (mem .entry)) (now (lens .entry)) (request.Transfer index) (now (unit .entry)) []) (transferred (now (t .entry)) (now (mem .entry)) (now (lens .entry)) index (now (unit .entry))) ⌝ }
 {
-    let a = transfer(t, mem, lens, index, unit);
+    let n = transfer_asked(index);
+    let mut out: [u8; 0] = [0; 0];
+    let a = serve(t, mem, lens, n, unit, &mut out);
+    let r = said_of(a);
+    r
+}
+
+// A question: whatever it answers, all that is lent stays as it was.
+#[no_mangle]
+pub extern "C" fn peat_would_transfer(
+    t: &mut [Channel],
+    mem: &mut [u8],
+    lens: &mut [u16],
+    index: usize,
+    count: usize,
+) -> Said
+    ensures { λ r. ⌜ (changes r (now (t .exit)) ≡ toldAt (servedIndex (now (t .entry)) (now (mem .entry)) (now (lens .entry)) (request.WouldTransfer index count) [] []) (wouldAnswer (now (t .entry)) (now (mem .entry)) (now (lens .entry)) index count)) × (now (t .exit) ≡ now (t .entry)) × (now (mem .exit) ≡ now (mem .entry)) × (now (lens .exit) ≡ now (lens .entry)) ⌝ }
+{
+    let n = would_asked(index, count);
+    let x: [u8; 0] = [0; 0];
+    let mut out: [u8; 0] = [0; 0];
+    let a = serve(t, mem, lens, n, &x, &mut out);
     let r = said_of(a);
     r
 }
@@ -67,14 +110,16 @@ pub extern "C" fn peat_transfer(
 #[no_mangle]
 pub extern "C" fn peat_take(
     t: &mut [Channel],
-    mem: &[u8],
-    lens: &[u16],
+    mem: &mut [u8],
+    lens: &mut [u16],
     index: usize,
     out: &mut [u8],
 ) -> Said
-    ensures { λ r. ⌜ leaves r (now (t .exit)) (now (mem .entry)) (now (lens .entry)) (now (out .exit)) ≡ saying saidOf (taken (now (t .entry)) (now (mem .entry)) (now (lens .entry)) index (now (out .entry))) ⌝ }
+    ensures { λ r. ⌜ (leaves r (now (t .exit)) (now (mem .exit)) (now (lens .exit)) (now (out .exit)) ≡ saidAt (servedIndex (now (t .entry)) (now (mem .entry)) (now (lens .entry)) (request.Take index) [] (now (out .entry))) (taken (now (t .entry)) (now (mem .entry)) (now (lens .entry)) index (now (out .entry)))) × (now (mem .exit) ≡ now (mem .entry)) × (now (lens .exit) ≡ now (lens .entry)) ⌝ }
 {
-    let a = take(t, mem, lens, index, out);
+    let n = take_asked(index);
+    let x: [u8; 0] = [0; 0];
+    let a = serve(t, mem, lens, n, &x, out);
     let r = said_of(a);
     r
 }
@@ -82,14 +127,16 @@ pub extern "C" fn peat_take(
 #[no_mangle]
 pub extern "C" fn peat_reclaim(
     t: &mut [Channel],
-    mem: &[u8],
-    lens: &[u16],
+    mem: &mut [u8],
+    lens: &mut [u16],
     index: usize,
     out: &mut [u8],
 ) -> Said
-    ensures { λ r. ⌜ leaves r (now (t .exit)) (now (mem .entry)) (now (lens .entry)) (now (out .exit)) ≡ saying saidOf (reclaimed (now (t .entry)) (now (mem .entry)) (now (lens .entry)) index (now (out .entry))) ⌝ }
+    ensures { λ r. ⌜ (leaves r (now (t .exit)) (now (mem .exit)) (now (lens .exit)) (now (out .exit)) ≡ saidAt (servedIndex (now (t .entry)) (now (mem .entry)) (now (lens .entry)) (request.Reclaim index) [] (now (out .entry))) (reclaimed (now (t .entry)) (now (mem .entry)) (now (lens .entry)) index (now (out .entry)))) × (now (mem .exit) ≡ now (mem .entry)) × (now (lens .exit) ≡ now (lens .entry)) ⌝ }
 {
-    let a = reclaim(t, mem, lens, index, out);
+    let n = reclaim_asked(index);
+    let x: [u8; 0] = [0; 0];
+    let a = serve(t, mem, lens, n, &x, out);
     let r = said_of(a);
     r
 }
@@ -97,14 +144,16 @@ pub extern "C" fn peat_reclaim(
 #[no_mangle]
 pub extern "C" fn peat_next_packet(
     t: &mut [Channel],
-    mem: &[u8],
-    lens: &[u16],
+    mem: &mut [u8],
+    lens: &mut [u16],
     node: Node,
     out: &mut [u8],
 ) -> Said
-    ensures { λ r. ⌜ leaves r (now (t .exit)) (now (mem .entry)) (now (lens .entry)) (now (out .exit)) ≡ saying saidOf (handed (now (t .entry)) (now (mem .entry)) (now (lens .entry)) node (now (out .entry))) ⌝ }
+    ensures { λ r. ⌜ (leaves r (now (t .exit)) (now (mem .exit)) (now (lens .exit)) (now (out .exit)) ≡ saidAt (servedIndex (now (t .entry)) (now (mem .entry)) (now (lens .entry)) (request.NextPacket node) [] (now (out .entry))) (handed (now (t .entry)) (now (mem .entry)) (now (lens .entry)) node (now (out .entry)))) × (now (mem .exit) ≡ now (mem .entry)) × (now (lens .exit) ≡ now (lens .entry)) ⌝ }
 {
-    let a = next_packet(t, mem, lens, node, out);
+    let n = next_asked(node);
+    let x: [u8; 0] = [0; 0];
+    let a = serve(t, mem, lens, n, &x, out);
     let r = said_of(a);
     r
 }
@@ -118,16 +167,17 @@ pub extern "C" fn peat_arrival(
     packet: &[u8],
     reply: &mut [u8],
 ) -> Said
-    ensures { λ r. ⌜ leaves r (now (t .exit)) (now (mem .exit)) (now (lens .exit)) (now (reply .exit)) ≡ saying saidOf (arrived (now (t .entry)) (now (mem .entry)) (now (lens .entry)) node (now (packet .entry)) (now (reply .entry))) ⌝ }
+    ensures { λ r. ⌜ leaves r (now (t .exit)) (now (mem .exit)) (now (lens .exit)) (now (reply .exit)) ≡ saidAt (servedIndex (now (t .entry)) (now (mem .entry)) (now (lens .entry)) (request.Arrival node) (now (packet .entry)) (now (reply .entry))) (arrived (now (t .entry)) (now (mem .entry)) (now (lens .entry)) node (now (packet .entry)) (now (reply .entry))) ⌝ }
 {
-    let a = arrival(t, mem, lens, node, packet, reply);
+    let n = arrival_asked(node);
+    let a = serve(t, mem, lens, n, packet, reply);
     let r = said_of(a);
     r
 }
 
 #[no_mangle]
 pub extern "C" fn peat_tick(t: &mut [Channel], mem: &[u8], lens: &[u16]) -> Said
-    ensures { λ r. ⌜ changes r (now (t .exit)) ≡ telling saidOf (ticked (now (t .entry)) (now (mem .entry)) (now (lens .entry))) ⌝ }
+    ensures { λ r. ⌜ changes r (now (t .exit)) ≡ toldAt (tickIndex (now (t .entry)) (now (mem .entry)) (now (lens .entry))) (ticked (now (t .entry)) (now (mem .entry)) (now (lens .entry))) ⌝ }
 {
     let a = tick(t, mem, lens);
     let r = said_of(a);

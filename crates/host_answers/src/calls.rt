@@ -3,17 +3,21 @@ use channel::Answer;
 use channel::answer::confirmed;
 use channel::answer::length;
 use channel::answer::number;
+use channel::answer::wanted;
+use table::Told;
 ghost use mathlib.Core.Path.{_≡_};
 ghost use Rattle.channel.specs.Answers.{reasonOf};
-ghost use Rattle.host_answers.specs.Said.{saidOf};
+ghost use Rattle.host_answers.specs.Said.{octetsTold, saidOf};
 
-// What a call answers: document 01's number; with 0 and 15 the octets written, with 0 the units confirmed, with 9 the reason; else zeros.
+// What a call answers: document 01's number; with 0 and 15 the octets written, with 11 the octets that are wanted; with 0 the units confirmed, with 9 the
+// reason; else zeros. And the index of the channel that was served; as many as the table has records where none was.
 #[repr(C)]
 pub struct Said {
     pub number: u32,
     pub reason: u32,
     pub length: usize,
     pub confirmed: usize,
+    pub index: usize,
 }
 
 fn reason(a: Answer) -> u32
@@ -30,13 +34,25 @@ fn reason(a: Answer) -> u32
     }
 }
 
-pub fn said_of(a: Answer) -> Said
-    ensures { λ r. ⌜ r ≡ saidOf a ⌝ }
+// No answer has both.
+fn octets(a: Answer) -> usize
+    ensures { λ r. ⌜ r ≡ octetsTold a ⌝ }
 {
+    if number(a) == 11 {
+        return wanted(a);
+    }
+    length(a)
+}
+
+pub fn said_of(t: Told) -> Said
+    ensures { λ r. ⌜ r ≡ saidOf t ⌝ }
+{
+    let a = t.answer;
     Said {
         number: number(a),
         reason: reason(a),
-        length: length(a),
+        length: octets(a),
         confirmed: confirmed(a),
+        index: t.index,
     }
 }

@@ -2,6 +2,7 @@ pub mod OneOutcome
 pub mod Storing
 pub mod Serving
 pub mod StepsKeep
+pub mod Staying
 pub mod CallsKeep
 pub mod CallsRefuse
 pub mod Parts

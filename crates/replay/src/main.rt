@@ -110,7 +110,8 @@ fn do_record(run: Run, kind: u16, body: &[u8], mem: &mut [u8], lens: &mut [u16])
     let mut out = [0u8; 64];
     let table = run.table;
     let kept = step(table, mem, lens, own(), kind, body, &mut out);
-    let answer = kept.told.answer;
+    let told = kept.told;
+    let answer = told.answer;
     let after = kept.table;
     let place = std::num::wrapping_add_u64(run.place, 1);
     io::print_decimal(STDOUT_FILENO, place);

@@ -71,13 +71,7 @@ pub fn ask_step(c: Channel, count: usize) -> Stepped
 }
 
 // The oldest complete unit is taken.
-pub fn take_step(
-    c: Channel,
-    d: Decision,
-    mem: &[u8],
-    lens: &[u16],
-    out: &mut [u8],
-) -> Stepped
+pub fn take_step(c: Channel, d: Decision, mem: &[u8], lens: &[u16], out: &mut [u8]) -> Stepped
     requires { ⌜ Served c d (now mem) (now lens) ⌝ }
     ensures { λ r. ⌜ works r (now (mem .entry)) (now (lens .entry)) (now (out .exit)) ≡ stepping takeFor c d (now (mem .entry)) (now (lens .entry)) (now (out .entry)) ⌝ }
 {
@@ -92,13 +86,7 @@ pub fn take_step(
 }
 
 // The oldest unit that is held is reclaimed.
-pub fn reclaim_step(
-    c: Channel,
-    d: Decision,
-    mem: &[u8],
-    lens: &[u16],
-    out: &mut [u8],
-) -> Stepped
+pub fn reclaim_step(c: Channel, d: Decision, mem: &[u8], lens: &[u16], out: &mut [u8]) -> Stepped
     requires { ⌜ Served c d (now mem) (now lens) ⌝ }
     ensures { λ r. ⌜ works r (now (mem .entry)) (now (lens .entry)) (now (out .exit)) ≡ stepping reclaimFor c d (now (mem .entry)) (now (lens .entry)) (now (out .entry)) ⌝ }
 {

@@ -89,7 +89,8 @@ fn given(table: [Channel; 2], turn: u8, mem: &mut [u8], lens: &mut [u16]) -> [Ch
 fn take_one(table: [Channel; 2], mem: &mut [u8], lens: &mut [u16]) -> [Channel; 2] {
     let mut out = [0u8; 64];
     let kept = ask(table, TAKE, b"\x01", mem, lens, &mut out);
-    let answer = kept.told.answer;
+    let told = kept.told;
+    let answer = told.answer;
     say(b"  taken: ");
     say_first(&out, channel::answer::length(answer));
     say(b"\n");
@@ -107,7 +108,8 @@ fn round(link: Link, mem: &mut [u8], lens: &mut [u16]) -> Link {
     let mut out = [0u8; 64];
     let table = link.table;
     let kept = ask(table, NEXT, b"", mem, lens, &mut out);
-    let answer = kept.told.answer;
+    let told = kept.told;
+    let answer = told.answer;
     let sent = kept.table;
     let after = with_table(link, sent);
     over(after, &out, channel::answer::length(answer), mem, lens)
@@ -138,7 +140,8 @@ fn arrives(link: Link, octets: &[u8], mem: &mut [u8], lens: &mut [u16]) -> Link 
     let mut reply = [0u8; 12];
     let table = link.table;
     let kept = ask(table, ARRIVAL, octets, mem, lens, &mut reply);
-    let answer = kept.told.answer;
+    let told = kept.told;
+    let answer = told.answer;
     let arrived = kept.table;
     say(b" answered ");
     say_answer(answer);
@@ -163,7 +166,8 @@ fn back(link: Link, reply: &[u8], mem: &mut [u8], lens: &mut [u16]) -> Link {
 fn heard(table: [Channel; 2], reply: &[u8], mem: &mut [u8], lens: &mut [u16]) -> [Channel; 2] {
     let mut out = [0u8; 12];
     let kept = ask(table, ARRIVAL, reply, mem, lens, &mut out);
-    let answer = kept.told.answer;
+    let told = kept.told;
+    let answer = told.answer;
     say(b" answered ");
     say_answer(answer);
     say(b", confirms ");

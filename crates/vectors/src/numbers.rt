@@ -44,7 +44,8 @@ fn say_transfer(body: &[u8]) {
     let sent = does(enabled, NEXT, b"", &mut mem, &mut lens);
     let opened = arrives(sent, CONTROL_ACK, 0, &mut mem, &mut lens);
     let kept = ask(opened, TRANSFER, body, &mut mem, &mut lens, &mut out);
-    let answer = kept.told.answer;
+    let told = kept.told;
+    let answer = told.answer;
     say_answer(answer);
 }
 
@@ -56,7 +57,8 @@ fn say_repeated(start: u8) {
     let moved = moved_to(start, &mut mem, &mut lens);
     let again = empty_packet(DATA, 1);
     let kept = ask(moved, ARRIVAL, &again, &mut mem, &mut lens, &mut out);
-    let answer = kept.told.answer;
+    let told = kept.told;
+    let answer = told.answer;
     say_answer(answer);
 }
 

@@ -9,16 +9,16 @@ use Rattle.host_answers.proofs.calls.said_of.Tie as tie
 use Rattle.host_answers.proofs.calls.said_of.Reads as reads
 use Rattle.host_answers.proofs.calls.said_of.Lts as lts
 use Rattle.channel.proofs.answer.confirmed.Reads as confirmed-reads
-use Rattle.channel.proofs.answer.length.Reads as length-reads
 use Rattle.channel.proofs.answer.number.Reads as number-reads
+use Rattle.host_answers.proofs.calls.octets.Reads as octets-reads
 use Rattle.host_answers.proofs.calls.reason.Reads as reason-reads
 
--- of its four numbers
-abbrev said : ℕ → ℕ → ℕ → ℕ → Said
-said n y l u = record { number = n; reason = y; length = l; confirmed = u }
+-- of its five numbers
+abbrev said : ℕ → ℕ → ℕ → ℕ → ℕ → Said
+said i n y l u = record { number = n; reason = y; length = l; confirmed = u; index = i }
 
-alike : {n n′ y y′ l l′ u u′ : ℕ} → n ≡ n′ → y ≡ y′ → l ≡ l′ → u ≡ u′ → said n y l u ≡ said n′ y′ l′ u′
-alike {n} {n′} {y} {y′} {l} {l′} {u} {u′} en ey el eu = ap₂ (λ (a b : ℕ). said a b l u) en ey ∙ ap₂ (λ (a b : ℕ). said n′ y′ a b) el eu
+alike : (i : ℕ) {n n′ y y′ l l′ u u′ : ℕ} → n ≡ n′ → y ≡ y′ → l ≡ l′ → u ≡ u′ → said i n y l u ≡ said i n′ y′ l′ u′
+alike i {n} {n′} {y} {y′} {l} {l′} {u} {u′} en ey el eu = ap₂ (λ (a b : ℕ). said i a b l u) en ey ∙ ap₂ (λ (a b : ℕ). said i n′ y′ a b) el eu
 
 number-requires : tie.Need-number-requires
 number-requires c κs = search needs
@@ -26,15 +26,15 @@ number-requires c κs = search needs
 reason-requires : tie.Need-reason-requires
 reason-requires c κs = search needs
 
-length-requires : tie.Need-length-requires
-length-requires c κs = search needs
+octets-requires : tie.Need-octets-requires
+octets-requires c κs = search needs
 
 confirmed-requires : tie.Need-confirmed-requires
 confirmed-requires c κs = search needs
 
 returns : tie.Need-returns
-returns c = alike (c .before .before .before .number .ensures) (c .before .before .reason .ensures) (c .before .length .ensures) (c .confirmed .ensures)
+returns c = alike _ (c .before .before .before .number .ensures) (c .before .before .reason .ensures) (c .before .octets .ensures) (c .confirmed .ensures)
 
 pub said-of-spec : {M : Type 1} → statement M
 said-of-spec =
-    tie.close (tie.spec number-requires reason-requires length-requires confirmed-requires returns)
+    tie.close (tie.spec number-requires reason-requires octets-requires confirmed-requires returns)

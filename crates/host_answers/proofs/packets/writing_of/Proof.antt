@@ -17,8 +17,8 @@ enum-told c = search needs
 enum-told-2 : tie.Need-enum-told-2
 enum-told-2 c = search needs
 
-enum-told-3 : tie.Need-enum-told-3
-enum-told-3 c = search needs
+enum-known-w-2 : tie.Need-enum-known-w-2
+enum-known-w-2 c = search needs
 
 returns : tie.Need-returns
 returns c = sym (ap writingOf (c .before .w .given .1))
@@ -30,9 +30,9 @@ returns-3 : tie.Need-returns-3
 returns-3 c = sym (ap writingOf (c .enum-told2 .given .1))
 
 returns-4 : tie.Need-returns-4
-returns-4 c = sym (ap writingOf (c .enum-told3 .given .1))
+returns-4 c = sym (ap writingOf (c .before .w2 .given .1))
 
 pub writing-of-spec : {M : Type 1} → statement M
 writing-of-spec =
     tie.close
-    (tie.spec enum-known-w enum-told enum-told-2 enum-told-3 returns returns-2 returns-3 returns-4)
+    (tie.spec enum-known-w enum-told enum-told-2 enum-known-w-2 returns returns-2 returns-3 returns-4)
