@@ -45,7 +45,7 @@ use Rattle.arriving_data.specs.Data.{unfit, dataFor}
 use Rattle.arriving_reply.specs.Replying.{repliedBy}
 use Rattle.steps_arriving.specs.Arriving.{arriveBy, payloadIn, arrivalFor}
 use Rattle.table.proofs.Parts.{laid-own}
-use Rattle.node_ticks.specs.Ticks.{tickOf, anyInactive, tickAnswer, ticked}
+use Rattle.node_ticks.specs.Ticks.{tickOf, anyInactive, firstInactive, ticked}
 use Rattle.node_calls.specs.Calls.{opened, closed, transferred, taken, reclaimed, handed, arrived}
 use Rattle.node_keeps.specs.Keeping.{MayChange, RefusalsChangeNothing, RefusalsChangeNoRecord, NineWritesNothing}
 use Rattle.node_keeps.proofs.Serving.{servedAt, serve-cases}
@@ -273,7 +273,10 @@ module _ (t : List Channel) (mem lens : List ℕ) where
   unfolding ticked
   tick-refusals-change-nothing = go (lawful t mem lens) (anyInactive t)
     where
-      go : (a b : Bool) → RefusalsChangeNoRecord t (if a then changes (tickAnswer b) (map tickOf t) else changes (Refused refusal.Settings) t)
+      why : ℕ
+      why = recordAt (map tickOf t) (firstInactive t) .phase .reason
+
+      go : (a b : Bool) → RefusalsChangeNoRecord t (if a then changes (if b then Inactive why else Done 0 0) (map tickOf t) else changes (Refused refusal.Settings) t)
       go true true n = absurd (n (inr (inl refl)))
       go true false n = absurd (n (inl refl))
       go false b n = refl

@@ -50,7 +50,7 @@ use Rattle.steps_ticking.specs.declared.ticking.Ticked.{Ticked as OneTick}
 use Rattle.steps_ticking.specs.Ticking.{tickedBy}
 use Rattle.arriving_look.specs.Finding.{lookOf}
 use Rattle.steps_arriving.specs.Arriving.{payloadIn, arrivalFor}
-use Rattle.node_ticks.specs.Ticks.{tickOf, anyInactive, tickAnswer, ticked}
+use Rattle.node_ticks.specs.Ticks.{tickOf, tickAnswer, ticked}
 use Rattle.node_calls.specs.Calls.{opened, closed, transferred, taken, reclaimed, handed, arrived}
 use Rattle.node_keeps.specs.Keeping.{Wide}
 use Rattle.node_keeps.proofs.Serving.{servedAt, worked, serve-cases}
@@ -245,6 +245,6 @@ module _ (t : List Channel) (mem lens : List ℕ) (wide : Wide t) where
           let below = subst (λ (n : ℕ). i < n) (length-map t tickOf) less in
           ap (λ (c : Channel). length (c .marks)) (mapped-at tickOf t i below) ∙ tick-full (recordAt t i) (wide i below)
 
-      go : (b : Bool) → Wide ((if b then changes (tickAnswer (anyInactive t)) (map tickOf t) else changes (Refused refusal.Settings) t) .table)
+      go : (b : Bool) → Wide ((if b then changes (tickAnswer t) (map tickOf t) else changes (Refused refusal.Settings) t) .table)
       go true = each
       go false = wide

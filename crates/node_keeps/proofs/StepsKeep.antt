@@ -221,8 +221,8 @@ pub tick-keeps : (c : Channel) (lens : List ℕ) → Standing c lens → SameSet
 tick-keeps c lens h =
     by-direction c lens h
     (λ d.
-    let e = ap (λ (x : Ticked). x .channel) (tick-sends c false d) in
+    let e = ap (λ (x : Ticked). x .channel) (tick-sends c d) in
     subst (λ (k : Channel). SameSettings c k × Standing k lens) (sym e) (sent.tick-fixed c, tick-stands c lens h d))
     (λ d.
-    let e = ap (λ (x : Ticked). x .channel) (tick-receives c false (not-sends (c .addresses .direction) d)) in
+    let e = ap (λ (x : Ticked). x .channel) (tick-receives c (not-sends (c .addresses .direction) d)) in
     subst (λ (k : Channel). SameSettings c k × Standing k lens) (sym e) (fixed.tick-fixed c, received.tick-stands c lens d h))
