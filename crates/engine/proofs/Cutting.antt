@@ -1,13 +1,12 @@
 -- Whatever the pieces are in which a trace comes, its records are those of all its octets.
 -- Assumes nothing.
-use mathlib.Core.Path.{_≡_, refl, sym, ap, ap₂, _∙_}
+use mathlib.Core.Path.{_≡_, refl, sym, ap, _∙_}
 use mathlib.Core.Bool.{Bool, true, false}
-use mathlib.Core.List.{List, [], _∷_, _++_, append-assoc}
+use mathlib.Core.List.{List, [], _∷_, _++_}
 use Prim.Native.Nat.{ℕ}
 use native.Mathlib.Omega.{arith}
 use lib.ListN.{length, take, drop, drop-of-length-le}
 use Rattle.laws.specs.Choice.{if_then_else_}
-use Rattle.laws.proofs.Choice.{either-way, chosen, passed-by}
 use Rattle.engine.specs.Trace.{Entry, Records, isWhole, entryOf, after, recordsFrom}
 use Rattle.engine.specs.Reading.{heldIn, given, behind, joined, ReadOn, used-up, fed, ReadAll, at-end, piece-read, AnyCutting}
 use Rattle.engine.proofs.ReadingLaws.{head-held}

@@ -6,7 +6,7 @@ ghost use lib.ListN.{length, take};
 ghost use lib.Dec.{ltb};
 ghost use Rattle.laws.specs.Octets.{pairOf};
 ghost use Rattle.engine.specs.Trace.{isWhole, littleAt};
-ghost use Rattle.engine.specs.Reading.{unfinished, Feeds, unread};
+ghost use Rattle.engine.specs.Reading.{unfinished, heldIn, Feeds, unread};
 
 // Four octets of head, and 65,535 of body.
 pub const LONGEST: usize = 65539;
@@ -66,7 +66,7 @@ fn told(whole: bool, held: usize, next: usize, buffer: &[u8]) -> Fed
 
 // At the end of the input: whether it ends within a record.
 pub fn is_cut(held: usize, buffer: &[u8]) -> bool
-    ensures { λ r. ⌜ (65539 ≤ length (now (buffer .entry)) → r ≡ ltb 0 (unfinished held (now (buffer .entry)))) ⌝ }
+    ensures { λ r. ⌜ (65539 ≤ length (now (buffer .entry)) → r ≡ ltb 0 (length (heldIn held (now (buffer .entry))))) ⌝ }
 {
     if buffer.len() < LONGEST {
         return true;
