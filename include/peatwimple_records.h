@@ -31,7 +31,7 @@ enum {
 /* Directions. */
 enum { PEAT_SENDS = 0, PEAT_RECEIVES = 1 };
 
-/* States of a channel (000, 4.4.2 and 4.5.2). */
+/* States of a channel (000, 4.4.3 and 4.5.2). */
 enum { PEAT_CLOSED = 0, PEAT_ENABLED = 1, PEAT_OPEN = 2, PEAT_CLOSING = 3 };
 
 /* Why a channel went inactive. */

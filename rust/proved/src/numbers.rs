@@ -18,7 +18,7 @@ pub mod direction {
     pub const RECEIVES: u8 = 1;
 }
 
-/// The states of a channel (000, 4.4.2 and 4.5.2).
+/// The states of a channel (000, 4.4.3 and 4.5.2).
 pub mod state {
     /// Nothing is sent or received.
     pub const CLOSED: u8 = 0;

@@ -3,7 +3,7 @@
 use crate::numbers::{reason, state};
 use std::fmt;
 
-/// The states of a channel (000, 4.4.2 and 4.5.2).
+/// The states of a channel (000, 4.4.3 and 4.5.2).
 #[derive(Clone, Copy, Debug, PartialEq, Eq)]
 pub enum State {
     /// Nothing is sent or received.
