@@ -51,7 +51,7 @@ sided direction state w =
 unfoldable pub asking : ℕ → Phase → Bool
 asking direction p = not (eqb direction sends) || eqb (p .state) closed || not (eqb (p .control .state) loneNone)
 
--- out of OPEN the window starts at 1, no unit is half taken in, and a sender asks to open or to close
+-- out of OPEN the window starts at 1, no unit is half taken in, and a sender that is not CLOSED asks to open or to close
 unfoldable pub rested : ℕ → Phase → Window → Bool
 rested direction p w =
     if eqb (p .state) opened then true else eqb (w .start) 1 && eqb (w .way) 0 && asking direction p

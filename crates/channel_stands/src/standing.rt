@@ -126,8 +126,8 @@ fn is_sided(direction: u8, state: u8, w: Window) -> bool
     w.flight == 0
 }
 
-// Out of OPEN the window starts at 1, no unit is half taken in, and a sender asks to open or to close: so an opening begins where the other
-// end expects it, and no sender waits in ENABLED or CLOSING for an ack of what it never sends.
+// Out of OPEN the window starts at 1, no unit is half taken in, and a sender that is not CLOSED asks to open or to close: so an opening begins
+// where the other end expects it, and no sender waits in ENABLED or CLOSING for an ack of what it never sends.
 fn is_rested(direction: u8, p: Phase, w: Window) -> bool
     ensures { λ r. ⌜ r ≡ rested direction p w ⌝ }
 {
