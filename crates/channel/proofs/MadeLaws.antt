@@ -12,13 +12,15 @@ use lib.ListN.{length, getD, getD-replicate}
 use Rattle.laws.proofs.Choice.{both, either}
 use Rattle.channel.specs.declared.record.Settings.{Settings}
 use Rattle.channel.specs.declared.record.Lone.{Lone}
+use Rattle.channel.specs.declared.record.Window.{Window}
 use Rattle.channel.specs.declared.record.Channel.{Channel}
-use Rattle.channel.specs.Record.{sends, madeOf, freshWindow, noMarks}
+use Rattle.channel.specs.Record.{sends, enabled, madeOf, freshPhase, freshWindow, noMarks}
 use Rattle.channel.specs.Settings.{fit, fitLimits}
 use Rattle.channel.specs.Places.{slotOf}
-use Rattle.channel.specs.Standing.{named, inRing, inFlight, sided, slotFit, Standing}
+use Rattle.channel.specs.Standing.{named, inRing, inFlight, sided, asking, slotFit, Standing}
 use Rattle.channel.specs.Steps.{enabledOf}
 use Rattle.channel.proofs.SettingsLaws.{fit-is}
+use Rattle.channel.proofs.StandingLaws.{asking-closed, rests}
 
 -- a free slot fits
 pub free-fits : (sending : Bool) (most len : ℕ) → slotFit sending most 0 len ≡ true
@@ -44,8 +46,9 @@ module _ (c : Channel) (lens : List ℕ) (w : c .window ≡ freshWindow) (m : c 
       let t = fit-is (c .limits) f in
       ap (λ (l : List ℕ). getD l i 0) m ∙ getD-replicate 128 i 0 0 (omega arith)
 
-  fresh-stands : named c ≡ true → sided (c .addresses .direction) (c .phase .state) (c .window) ≡ true → Standing c lens
-  fresh-stands n s =
+  fresh-stands : named c ≡ true → sided (c .addresses .direction) (c .phase .state) (c .window) ≡ true → asking (c .addresses .direction) (c .phase) ≡ true
+      → Standing c lens
+  fresh-stands n s a =
       record {
         fit = f;
         count = e;
@@ -53,6 +56,7 @@ module _ (c : Channel) (lens : List ℕ) (w : c .window ≡ freshWindow) (m : c 
         ring = fresh-ring;
         flight = fresh-flight;
         sided = s;
+        rested = rests (c .addresses .direction) (c .phase) (c .window) (ap (λ (v : Window). v .start) w) (ap (λ (v : Window). v .way) w) a;
         held = λ i h. absurd (not-suc-le-zero (rw w at h));
         slots = λ i h.
             ap (λ (k : ℕ). slotFit (eqb (c .addresses .direction) sends) (c .limits .payload) k (getD lens (slotOf c i) 0)) (free i h)
@@ -73,14 +77,16 @@ unfolding fit named
 made-stands s lens f e =
     let p = both (leb (s .addresses .direction) 1) _ f in
     fresh-stands (madeOf s) lens refl refl (p .1) e (simp (p .0)) (fresh-sided (s .addresses .direction) 0)
+    (asking-closed (s .addresses .direction) (madeOf s .phase) refl)
 
--- an opening that begins keeps it
-pub enabled-stands : (c : Channel) (lens : List ℕ) (control : Lone) → control .state ≤ 3 → Standing c lens → Standing (enabledOf c control) lens
+-- an opening that begins keeps it, at a sender with its Open
+pub enabled-stands : (c : Channel) (lens : List ℕ) (control : Lone) → control .state ≤ 3 → asking (c .addresses .direction) (freshPhase enabled control) ≡ true
+    → Standing c lens → Standing (enabledOf c control) lens
 unfolding named
-enabled-stands c lens control small h =
+enabled-stands c lens control small a h =
     let n = both _ _ (h .named) in
     let n2 = both _ _ (n .0) in
     let n3 = both _ _ (n2 .0) in
     let n4 = both _ _ (n3 .0) in
     let n5 = both (leb (c .addresses .direction) 1) _ (n4 .0) in
-    fresh-stands (enabledOf c control) lens refl refl (h .fit) (h .count) (simp (n5 .0, le-leb _ _ small)) (fresh-sided (c .addresses .direction) 1)
+    fresh-stands (enabledOf c control) lens refl refl (h .fit) (h .count) (simp (n5 .0, le-leb _ _ small)) (fresh-sided (c .addresses .direction) 1) a

@@ -1,23 +1,24 @@
 -- Laws of the standing condition: slot by slot, and from the test to the facts and back.
 -- Assumes nothing.
 use mathlib.Core.Path.{_≡_, refl, sym, ap, _∙_}
-use mathlib.Core.Bool.{Bool, true, false, _&&_, and-assoc}
+use mathlib.Core.Bool.{Bool, true, false, not, _&&_, _||_, and-assoc, or-true, true≢false}
 use mathlib.Core.List.{List}
 use Prim.Native.Nat.{ℕ, zero, suc, _+_, _-_, _≤_, _<_, zero-le, suc-le-suc}
 use native.Mathlib.Omega.{arith}
 use lib.ListN.{length, getD}
 use native.Mathlib.Nat.{not-suc-le-zero, le-of-suc-le-suc, add-zero, zero-add, add-suc, lt-irrefl}
-use borrow.Author.Tests.{lt-ltb, le-leb, ltb-true, leb-true, eqb-true, eq-eqb}
+use borrow.Author.Tests.{lt-ltb, le-leb, ltb-true, leb-true, eqb-true, eqb-false, eq-eqb, ne-eqb}
 use lib.Dec.{eqb}
 use Rattle.channel.specs.Places.{slotOf}
 use Rattle.ring.specs.Ring.{runOf}
 use Rattle.ring.proofs.Laws.{back-lt, run-set, run-is}
 use Rattle.channel.specs.declared.record.Channel.{Channel}
-use Rattle.channel.specs.Record.{sends, heldIn}
-use Rattle.laws.proofs.Choice.{both}
+use Rattle.channel.specs.Record.{sends, receives, closed, opened, loneNone, heldIn}
+use Rattle.laws.proofs.Choice.{both, either, either-way}
 use Rattle.channel.specs.declared.record.Limits.{Limits}
+use Rattle.channel.specs.declared.record.Phase.{Phase}
 use Rattle.channel.specs.declared.record.Window.{Window}
-use Rattle.channel.specs.Standing.{named, inRing, inFlight, marked, oldestOf, slotFit, slotsFit, standing, Standing, Counted}
+use Rattle.channel.specs.Standing.{named, inRing, inFlight, asking, rested, marked, oldestOf, slotFit, slotsFit, standing, Standing, Counted}
 use Rattle.channel.specs.Asked.{Ringed}
 use Rattle.channel.proofs.SettingsLaws.{fit-is}
 
@@ -170,6 +171,56 @@ is-named c n =
       le-leb _ _ (n .control),
     )
 
+-- ---- out of OPEN
+
+-- a sender that has its Open or Close, or is CLOSED, and every receiver
+pub asking-has : (direction : ℕ) (p : Phase) → (p .control .state ≡ loneNone → ⊥) → asking direction p ≡ true
+unfolding asking
+asking-has direction p h = rw (ne-eqb (p .control .state) loneNone h) (or-true (not (eqb direction sends) || eqb (p .state) closed))
+
+pub asking-closed : (direction : ℕ) (p : Phase) → p .state ≡ closed → asking direction p ≡ true
+unfolding asking
+asking-closed direction p h = rw (eq-eqb (p .state) closed h, or-true (not (eqb direction sends))) refl
+
+pub asking-receives : (direction : ℕ) (p : Phase) → direction ≡ receives → asking direction p ≡ true
+unfolding asking
+asking-receives direction p h = simp (ne-eqb direction sends (λ z. omega arith))
+
+pub open-rests : (direction : ℕ) (p : Phase) (w : Window) → p .state ≡ opened → rested direction p w ≡ true
+unfolding rested
+open-rests direction p w h = simp (eq-eqb (p .state) opened h)
+
+pub rests : (direction : ℕ) (p : Phase) (w : Window) → w .start ≡ 1 → w .way ≡ 0 → asking direction p ≡ true → rested direction p w ≡ true
+unfolding rested
+rests direction p w s z a =
+    simp (eq-eqb (w .start) 1 s, eq-eqb (w .way) 0 z, a) (either (λ (b : Bool). b ≡ true) (eqb (p .state) opened) true true refl refl)
+
+pub rested-is : (direction : ℕ) (p : Phase) (w : Window) → (p .state ≡ opened → ⊥) → rested direction p w ≡ true
+    → (w .start ≡ 1) × (w .way ≡ 0) × (asking direction p ≡ true)
+unfolding rested
+rested-is direction p w n r =
+    let q = both (eqb (w .start) 1 && eqb (w .way) 0) _ (simp (ne-eqb (p .state) opened n) at r) in
+    let m = both (eqb (w .start) 1) _ (q .0) in
+    (eqb-true _ _ (m .0), eqb-true _ _ (m .1), q .1)
+
+-- it stays so while the state, the start and what is on the way stay, and a packet that is there is not gone
+module _ (direction : ℕ) (p q : Phase) (same : q .state ≡ p .state) (there : (p .control .state ≡ loneNone → ⊥) → q .control .state ≡ loneNone → ⊥) where
+  asking-on : asking direction p ≡ true → asking direction q ≡ true
+  unfolding asking
+  asking-on a = go (eqb direction sends) refl (eqb (p .state) closed) refl (eqb (p .control .state) loneNone) refl
+    where
+      go : (d : Bool) → eqb direction sends ≡ d → (s : Bool) → eqb (p .state) closed ≡ s → (l : Bool) → eqb (p .control .state) loneNone ≡ l
+          → asking direction q ≡ true
+      go false d s e l f = simp d
+      go true d true e l f = asking-closed direction q (same ∙ eqb-true _ _ e)
+      go true d false e false f = asking-has direction q (there (eqb-false _ _ f))
+      go true d false e true f = absurd (true≢false (sym (simp (d, e, f) at a)))
+
+  pub rested-on : (v w : Window) → w .start ≡ v .start → w .way ≡ v .way → rested direction p v ≡ true → rested direction q w ≡ true
+  rested-on v w starts ways r =
+      either-way (eqb (p .state) opened) (λ e. open-rests direction q w (same ∙ eqb-true _ _ e))
+      (λ e. let n = rested-is direction p v (eqb-false _ _ e) r in rests direction q w (starts ∙ n .0) (ways ∙ n .1) (asking-on (n .2)))
+
 -- what the steps ask of the numbers
 pub ringed : (c : Channel) (lens : List ℕ) → Standing c lens → Ringed (c .limits) (c .window)
 ringed c lens h =
@@ -192,7 +243,8 @@ unfolding standing marked
 stands-is c lens e =
     let l = c .limits in
     let w = c .window in
-    let p7 = both _ _ e in
+    let p8 = both _ _ e in
+    let p7 = both _ _ (p8 .0) in
     let p6 = both _ _ (p7 .0) in
     let p5 = both _ _ (p6 .0) in
     let p4 = both _ _ (p5 .0) in
@@ -202,7 +254,7 @@ stands-is c lens e =
     let ring : inRing l w ≡ true = p3 .1 in
     let count : length lens ≡ l .slots = eqb-true _ _ (p1 .1) in
     let q = ring-is l w ring in
-    let run : runOf (c .marks) (l .slots) (heldIn w) (oldestOf (l .slots) w) ≡ heldIn w = eqb-true _ _ (p6 .1) in
+    let run : runOf (c .marks) (l .slots) (heldIn w) (oldestOf (l .slots) w) ≡ heldIn w = eqb-true _ _ (p7 .1) in
     record {
       fit = p1 .0;
       count = count;
@@ -210,10 +262,11 @@ stands-is c lens e =
       ring = ring;
       flight = p4 .1;
       sided = p5 .1;
+      rested = p6 .1;
       held = λ i h. run-set (c .marks) (l .slots) (heldIn w) (oldestOf (l .slots) w) i (back-lt (l .slots) (w .place) (w .behind) (q .0)) (omega arith) (omega arith);
       slots = λ i h.
           ap (λ (j : ℕ). slotFit (eqb (c .addresses .direction) sends) (l .payload) (getD (c .marks) j 0) (getD lens (slotOf c j) 0)) (sym (zero-add i))
-          ∙ slots-each (slotOf c) (eqb (c .addresses .direction) sends) (l .payload) (c .marks) lens (l .slots) 0 (p7 .1) i (omega arith);
+          ∙ slots-each (slotOf c) (eqb (c .addresses .direction) sends) (l .payload) (c .marks) lens (l .slots) 0 (p8 .1) i (omega arith);
     }
 
 -- ---- and back: true exactly if it holds
@@ -230,4 +283,4 @@ is-stands c lens h =
     let all : slotsFit (slotOf c) (eqb (c .addresses .direction) sends) (l .payload) (c .marks) lens (l .slots) 0 ≡ true =
     slots-all (slotOf c) (eqb (c .addresses .direction) sends) (l .payload) (c .marks) lens (l .slots) 0
     (λ k less. ap (λ (j : ℕ). slotFit (eqb (c .addresses .direction) sends) (l .payload) (getD (c .marks) j 0) (getD lens (slotOf c j) 0)) (zero-add k) ∙ h .slots k (omega (arith, h .count))) in
-    simp (h .fit, eq-eqb _ _ (h .count), h .named, h .ring, h .flight, h .sided, eq-eqb _ _ run, all)
+    simp (h .fit, eq-eqb _ _ (h .count), h .named, h .ring, h .flight, h .sided, h .rested, eq-eqb _ _ run, all)

@@ -19,7 +19,7 @@ sends = 0
 abbrev pub receives : ℕ
 receives = 1
 
--- ---- states (000, 4.4.2 and 4.5.2)
+-- ---- states (000, 4.4.3 and 4.5.2)
 
 abbrev pub closed : ℕ
 closed = 0

@@ -1,7 +1,7 @@
 -- The standing condition of a record with its lengths (docs/CONDITION.md): as a test, and as facts.
 use mathlib.Core.Path.{_≡_}
 use Prim.Native.Nat.{ℕ, zero, suc, _+_, _-_, _≤_, _<_}
-use mathlib.Core.Bool.{Bool, true, false, _&&_}
+use mathlib.Core.Bool.{Bool, true, false, not, _&&_, _||_}
 use mathlib.Core.List.{List}
 use lib.Dec.{ltb, leb, eqb}
 use lib.ListN.{length, getD}
@@ -10,9 +10,10 @@ use Rattle.ring.specs.Ring.{roundOf, backOf, runOf}
 use Rattle.slots.specs.Marks.{ends}
 use Rattle.channel.specs.Places.{slotOf}
 use Rattle.channel.specs.declared.record.Limits.{Limits}
+use Rattle.channel.specs.declared.record.Phase.{Phase}
 use Rattle.channel.specs.declared.record.Window.{Window}
 use Rattle.channel.specs.declared.record.Channel.{Channel}
-use Rattle.channel.specs.Record.{sends, opened, heldIn}
+use Rattle.channel.specs.Record.{sends, closed, opened, loneNone, heldIn}
 use Rattle.channel.specs.Settings.{fitLimits}
 
 -- ---- as a test
@@ -46,6 +47,15 @@ sided direction state w =
     then eqb (w .way) 0 && (if eqb state opened then true else eqb (w .behind) 0 && eqb (w .flight) 0)
     else eqb (w .ahead) 0
 
+-- of a sender out of OPEN: it is CLOSED, or has its Open or Close
+unfoldable pub asking : ℕ → Phase → Bool
+asking direction p = not (eqb direction sends) || eqb (p .state) closed || not (eqb (p .control .state) loneNone)
+
+-- out of OPEN the window starts at 1, no unit is half taken in, and a sender that is not CLOSED asks to open or to close
+unfoldable pub rested : ℕ → Phase → Window → Bool
+rested direction p w =
+    if eqb (p .state) opened then true else eqb (w .start) 1 && eqb (w .way) 0 && asking direction p
+
 -- the place of the oldest segment held
 abbrev pub oldestOf : ℕ → Window → ℕ
 oldestOf slots w = backOf slots (w .place) (w .behind)
@@ -76,6 +86,7 @@ standing c lens =
     && inRing (c .limits) (c .window)
     && inFlight (c .limits) (c .window)
     && sided (c .addresses .direction) (c .phase .state) (c .window)
+    && rested (c .addresses .direction) (c .phase) (c .window)
     && marked (c .limits .slots) (c .window) (c .marks)
     && slotsFit (slotOf c) (eqb (c .addresses .direction) sends) (c .limits .payload) (c .marks) lens (c .limits .slots) 0
 
@@ -88,6 +99,7 @@ pub record Standing (c : Channel) (lens : List ℕ) : Type 0 where
   pub ring : inRing (c .limits) (c .window) ≡ true
   pub flight : inFlight (c .limits) (c .window) ≡ true
   pub sided : sided (c .addresses .direction) (c .phase .state) (c .window) ≡ true
+  pub rested : rested (c .addresses .direction) (c .phase) (c .window) ≡ true
   pub held : (i : ℕ)
       → i < heldIn (c .window)
       → getD (c .marks) (roundOf (c .limits .slots) (oldestOf (c .limits .slots) (c .window) + i)) 0 ≡ 0

@@ -7,7 +7,7 @@ pub const SENDS: u8 = 0;
 
 pub const RECEIVES: u8 = 1;
 
-// States (000, 4.4.2 and 4.5.2).
+// States (000, 4.4.3 and 4.5.2).
 pub const CLOSED: u8 = 0;
 
 pub const ENABLED: u8 = 1;

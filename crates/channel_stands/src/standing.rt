@@ -2,8 +2,10 @@
 // and once more at those held.
 use channel::Channel;
 use channel::Limits;
+use channel::Phase;
 use channel::Window;
 use channel::places::slot_of;
+use channel::record::CLOSED;
 use channel::record::OPEN;
 use channel::record::SENDS;
 use channel_settings::settings::fits_limits;
@@ -11,7 +13,7 @@ ghost use mathlib.Core.Path.{_≡_};
 ghost use Prim.Native.Nat.{_-_, _≤_, _<_};
 ghost use lib.ListN.{length};
 ghost use Rattle.channel.specs.Places.{slotIn};
-ghost use Rattle.channel.specs.Standing.{named, inRing, inFlight, sided, slotFit, slotsFit, marked, standing};
+ghost use Rattle.channel.specs.Standing.{named, inRing, inFlight, sided, asking, rested, slotFit, slotsFit, marked, standing};
 ghost use Rattle.channel.specs.Record.{sends};
 ghost use lib.Dec.{eqb};
 
@@ -19,6 +21,7 @@ pub fn stands(c: Channel, lens: &[u16]) -> bool
     ensures { λ r. ⌜ r ≡ standing c (now (lens .entry)) ⌝ }
 {
     let limits = c.limits;
+    let phase = c.phase;
     let window = c.window;
     let marks = c.marks;
     if !fits_limits(limits) {
@@ -36,7 +39,10 @@ pub fn stands(c: Channel, lens: &[u16]) -> bool
     if !is_in_flight(limits, window) {
         return false;
     }
-    if !is_sided(c.addresses.direction, c.phase.state, window) {
+    if !is_sided(c.addresses.direction, phase.state, window) {
+        return false;
+    }
+    if !is_rested(c.addresses.direction, phase, window) {
         return false;
     }
     if !is_marked(limits.slots, window, &marks) {
@@ -113,6 +119,35 @@ fn is_sided(direction: u8, state: u8, w: Window) -> bool
         return false;
     }
     w.flight == 0
+}
+
+// Out of OPEN the window starts at 1, no unit is half taken in, and a sender that is not CLOSED asks to open or to close: so an opening begins
+// where the other end expects it, and no sender waits in ENABLED or CLOSING for an ack of what it never sends.
+fn is_rested(direction: u8, p: Phase, w: Window) -> bool
+    ensures { λ r. ⌜ r ≡ rested direction p w ⌝ }
+{
+    if p.state == OPEN {
+        return true;
+    }
+    if w.start != 1 {
+        return false;
+    }
+    if w.way != 0 {
+        return false;
+    }
+    is_asking(direction, p)
+}
+
+fn is_asking(direction: u8, p: Phase) -> bool
+    ensures { λ r. ⌜ r ≡ asking direction p ⌝ }
+{
+    if direction != SENDS {
+        return true;
+    }
+    if p.state == CLOSED {
+        return true;
+    }
+    p.control.state != 0
 }
 
 // Each segment held lies in a slot that is marked.

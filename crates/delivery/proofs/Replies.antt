@@ -55,7 +55,7 @@ Twelve (Refused why) = Unit {0}
 pub data-twelve : (c : Channel) (number flags : ℕ) → Twelve (dataStep c number flags .answer)
 data-twelve c number flags =
     data-cases c number flags [] [] [] (λ (s : Stepped) (m l : List ℕ). Twelve (s .answer)) tt tt refl tt
-    (λ room. accept-cases c _ flags (λ (s : Stepped). Twelve (s .answer)) tt refl)
+    (λ o room. accept-cases c _ flags (λ (s : Stepped). Twelve (s .answer)) tt refl)
 
 pub control-twelve : (c : Channel) (opens : Bool) (number : ℕ) → Twelve (controlStep c opens number .answer)
 control-twelve c opens number = control-cases c (λ (s : Stepped). Twelve (s .answer)) tt refl opens number refl refl tt tt

@@ -109,7 +109,7 @@ module _ (c : Channel) (w : Full c) where
       (cleared-length (c .marks) (c .limits .slots) (c .window .behind + done) (oldestOf (c .limits .slots) (c .window)) ∙ w)
 
   sender-tick-full : Full (senderTick c .channel)
-  sender-tick-full = let shut = parked-full closedState noLone in sent.tick-cases c Full (λ e. shut) (λ e. shut) (λ e. shut) w w w
+  sender-tick-full = let shut = parked-full closedState noLone in sent.tick-cases c Full (λ e. shut) (λ e. shut) (λ e. shut) w (λ e. w) w
 
 data-ack-full : (c : Channel) → Full c → (number : ℕ) → Fills (dataAckStep c number)
 data-ack-full c w number = sent.data-ack-cases c Fills number w w (λ e. advanced-full (recorded c (awayOf c number)) w)
@@ -133,7 +133,7 @@ module _ (c : Channel) (w : Full c) where
   data-full : (number flags : ℕ) → Fills (received.dataStep c number flags)
   data-full number flags =
       data-cases c number flags [] [] [] (λ (s : Stepped) (m l : List ℕ). Fills s) w w w (leaving-full c w closedState 0)
-      (λ room. accepted-full (placeAt (c .limits) (c .window) (received.awayOf c number)) flags)
+      (λ o room. accepted-full (placeAt (c .limits) (c .window) (received.awayOf c number)) flags)
 
   take-full : (lens : List ℕ) (n : ℕ) → Fills (taking.takeStep c lens n)
   take-full lens n =
@@ -143,7 +143,7 @@ module _ (c : Channel) (w : Full c) where
   tick-full : Full (tickOf c)
   unfolding tickedBy
   tick-full =
-      either (λ (x : OneTick). Full (x .channel)) (eqb (c .addresses .direction) sends) _ _ (sender-tick-full c w) (tick-cases c Full w w w)
+      either (λ (x : OneTick). Full (x .channel)) (eqb (c .addresses .direction) sends) _ _ (sender-tick-full c w) (tick-cases c Full w w (λ e. w))
 
 -- ---- each call
 

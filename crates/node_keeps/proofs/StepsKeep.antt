@@ -89,7 +89,7 @@ open-keeps look out at rank c mem lens g =
     (quiet-kept c mem lens out (g .sized) (sender.openStep c) (sent.open-fixed c) (open-stands c lens (g .standing))))
     (λ d.
     subst (λ (s : Stepped). Kept c (works s mem lens out)) (sym (opened-receives c (not-sends (c .addresses .direction) d)))
-    (quiet-kept c mem lens out (g .sized) (receiver.openStep c) (fixed.opening-fixed c) (received.opening-stands c lens (g .standing))))
+    (quiet-kept c mem lens out (g .sized) (receiver.openStep c) (fixed.opening-fixed c) (received.opening-stands c lens d (g .standing))))
 
 pub close-keeps : (look : Look) (out : List ℕ) → Keeps look (alone closedBy) out
 close-keeps look out at rank c mem lens g =

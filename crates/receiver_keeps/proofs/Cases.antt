@@ -4,7 +4,7 @@ use mathlib.Core.Path.{_≡_, refl, sym, subst₃}
 use mathlib.Core.Bool.{Bool, true, false, not}
 use mathlib.Core.List.{List}
 use Prim.Native.Nat.{ℕ, _+_, _-_, _*_, _<_}
-use borrow.Author.Tests.{eqb-true, eqb-false, leb-true, leb-false}
+use borrow.Author.Tests.{eqb-true, eqb-false, leb-true, leb-false, not-false}
 use lib.Dec.{eqb, leb, ltb}
 use lib.ListN.{length, set}
 use Rattle.laws.proofs.Choice.{either, by-test}
@@ -68,41 +68,43 @@ take-cases c lens n P nothing small done =
 pub tick-cases : (c : Channel) (P : Channel → Type 0)
     → P c
     → P (withTimers c (withClosing (c .timers) (c .timers .closing - 1)))
-    → P (withState (withTimers c (withClosing (c .timers) 0)) closed)
+    → (c .phase .state ≡ closing → P (withState (withTimers c (withClosing (c .timers) 0)) closed))
     → P (tickStep c)
 unfolding tickStep
-tick-cases c P idle falls ends = either P (not (eqb (c .phase .state) closing)) _ _ idle (either P (leb 2 (c .timers .closing)) _ _ falls ends)
+tick-cases c P idle falls ends =
+    by-test P (not (eqb (c .phase .state) closing)) _ _ (λ e. idle) (λ e. either P (leb 2 (c .timers .closing)) _ _ falls (ends (eqb-true _ _ (not-false _ e))))
 
 -- ---- Data
 
 module _ (c : Channel) (number flags : ℕ) (p mem lens : List ℕ) (P : Stepped → List ℕ → List ℕ → Type 0)
     (refused : P (refusing c refusal.State) mem lens) (full : P (refusing c refusal.Full) mem lens)
     (repeated : P (repeating c ackLength) mem lens) (failed : P (failing (shutFor c dataNumber) dataNumber) mem lens)
-    (accepted : c .window .behind + awayOf c number < c .limits .slots
+    (accepted : c .phase .state ≡ opened
+    → c .window .behind + awayOf c number < c .limits .slots
     → P (acceptStep c (placeAt (c .limits) (c .window) (awayOf c number)) flags)
     (laid mem (slotOf c (placeAt (c .limits) (c .window) (awayOf c number)) * c .limits .payload) p)
     (set lens (slotOf c (placeAt (c .limits) (c .window) (awayOf c number))) (length p))) where
-  room-cases : (t : Bool) → leb (c .limits .slots) (c .window .behind + awayOf c number) ≡ t
+  room-cases : c .phase .state ≡ opened → (t : Bool) → leb (c .limits .slots) (c .window .behind + awayOf c number) ≡ t
       → P (dataBy New c (awayOf c number) flags) (memBy New c (awayOf c number) p mem) (lensBy New c (awayOf c number) p lens)
-  room-cases true e =
+  room-cases o true e =
       let h = leb-true _ _ e in
       subst₃ P (sym (new-full c (awayOf c number) flags h)) (sym (full-mem c (awayOf c number) p mem h)) (sym (full-lens c (awayOf c number) p lens h)) full
-  room-cases false e =
+  room-cases o false e =
       let h = leb-false _ _ e in
       subst₃ P (sym (new-accepted c (awayOf c number) flags h)) (sym (new-mem c (awayOf c number) p mem h)) (sym (new-lens c (awayOf c number) p lens h))
-      (accepted h)
+      (accepted o h)
 
-  sort-cases : (s : Sort) → P (dataBy s c (awayOf c number) flags) (memBy s c (awayOf c number) p mem) (lensBy s c (awayOf c number) p lens)
-  sort-cases New = room-cases (leb (c .limits .slots) (c .window .behind + awayOf c number)) refl
-  sort-cases Held = repeated
-  sort-cases Behind = repeated
-  sort-cases Other = failed
+  sort-cases : c .phase .state ≡ opened → (s : Sort) → P (dataBy s c (awayOf c number) flags) (memBy s c (awayOf c number) p mem) (lensBy s c (awayOf c number) p lens)
+  sort-cases o New = room-cases o (leb (c .limits .slots) (c .window .behind + awayOf c number)) refl
+  sort-cases o Held = repeated
+  sort-cases o Behind = repeated
+  sort-cases o Other = failed
 
   state-cases : (t : Bool) → eqb (c .phase .state) opened ≡ t → P (dataStep c number flags) (dataMem c number p mem) (dataLens c number p lens)
   state-cases true e =
       let h = eqb-true _ _ e in
       let s = sortOf c number in
-      subst₃ P (sym (data-by c number s h refl flags)) (sym (mem-by c number s h refl p mem)) (sym (lens-by c number s h refl p lens)) (sort-cases s)
+      subst₃ P (sym (data-by c number s h refl flags)) (sym (mem-by c number s h refl p mem)) (sym (lens-by c number s h refl p lens)) (sort-cases h s)
   state-cases false e =
       let h = eqb-false _ _ e in
       subst₃ P (sym (data-state c number h flags)) (sym (state-mem c number h p mem)) (sym (state-lens c number h p lens)) refused

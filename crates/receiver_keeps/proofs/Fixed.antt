@@ -44,13 +44,13 @@ pub data-fixed : (c : Channel) (number flags : ℕ) → SameSettings c (dataStep
 data-fixed c number flags =
     data-cases c number flags [] [] [] (λ (s : Stepped) (m l : List ℕ). SameSettings c (s .channel)) (refl, refl) (refl, refl) (refl, refl)
     (shut-fixed c 4)
-    (λ room. accept-fixed c (placeAt (c .limits) (c .window) (awayOf c number)) flags)
+    (λ o room. accept-fixed c (placeAt (c .limits) (c .window) (awayOf c number)) flags)
 
 pub take-fixed : (c : Channel) (lens : List ℕ) (n : ℕ) → SameSettings c (takeStep c lens n .channel)
 take-fixed c lens n = take-cases c lens n (λ (s : Stepped). SameSettings c (s .channel)) (refl, refl) (refl, refl) (λ some. (refl, refl))
 
 pub tick-fixed : (c : Channel) → SameSettings c (tickStep c)
-tick-fixed c = tick-cases c (SameSettings c) (refl, refl) (refl, refl) (refl, refl)
+tick-fixed c = tick-cases c (SameSettings c) (refl, refl) (refl, refl) (λ e. (refl, refl))
 
 -- Data that arrives keeps what is asked, with the memory and the lengths that it leaves
 pub data-asked : (c : Channel) (number flags : ℕ) (p mem lens : List ℕ)

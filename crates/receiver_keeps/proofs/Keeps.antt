@@ -27,9 +27,10 @@ use Rattle.channel.specs.declared.record.Window.{Window}
 use Rattle.channel.specs.declared.record.Timers.{Timers}
 use Rattle.channel.specs.declared.record.Channel.{Channel}
 use Rattle.channel.specs.declared.step.Stepped.{Stepped}
-use Rattle.channel.specs.Record.{receives, noLone, withState, withWindow, withTimers}
-use Rattle.channel.specs.Standing.{slotFit, Standing, oldestOf}
+use Rattle.channel.specs.Record.{receives, enabled, opened, freshPhase, noLone, withState, withWindow, withTimers}
+use Rattle.channel.specs.Standing.{rested, slotFit, Standing, oldestOf}
 use Rattle.channel.proofs.SettingsLaws.{fit-is}
+use Rattle.channel.proofs.StandingLaws.{asking-receives, open-rests, rests, rested-is, rested-on}
 use Rattle.channel.proofs.MadeLaws.{free-fits, enabled-stands}
 use Rattle.receiver_sorting.specs.Sorting.{placeAt}
 use Rattle.receiver_window.specs.Moving.{fitting, wayAfter, passed, movedOf}
@@ -99,6 +100,7 @@ leaving-receives c lens state ticks small r =
       direction = r .direction;
       small = record { direction = r .small .direction; state = small; reason = r .small .reason; kept = r .small .kept; accepted = r .small .accepted; control = r .small .control };
       window = record { place = on; behind = omega arith; ahead = k .ahead; flight = k .flight; way = omega arith; unit = omega arith };
+      rested = rests (c .addresses .direction) (leaving c state ticks .phase) (leaving c state ticks .window) refl refl (asking-receives (c .addresses .direction) (leaving c state ticks .phase) (r .direction));
       held = λ i less e.
           let there = back-then slots f kept i on (omega arith) less in
           r .held i (omega arith)
@@ -120,12 +122,14 @@ shut-receives c lens why small r =
       direction = q .direction;
       small = record { direction = s .direction; state = s .state; reason = small; kept = s .kept; accepted = s .accepted; control = s .control };
       window = q .window;
+      rested = rested-on (leaving c 0 0 .addresses .direction) (leaving c 0 0 .phase) (shutFor c why .phase) refl (λ x. x) (leaving c 0 0 .window) (leaving c 0 0 .window) refl refl (q .rested);
       held = q .held;
       slots = q .slots;
     }
 
-state-receives : (c : Channel) (lens : List ℕ) (state : ℕ) → state ≤ 3 → Receives c lens → Receives (withState c state) lens
-state-receives c lens state small r =
+state-receives : (c : Channel) (lens : List ℕ) (state : ℕ) → state ≤ 3 → rested (c .addresses .direction) (withState c state .phase) (c .window) ≡ true
+    → Receives c lens → Receives (withState c state) lens
+state-receives c lens state small rest r =
     let s = r .small in
     record {
       fit = r .fit;
@@ -133,6 +137,7 @@ state-receives c lens state small r =
       direction = r .direction;
       small = record { direction = s .direction; state = small; reason = s .reason; kept = s .kept; accepted = s .accepted; control = s .control };
       window = r .window;
+      rested = rest;
       held = r .held;
       slots = r .slots;
     }
@@ -195,12 +200,13 @@ marking-receives c lens place flags n on few short r =
       direction = r .direction;
       small = record { direction = s .direction; state = s .state; reason = s .reason; kept = s .kept; accepted = omega arith; control = s .control };
       window = r .window;
+      rested = rested-on (c .addresses .direction) (c .phase) (marking c place flags .phase) refl (λ x. x) (c .window) (c .window) refl refl (r .rested);
       held = λ i less. set-some (c .marks) place (roundOf (c .limits .slots) (backOf (c .limits .slots) (c .window .place) (c .window .behind) + i)) (flags + 1) (r .held i less) (λ z. omega arith);
       slots = filed-fits (c .limits) (c .marks) lens place flags n (r .count) on few short (r .slots);
     }
 
-moving-receives : (c : Channel) (lens : List ℕ) → Receives c lens → Receives (withWindow c (movedOf (c .limits) (c .marks) (c .window) .window)) lens
-moving-receives c lens r =
+moving-receives : (c : Channel) (lens : List ℕ) → c .phase .state ≡ opened → Receives c lens → Receives (withWindow c (movedOf (c .limits) (c .marks) (c .window) .window)) lens
+moving-receives c lens o r =
     let t = fit-is (c .limits) (r .fit) in
     let m = moved-kept (c .limits) (c .marks) (c .window) (t .segment) (r .window) (r .held) in
     record {
@@ -209,6 +215,7 @@ moving-receives c lens r =
       direction = r .direction;
       small = record { direction = r .small .direction; state = r .small .state; reason = r .small .reason; kept = r .small .kept; accepted = r .small .accepted; control = r .small .control };
       window = m .0;
+      rested = open-rests (c .addresses .direction) (c .phase) (movedOf (c .limits) (c .marks) (c .window) .window) o;
       held = m .1;
       slots = r .slots;
     }
@@ -228,6 +235,7 @@ dropped-receives c lens n some few r =
       direction = r .direction;
       small = record { direction = r .small .direction; state = r .small .state; reason = r .small .reason; kept = r .small .kept; accepted = r .small .accepted; control = r .small .control };
       window = record { place = k .place; behind = omega arith; ahead = k .ahead; flight = k .flight; way = omega arith; unit = k .unit };
+      rested = rested-on (c .addresses .direction) (c .phase) (c .phase) refl (λ x. x) w (dropped c n .window) refl refl (r .rested);
       held = λ i less e.
           let there : roundOf slots (backOf slots (w .place) (w .behind - n) + i) ≡ roundOf slots (from + (n + i)) =
           ap (λ (j : ℕ). roundOf slots (j + i)) (sym (back-on slots (w .place) (w .behind) n (k .place) (k .behind) (omega arith) some))
@@ -248,19 +256,22 @@ timers-receives c lens t r =
       direction = r .direction;
       small = record { direction = s .direction; state = s .state; reason = s .reason; kept = s .kept; accepted = s .accepted; control = s .control };
       window = r .window;
+      rested = r .rested;
       held = r .held;
       slots = r .slots;
     }
 
 -- ---- the steps
 
--- an Open directive, at either end
-pub opening-stands : (c : Channel) (lens : List ℕ) → Standing c lens → Standing (openStep c .channel) lens
-opening-stands c lens h = open-cases c (λ (s : Stepped). Standing (s .channel) lens) h h (enabled-stands c lens noLone (omega arith) h)
-
 module _ (c : Channel) (lens : List ℕ) (d : c .addresses .direction ≡ receives) (h : Standing c lens) where
   is : Receives c lens
   is = receives-is c lens d h
+
+  -- an Open directive
+  pub opening-stands : Standing (openStep c .channel) lens
+  opening-stands =
+      open-cases c (λ (s : Stepped). Standing (s .channel) lens) h h
+      (enabled-stands c lens noLone (omega arith) (asking-receives (c .addresses .direction) (freshPhase enabled noLone) d) h)
 
   shut-stands : (why : ℕ) → why ≤ 5 → Standing (shutFor c why) lens
   shut-stands why small = receives-stands (shutFor c why) lens (shut-receives c lens why small is)
@@ -269,16 +280,16 @@ module _ (c : Channel) (lens : List ℕ) (d : c .addresses .direction ≡ receiv
   pub control-stands : (opens : Bool) (number : ℕ) → Standing (controlStep c opens number .channel) lens
   control-stands opens number =
       control-cases c (λ (s : Stepped). Standing (s .channel) lens) h h opens number
-      (receives-stands (withState c 2) lens (state-receives c lens 2 (omega arith) is))
+      (receives-stands (withState c 2) lens (state-receives c lens 2 (omega arith) (open-rests (c .addresses .direction) (withState c 2 .phase) (c .window) refl) is))
       (receives-stands (leaving c 3 (c .limits .closing)) lens (leaving-receives c lens 3 (c .limits .closing) (omega arith) is))
       (shut-stands 2 (omega arith))
       (shut-stands 3 (omega arith))
 
   -- a segment filed at a place of the ring
-  accept-stands : (place flags n : ℕ) → place < c .limits .slots → flags < 4 → n ≤ c .limits .payload
+  accept-stands : c .phase .state ≡ opened → (place flags n : ℕ) → place < c .limits .slots → flags < 4 → n ≤ c .limits .payload
       → Standing (acceptStep c place flags .channel) (set lens (slotOf c place) n)
-  accept-stands place flags n on few short =
-      let r = moving-receives (marking c place flags) (set lens (slotOf c place) n) (marking-receives c lens place flags n on few short is) in
+  accept-stands o place flags n on few short =
+      let r = moving-receives (marking c place flags) (set lens (slotOf c place) n) o (marking-receives c lens place flags n on few short is) in
       let k = withWindow (marking c place flags) (movedOf (c .limits) (marking c place flags .marks) (c .window) .window) in
       accept-cases c place flags (λ (s : Stepped). Standing (s .channel) (set lens (slotOf c place) n))
       (receives-stands (shutFor k 5) (set lens (slotOf c place) n) (shut-receives k (set lens (slotOf c place) n) 5 (omega arith) r))
@@ -292,14 +303,14 @@ module _ (c : Channel) (lens : List ℕ) (d : c .addresses .direction ≡ receiv
     pub data-stands : (flags : ℕ) → flags < 4 → Standing (dataStep c number flags .channel) (dataLens c number p lens)
     data-stands flags few =
         data-cases c number flags p mem lens (λ (s : Stepped) (m l : List ℕ). Standing (s .channel) l) h h h (shut-stands 4 (omega arith))
-        (λ room. accept-stands (placeAt (c .limits) (c .window) (awayOf c number)) flags (length p) (on-ring number room) few short)
+        (λ o room. accept-stands o (placeAt (c .limits) (c .window) (awayOf c number)) flags (length p) (on-ring number room) few short)
 
     -- the memory keeps its size
     pub data-sized : Sized (c .limits .slots) (c .limits .payload) mem lens
         → Sized (c .limits .slots) (c .limits .payload) (dataMem c number p mem) (dataLens c number p lens)
     data-sized z =
         data-cases c number 0 p mem lens (λ (s : Stepped) (m l : List ℕ). Sized (c .limits .slots) (c .limits .payload) m l) z z z z
-        (λ room. filed-sized (c .limits .slots) (c .limits .payload) mem lens (slotOf c (placeAt (c .limits) (c .window) (awayOf c number))) p z (slot-bound (c .limits) (placeAt (c .limits) (c .window) (awayOf c number)) (on-ring number room)) short)
+        (λ o room. filed-sized (c .limits .slots) (c .limits .payload) mem lens (slotOf c (placeAt (c .limits) (c .window) (awayOf c number))) p z (slot-bound (c .limits) (placeAt (c .limits) (c .window) (awayOf c number)) (on-ring number room)) short)
 
     -- the octets of every slot but the one filed stay
     pub other-slots-stay : Sized (c .limits .slots) (c .limits .payload) mem lens
@@ -313,7 +324,7 @@ module _ (c : Channel) (lens : List ℕ) (d : c .addresses .direction ≡ receiv
         refl
         refl
         refl
-        (λ room. slot-other (c .limits .slots) (c .limits .payload) mem lens (slotOf c (placeAt (c .limits) (c .window) (awayOf c number))) p z (slot-bound (c .limits) (placeAt (c .limits) (c .window) (awayOf c number)) (on-ring number room)) short j other)
+        (λ o room. slot-other (c .limits .slots) (c .limits .payload) mem lens (slotOf c (placeAt (c .limits) (c .window) (awayOf c number))) p z (slot-bound (c .limits) (placeAt (c .limits) (c .window) (awayOf c number)) (on-ring number room)) short j other)
 
   -- a unit taken
   pub take-stands : (n : ℕ) → Standing (takeStep c lens n .channel) lens
@@ -330,5 +341,9 @@ module _ (c : Channel) (lens : List ℕ) (d : c .addresses .direction ≡ receiv
       tick-cases c (λ (k : Channel). Standing k lens) h
       (receives-stands (withTimers c (withClosing (c .timers) (c .timers .closing - 1))) lens
       (timers-receives c lens (withClosing (c .timers) (c .timers .closing - 1)) is))
-      (receives-stands (withState (withTimers c (withClosing (c .timers) 0)) 0) lens
-      (state-receives (withTimers c (withClosing (c .timers) 0)) lens 0 (omega arith) (timers-receives c lens (withClosing (c .timers) 0) is)))
+      (λ e.
+      let n = rested-is (c .addresses .direction) (c .phase) (c .window) (λ o. omega arith) (h .rested) in
+      receives-stands (withState (withTimers c (withClosing (c .timers) 0)) 0) lens
+      (state-receives (withTimers c (withClosing (c .timers) 0)) lens 0 (omega arith)
+      (rests (c .addresses .direction) (withState c 0 .phase) (c .window) (n .0) (n .1) (asking-receives (c .addresses .direction) (withState c 0 .phase) d))
+      (timers-receives c lens (withClosing (c .timers) 0) is)))

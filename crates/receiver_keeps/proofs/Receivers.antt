@@ -15,7 +15,7 @@ use Rattle.channel.specs.declared.record.Window.{Window}
 use Rattle.channel.specs.declared.record.Channel.{Channel}
 use Rattle.channel.specs.Record.{sends, receives}
 use Rattle.channel.specs.Settings.{fitLimits}
-use Rattle.channel.specs.Standing.{named, sided, slotFit, Standing, Counted}
+use Rattle.channel.specs.Standing.{named, sided, rested, slotFit, Standing, Counted}
 use Rattle.channel.proofs.StandingLaws.{ring-is, counted-is, counted-ring, counted-flight, Named, named-is, is-named}
 
 -- a receiver's window: on the ring, nothing ahead, and the unit on the way among what is behind and within M
@@ -42,6 +42,7 @@ pub record Receives (c : Channel) (lens : List ℕ) : Type 0 where
   pub direction : c .addresses .direction ≡ receives
   pub small : Named c
   pub window : Kept (c .limits) (c .window)
+  pub rested : rested (c .addresses .direction) (c .phase) (c .window) ≡ true
   pub held : Marked (c .limits .slots) (c .window) (c .marks)
   pub slots : Fitting (c .limits) (c .marks) lens
 
@@ -65,6 +66,7 @@ receives-is c lens d h =
       direction = d;
       small = named-is c (h .named);
       window = record { place = q .0; behind = q .1; ahead = a; flight = omega arith; way = n .way; unit = n .unit };
+      rested = h .rested;
       held = λ i l. h .held i (omega arith);
       slots = λ i l. ap (λ (t : Bool). slotFit t (c .limits .payload) (getD (c .marks) i 0) (getD lens (slotOf c i) 0)) (sym (not-sending c d)) ∙ h .slots i l;
     }
@@ -89,6 +91,7 @@ receives-stands c lens r =
       ring = counted-ring (c .limits) (c .window) n;
       flight = counted-flight (c .limits) (c .window) n;
       sided = sided-true (c .addresses .direction) (c .phase .state) (c .window) (r .direction) (r .window .ahead);
+      rested = r .rested;
       held = λ i l. r .held i (omega (arith, r .window .ahead));
       slots = λ i l. ap (λ (t : Bool). slotFit t (c .limits .payload) (getD (c .marks) i 0) (getD lens (slotOf c i) 0)) (not-sending c (r .direction)) ∙ r .slots i l;
     }

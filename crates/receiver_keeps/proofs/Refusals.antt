@@ -32,7 +32,7 @@ refusals-change-nothing c number flags p mem lens =
     (λ n. (refl, refl, refl))
     (λ n. absurd (n (inr (inr refl))))
     (λ n. absurd (n (inr (inl refl))))
-    (λ room n. absurd (n (accept-cases c (placeAt (c .limits) (c .window) (awayOf c number)) flags Changing (inr (inl refl)) (inl refl))))
+    (λ o room n. absurd (n (accept-cases c (placeAt (c .limits) (c .window) (awayOf c number)) flags Changing (inr (inl refl)) (inl refl))))
 
 -- an Open or a Close that arrives
 pub control-refusals-change-nothing : (c : Channel) (opens : Bool) (number : ℕ)

@@ -1,4 +1,4 @@
--- A transmit end: its directives, and what leaving OPEN keeps (document 01, Sending; 000, 4.4.2).
+-- A transmit end: its directives, and what leaving OPEN keeps (document 01, Sending; 000, 4.4.3).
 use Prim.Native.Nat.{ℕ, _+_}
 use mathlib.Core.Bool.{not}
 use lib.Dec.{eqb}

@@ -106,7 +106,7 @@ pub tick-cases : (c : Channel) (P : Channel → Type 0)
     → (c .phase .state ≡ enabled → P (shutFor c retriesOut))
     → (c .phase .state ≡ closing → P (shutFor c retriesOut))
     → P (withTimers c (record { closing = c .timers .closing; left = map lowered (c .timers .left); tries = c .timers .tries }))
-    → P (withControl c (fallen (c .phase .control) .lone))
+    → (fallen (c .phase .control) .spent ≡ false → P (withControl c (fallen (c .phase .control) .lone)))
     → P c
     → P (tickStep c .channel)
 unfolding tickStep
@@ -115,7 +115,7 @@ tick-cases c P in-opened in-enabled in-closing timers control same =
     (λ e. either Ticks (anySpent (c .timers .left) (c .timers .tries)) _ _ (in-opened (eqb-true _ _ e)) timers)
     (λ e.
     by-test Ticks (eqb (c .phase .state) enabled || eqb (c .phase .state) closing) _ _
-    (λ q. either Ticks (fallen (c .phase .control) .spent) _ _ (by-control q) control)
+    (λ q. by-test Ticks (fallen (c .phase .control) .spent) _ _ (λ t. by-control q) control)
     (λ q. same))
   where
     Ticks : Ticked → Type 0

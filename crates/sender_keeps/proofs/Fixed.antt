@@ -55,7 +55,7 @@ module _ (c : Channel) where
 
   pub tick-fixed : SameSettings c (tickStep c .channel)
   tick-fixed =
-      tick-cases c (SameSettings c) (λ e. shut-fixed retriesOut) (λ e. shut-fixed retriesOut) (λ e. shut-fixed retriesOut) (refl, refl) (refl, refl) (refl, refl)
+      tick-cases c (SameSettings c) (λ e. shut-fixed retriesOut) (λ e. shut-fixed retriesOut) (λ e. shut-fixed retriesOut) (refl, refl) (λ e. (refl, refl)) (refl, refl)
 
   next-fixed : (rank : ℕ) → SameSettings c (nextOut c rank)
   unfolding nextOut

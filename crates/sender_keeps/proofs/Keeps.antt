@@ -21,7 +21,7 @@ use Rattle.channel.specs.Record.{sends, opened, heldIn}
 use Rattle.channel.specs.Settings.{fitLimits}
 use Rattle.channel.proofs.StandingLaws.{counted-ring, counted-flight, Named, is-named}
 use Rattle.channel.proofs.MadeLaws.{free-fits}
-use Rattle.channel.specs.Standing.{named, sided, oldestOf, slotFit, Standing, Counted}
+use Rattle.channel.specs.Standing.{named, sided, rested, oldestOf, slotFit, Standing, Counted}
 
 -- ---- the side: this end sends
 
@@ -50,10 +50,11 @@ module _ (direction state : ℕ) (w : Window) (s : direction ≡ sends) where
 
 pub stand : (c : Channel) (lens : List ℕ) → fitLimits (c .limits) ≡ true → length lens ≡ c .limits .slots → Named c → Counted (c .limits) (c .window)
     → sided (c .addresses .direction) (c .phase .state) (c .window) ≡ true
+    → rested (c .addresses .direction) (c .phase) (c .window) ≡ true
     → ((i : ℕ) → i < heldIn (c .window) → getD (c .marks) (roundOf (c .limits .slots) (oldestOf (c .limits .slots) (c .window) + i)) 0 ≡ 0 → ⊥)
     → ((i : ℕ) → i < c .limits .slots → slotFit (eqb (c .addresses .direction) sends) (c .limits .payload) (getD (c .marks) i 0) (getD lens (slotOf c i) 0) ≡ true)
     → Standing c lens
-stand c lens f e n k s held slots =
+stand c lens f e n k s r held slots =
     record {
       fit = f;
       count = e;
@@ -61,6 +62,7 @@ stand c lens f e n k s held slots =
       ring = counted-ring (c .limits) (c .window) k;
       flight = counted-flight (c .limits) (c .window) k;
       sided = s;
+      rested = r;
       held = held;
       slots = slots;
     }

@@ -17,7 +17,7 @@ use Rattle.channel.specs.declared.step.Stepped.{Stepped}
 use Rattle.channel.specs.Record.{sends, opened, withWindow, withMarks, withAcked}
 use Rattle.channel.specs.Places.{slotOf}
 use Rattle.channel.specs.Standing.{oldestOf, Standing}
-use Rattle.channel.proofs.StandingLaws.{counted-is, named-is}
+use Rattle.channel.proofs.StandingLaws.{counted-is, named-is, open-rests}
 use Rattle.sender.specs.Directives.{placeAt}
 use Rattle.sender_acks.specs.Acks.{awayOf, recorded, runAt, wholeAt, advanced, dataAckStep}
 use Rattle.sender_keeps.proofs.Cases.{data-ack-cases}
@@ -56,6 +56,7 @@ module _ (c : Channel) (lens : List ℕ) (h : Standing c lens) (s : c .addresses
         unit = k .unit;
       })
       (open-sided (c .addresses .direction) (c .phase .state) (onward w (placeAt c n) n (w .behind + n)) s z o)
+      (open-rests (c .addresses .direction) (c .phase) (onward w (placeAt c n) n (w .behind + n)) o)
       (λ i less q. h .held i (omega (arith, k .flight)) (ap (λ (x : ℕ). getD (c .marks) (roundOf slots (x + i)) 0) (sym same) ∙ q))
       (h .slots)
 
@@ -95,6 +96,7 @@ module _ (c : Channel) (lens : List ℕ) (h : Standing c lens) (s : c .addresses
         unit = k .unit;
       })
       (open-sided (c .addresses .direction) (c .phase .state) (onward w (placeAt c n) n (n - done)) s z o)
+      (open-rests (c .addresses .direction) (c .phase) (onward w (placeAt c n) n (n - done)) o)
       (λ i less q.
       let far : gone + i < slots = omega (arith, k .held, k .flight) in
       h .held (gone + i) (omega (arith, k .flight))

@@ -14,7 +14,7 @@ use Rattle.channel.specs.Record.{sends, opened}
 use Rattle.channel.specs.Lone.{handedOut}
 use Rattle.channel.specs.Standing.{Standing}
 use Rattle.channel.specs.Steps.{refusing, doing}
-use Rattle.channel.proofs.StandingLaws.{counted-is, named-is}
+use Rattle.channel.proofs.StandingLaws.{counted-is, named-is, open-rests}
 use Rattle.sender_packets.specs.Asked.{Ready}
 use Rattle.sender_packets.specs.HandingOut.{rankOf, oneMore, controlOut, againOut, newOut, nextOut, nextLength, handStep}
 use Rattle.sender_packets.proofs.HandLaws.{rank-open, rank-2-is}
@@ -31,6 +31,7 @@ module _ (c : Channel) (lens : List ℕ) (h : Standing c lens) (s : c .addresses
       (record { direction = n .direction; state = n .state; reason = n .reason; kept = n .kept; accepted = n .accepted; control = n .control })
       (record { place = k .place; held = k .held; flight = omega arith; window = omega arith; way = k .way; unit = k .unit })
       (open-sided (c .addresses .direction) (c .phase .state) (oneMore (c .window)) s (sided-way (c .addresses .direction) (c .phase .state) (c .window) s (h .sided)) o)
+      (open-rests (c .addresses .direction) (c .phase) (oneMore (c .window)) o)
       (h .held)
       (h .slots)
 
@@ -40,7 +41,7 @@ module _ (c : Channel) (lens : List ℕ) (h : Standing c lens) (s : c .addresses
     where
       go : (a : Bool) → eqb rank 0 ≡ a → (b : Bool) → eqb rank 1 ≡ b
           → Standing (if a then controlOut c else if b then againOut c else newOut c) lens
-      go true p b q = control-stands c lens h (handedOut (c .phase .control) (c .limits .timeout) (c .limits .retries)) (omega arith)
+      go true p b q = control-stands c lens h (handedOut (c .phase .control) (c .limits .timeout) (c .limits .retries)) (omega arith) (λ q z. omega arith)
       go false p true q = timers-stand c lens h (againOut c .timers)
       go false p false q =
           let x = eqb-false rank 0 p in

@@ -1,6 +1,6 @@
 -- A unit reclaimed keeps the standing condition.
 -- Assumes nothing.
-use mathlib.Core.Path.{_≡_, sym, ap, _∙_}
+use mathlib.Core.Path.{_≡_, refl, sym, ap, _∙_}
 use mathlib.Core.List.{List}
 use Prim.Native.Nat.{ℕ, _+_, _≤_, _<_}
 use native.Mathlib.Omega.{arith}
@@ -13,7 +13,7 @@ use Rattle.channel.specs.declared.record.Channel.{Channel}
 use Rattle.channel.specs.Record.{sends, opened}
 use Rattle.channel.specs.Places.{slotOf}
 use Rattle.channel.specs.Standing.{Standing}
-use Rattle.channel.proofs.StandingLaws.{counted-is, named-is}
+use Rattle.channel.proofs.StandingLaws.{counted-is, named-is, rested-on}
 use Rattle.sender_units.specs.Reclaiming.{unitAt, dropped, reclaimStep}
 use Rattle.channel.specs.declared.step.Stepped.{Stepped}
 use Rattle.sender_keeps.proofs.Cases.{reclaim-cases}
@@ -44,6 +44,7 @@ dropped-stands c lens h s shut n l =
       unit = k .unit;
     })
     (still-sided (c .addresses .direction) (c .phase .state) (dropped c n .window) s z (still .0) (still .1))
+    (rested-on (c .addresses .direction) (c .phase) (c .phase) refl (λ q. q) w (dropped c n .window) refl refl (h .rested))
     (λ i less q.
     let far : n + i < slots = omega (arith, still .0, k .held) in
     let on : roundOf slots (from + i) ≡ roundOf slots (w .place + (n + i)) = round-add slots (w .place) n i (omega (arith, k .place)) in

@@ -27,7 +27,7 @@ use Rattle.channel.specs.declared.step.Stepped.{Stepped}
 use Rattle.channel.specs.Record.{sends, heldIn}
 use Rattle.channel.specs.Standing.{oldestOf, slotFit, Standing}
 use Rattle.channel.proofs.SettingsLaws.{fit-is}
-use Rattle.channel.proofs.StandingLaws.{counted-is, named-is}
+use Rattle.channel.proofs.StandingLaws.{counted-is, named-is, open-rests}
 use Rattle.sender_units.specs.Transfer.{isAccepted, longer, filedUnit, freeAt, transferStep, transferMem, transferLens}
 use Rattle.sender_units.proofs.UnitLaws.{accepted-is, transfer-no, transfer-no-lens, transfer-done, transfer-done-lens}
 use Rattle.sender_keeps.proofs.Keeps.{sided-way, open-sided, stand, toward, toward-is}
@@ -108,6 +108,7 @@ module _ (c : Channel) (u lens : List ℕ) (h : Standing c lens) (s : c .address
       (record { direction = n .direction; state = n .state; reason = n .reason; kept = n .kept; accepted = n .accepted; control = n .control })
       (record { place = k .place; held = omega arith; flight = omega (arith, k .flight); window = k .window; way = k .way; unit = k .unit })
       (open-sided (c .addresses .direction) (c .phase .state) (longer w count) s z (t .0))
+      (open-rests (c .addresses .direction) (c .phase) (longer w count) (t .0))
       (λ i less zero-mark.
       ⊎-elim
       (λ before.

@@ -214,7 +214,8 @@ module _ (c : Channel) (mem lens : List ℕ) (s : Sender) (a : Asked c mem lens)
       (λ e. let z : rank (s .phase) ≡ 1 = ap rank (is-enabled e) in shuts (omega arith) (omega arith) retriesOut)
       (λ e. let z = is-closing e in shuts (omega arith) (omega arith) retriesOut)
       (stays (withTimers c timers) mem lens s c (changed-sends c mem lens s (c .phase .reason) (c .phase .kept) (c .phase .control) timers r))
-      (stays (withControl c (fallen (c .phase .control) .lone)) mem lens s c
+      (λ left.
+      stays (withControl c (fallen (c .phase .control) .lone)) mem lens s c
       (changed-sends c mem lens s (c .phase .reason) (c .phase .kept) (fallen (c .phase .control) .lone) (c .timers) r))
       (stays c mem lens s c r)
 

@@ -6,13 +6,14 @@ use mathlib.Core.List.{List}
 use mathlib.Core.Logic.{_⊎_, ⊎-elim}
 use Prim.Native.Nat.{ℕ, zero, suc, _+_, _-_, _≤_, _<_}
 use native.Mathlib.Omega.{arith}
-use borrow.Author.Tests.{lt-ltb, le-leb, eq-eqb, ne-eqb, eqb-true}
+use borrow.Author.Tests.{lt-ltb, le-leb, eq-eqb, ne-eqb, eqb-true, eqb-false}
 use lib.Dec.{leb, ltb, eqb}
-use lib.ListN.{length, getD}
+use lib.ListN.{length, getD, set, length-set}
+use lib.Seq.{getD-set-same, getD-set-other}
 use Rattle.laws.specs.Choice.{if_then_else_}
-use Rattle.laws.proofs.Choice.{chosen, passed-by, both}
+use Rattle.laws.proofs.Choice.{chosen, passed-by, both, either-way}
 use Rattle.ring.specs.Ring.{roundOf}
-use Rattle.ring.proofs.Laws.{round-lt}
+use Rattle.ring.proofs.Laws.{round-lt, round-apart}
 use Rattle.slots.specs.Slots.{segmentIn}
 use Rattle.channel.specs.Places.{slotOf}
 use Rattle.ring.proofs.Laws.{first-place, next-place}
@@ -110,23 +111,50 @@ module _ (c : Channel) (mem lens : List ℕ) (s : Sender) (a : Asked c mem lens)
         (le-leb (s .start + k) (s .next) (omega (arith, y .flight)))
         n
 
+    -- of the segment that goes out no ack is known, and of the others what was
+    new-noted : c .window .flight < c .window .ahead → (j : ℕ) → j < c .window .ahead
+        → eqb (getD (set (c .acked) (placeAt c (c .window .flight)) 0) (placeAt c j) 0) 0 ≡ not (s .acked (s .start + j))
+    new-noted some j l =
+        let h = a .standing in
+        let n = counted-is (c .limits) (c .window) (h .ring) (h .flight) in
+        let f = fit-is (c .limits) (h .fit) in
+        let x = holds in
+        let y = windowed in
+        let slots = c .limits .slots in
+        let k = c .window .flight in
+        let inside : placeAt c k < slots = round-lt slots (c .window .place + k) (omega (arith, n .place, n .held)) in
+        either-way (eqb j k)
+        (λ e.
+        let is : j ≡ k = eqb-true _ _ e in
+        let unsent : s .acked (s .start + j) ≡ false
+        = not-true (s .acked (s .start + j)) (λ t. let z : s .start + j < s .next = y .sent (s .start + j) t in omega (arith, y .flight))
+        in
+        ap (λ (i : ℕ). eqb (getD (set (c .acked) (placeAt c k) 0) (placeAt c i) 0) 0) is
+        ∙ ap (λ (m : ℕ). eqb m 0) (getD-set-same (c .acked) (placeAt c k) 0 0 (omega (arith, x .acks, f .most)))
+        ∙ ap not (sym unsent))
+        (λ e.
+        ap (λ (m : ℕ). eqb m 0)
+        (getD-set-other (c .acked) (placeAt c k) (placeAt c j) 0 0
+        (λ q. eqb-false _ _ e (round-apart slots (c .window .place) j k (n .place) (omega (arith, n .held)) (omega (arith, n .held)) q)))
+        ∙ y .noted j l)
+
     -- one more was handed out
-    new-related : Sends (newOut c) mem lens (nextAt s (suc (s .start + c .window .flight)))
+    new-related : c .window .flight < c .window .ahead → Sends (newOut c) mem lens (nextAt s (suc (s .start + c .window .flight)))
     unfolding lying
-    new-related =
+    new-related some =
         let x = holds in
         let y = windowed in
         let z = rank-two in
         record {
           state = r .state;
           before = λ e. absurd (not-fresh (s .phase) (omega arith) e);
-          held = λ _. record { count = x .count; each = x .each; whole = x .whole; marks = x .marks; acks = x .acks };
+          held = λ _. record { count = x .count; each = x .each; whole = x .whole; marks = x .marks; acks = length-set (c .acked) (placeAt c (c .window .flight)) 0 ∙ x .acks };
           window = λ _ _.
               record {
                 number = y .number;
                 behind = y .behind;
                 flight = omega arith;
-                noted = y .noted;
+                noted = new-noted some;
                 sent = λ i e. let l : i < s .next = y .sent i e in omega (arith, y .flight);
               };
         }
@@ -175,7 +203,7 @@ module _ (c : Channel) (mem lens : List ℕ) (s : Sender) (a : Asked c mem lens)
         may = may-go o k (omega arith) (l .0) (l .1) (ap not unsent);
         related = subst (λ (i : ℕ). Sends (newOut c) mem lens (nextAt s i))
             (sym (chosen (eqb (s .start + k) (s .next)) (suc (s .start + k)) (s .next) (eq-eqb (s .start + k) (s .next) (omega (arith, y .flight)))))
-            (new-related o);
+            (new-related o (l .0));
         segment = carried-is c mem lens (s .line) (s .oldest) (s .start) (s .next) (s .acked) a x y k (l .0);
       }
 

@@ -18,7 +18,7 @@ use Rattle.channel.specs.declared.record.Window.{Window}
 use Rattle.channel.specs.declared.record.Channel.{Channel}
 use Rattle.channel.specs.declared.step.Stepped.{Stepped}
 use Rattle.channel.specs.declared.answer.Refusal.the-variants as refusal
-use Rattle.channel.specs.Record.{enabled, opened, closing, withControl, withWindow, withTimers}
+use Rattle.channel.specs.Record.{enabled, opened, closing, withControl, withWindow, withTimers, withAcked}
 use Rattle.channel.specs.Steps.{refusing, doing, outgoingOf}
 use Rattle.channel.specs.Lone.{isReady, handedOut}
 use Rattle.sender.specs.Directives.{placeAt}
@@ -93,8 +93,12 @@ controlOut c = withControl c (handedOut (c .phase .control) (c .limits .timeout)
 abbrev pub againOut : Channel → Channel
 againOut c = timedAt c (placeAt c (againAt c)) (getD (c .timers .tries) (placeAt c (againAt c)) 0 - 1)
 
+-- handed out for the first time: all resends are left to it, no ack is known of it, and one more is in flight
 abbrev pub newOut : Channel → Channel
-newOut c = withWindow (timedAt c (placeAt c (c .window .flight)) (c .limits .retries)) (oneMore (c .window))
+newOut c =
+    withWindow
+    (withAcked (timedAt c (placeAt c (c .window .flight)) (c .limits .retries)) (set (c .acked) (placeAt c (c .window .flight)) 0))
+    (oneMore (c .window))
 
 -- the segment of a rank, counted from the start
 abbrev pub segmentFor : Channel → ℕ → ℕ

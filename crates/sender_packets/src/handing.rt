@@ -140,7 +140,8 @@ pub fn again_out(c: Channel, i: usize) -> Channel
     start_timer(c, place, left)
 }
 
-// The next segment is handed out for the first time: all resends are left to it, and one more is in flight.
+// The next segment is handed out for the first time: all resends are left to it, no ack is known of it, and one more is in flight. So an ack
+// that stands where nothing was sent, in a record that was overwritten, is never taken for this segment's.
 pub fn new_out(c: Channel) -> Channel
     requires { ⌜ (Ringed (c .limits) (c .window)) × (c .window .flight < c .window .ahead) ⌝ }
     ensures { λ r. ⌜ r ≡ newOut c ⌝ }
@@ -149,5 +150,6 @@ pub fn new_out(c: Channel) -> Channel
     let flight = c.window.flight + 1;
     let mut d = start_timer(c, place, c.limits.retries);
     d.window.flight = flight;
+    d.acked[place] = 0;
     d
 }

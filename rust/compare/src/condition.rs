@@ -1,7 +1,7 @@
 //! The test for 13, written from docs/CONDITION.md alone: what a table that
 //! was overwritten must be answered.
 
-use proved::record::{direction, state, Channel, Limits};
+use proved::record::{direction, lone, state, Channel, Limits};
 
 /// Whether a table passes with so many octets and these lengths.
 pub fn is_lawful(table: &[Channel], octets: usize, lengths: &[u16]) -> bool {
@@ -39,7 +39,11 @@ fn fits(limits: &Limits) -> bool {
 
 /// The other clauses, of a record whose limits fit.
 fn stands(record: &Channel, lengths: &[u16]) -> bool {
-    is_named(record) && is_counted(record) && is_marked(record) && slots_fit(record, lengths)
+    is_named(record)
+        && is_counted(record)
+        && is_rested(record)
+        && is_marked(record)
+        && slots_fit(record, lengths)
 }
 
 fn is_named(record: &Channel) -> bool {
@@ -68,6 +72,15 @@ fn is_counted(record: &Channel) -> bool {
         window.ahead == 0
     };
     in_ring && in_flight && sided
+}
+
+/// Out of OPEN: the window starts at 1, nothing is on the way, and a sender that
+/// is not CLOSED has its Open or Close.
+fn is_rested(record: &Channel) -> bool {
+    let (phase, window) = (&record.phase, &record.window);
+    let sends = record.addresses.direction == direction::SENDS;
+    let asks = !sends || phase.state == state::CLOSED || phase.control.state != lone::NONE;
+    phase.state == state::OPEN || window.start == 1 && window.way == 0 && asks
 }
 
 /// Each segment held, from the oldest on, lies in a slot that is marked.

@@ -46,6 +46,23 @@ fn receiving() -> End {
     station
 }
 
+/// A host whose Open is ready.
+fn enabled() -> End {
+    End::enabled(HOST, STATION, direction::SENDS, LIMITS)
+}
+
+/// A station in CLOSING that holds a whole unit.
+fn leaving() -> End {
+    let (mut host, mut station) = both_open(LIMITS);
+    host.transfer(b"a");
+    let ack = station.arrival(&host.packet()).1;
+    assert_eq!(host.arrival(&ack).0, done(0, 1));
+    host.close();
+    assert_eq!(station.arrival(&host.packet()).0, done(12, 0));
+    assert_eq!(station.record().phase.state, state::CLOSING);
+    station
+}
+
 /// Refused by 13 after each of these, and changed by none of the refusals.
 fn all_refused(end: fn() -> End, overwrites: &[Overwrite]) {
     for (place, overwrite) in overwrites.iter().enumerate() {
@@ -92,6 +109,16 @@ fn what_the_condition_bounds() {
         |record| record.window.way = 3,
     ];
     all_refused(receiving, &of_a_receiver);
+    let out_of_open: [Overwrite; 2] = [
+        |record| record.window.start = 2,
+        |record| record.phase.control.state = lone::NONE,
+    ];
+    all_refused(enabled, &out_of_open);
+    let of_a_receiver_out_of_open: [Overwrite; 2] = [
+        |record| record.window.start = 2,
+        |record| record.window.way = 1,
+    ];
+    all_refused(leaving, &of_a_receiver_out_of_open);
 }
 
 #[test]
@@ -190,7 +217,10 @@ fn every_ack_mark() {
         let (mut host, mut station) = both_open(limits);
         host.record().window.place = place;
         host.transfer(b"a");
+        // What stood there before the hand-out is not this segment's ack.
+        host.record().acked[place] = 1;
         let ack = station.arrival(&host.packet()).1;
+        assert_eq!(host.record().acked[place], 0, "place {place}");
         host.record().acked[place] = 1;
         assert_eq!(host.arrival(&ack).0, refused(16), "place {place}");
         host.record().acked[place] = 0;
