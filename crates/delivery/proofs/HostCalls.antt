@@ -38,7 +38,7 @@ module _ {h s : End} {past : List Event} {x : Sender} {y : Receiver} {t : List C
       let request = asking ticks i u b in
       tick-seen (Next k request copy) t mem lens (k .now .kept .stands) (h .index) (own-below k)
       (subst (λ (z : Channel). Next k request copy (ticked t mem lens .answer) [] z (octets k) (lengths k))
-      (sym (ap (λ (z : Ticked). z .channel) (ticked-sends (own k) false (own-sends k))))
+      (sym (ap (λ (z : Ticked). z .channel) (ticked-sends (own k) (own-sends k))))
       (moves-on k request copy (ticked t mem lens .answer) [] refl refl refl refl c
       (tick-sends (own k) (octets k) (lengths k) x (asked k) (own-sends k) (k .now .means))))
 
