@@ -4,16 +4,20 @@ use mathlib.Core.Path.{_≡_, sym, ap, _∙_}
 use mathlib.Core.Bool.{Bool, true, false, _&&_}
 use mathlib.Core.List.{List}
 use Prim.Native.Nat.{ℕ, _≤_}
-use borrow.Author.Tests.{eq-eqb, ltb-false}
+use borrow.Author.Tests.{le-ltb, ltb-false}
 use borrow.Rule.Slice.PartMut.{putMid}
 use lib.Dec.{ltb}
 use lib.ListN.{length, take, drop}
 use Rattle.packet.specs.declared.fields.Fields.{Fields}
+use Rattle.packet.specs.declared.kinds.Kind.{Kind}
+use Rattle.packet.specs.declared.kinds.Kind.the-variants.{Data}
+use Rattle.packet.specs.Kinds.{kindOf, isData}
 use Rattle.walks.specs.Serving.{works}
 use Rattle.channel.specs.declared.record.Node.{Node}
 use Rattle.channel.specs.declared.record.Channel.{Channel}
 use Rattle.channel.specs.declared.step.Stepped.{Stepped}
 use Rattle.channel.specs.Record.{receives}
+use Rattle.receiver.specs.Receiving.{ackLength}
 use Rattle.receiver_data.specs.Data.{dataStep, dataMem, dataLens}
 use Rattle.receiver_keeps.proofs.Keeps.{data-sized}
 use Rattle.table.specs.declared.deciding.Decision.{Decision}
@@ -21,13 +25,17 @@ use Rattle.table.specs.Lent.{areaOf}
 use Rattle.table.specs.Surveying.{mine, mineLens, stepping, Served}
 use Rattle.table.proofs.Parts.{parts-filed}
 use Rattle.arriving_reply.specs.Replying.{repliedBy}
-use Rattle.arriving_data.specs.Data.{unfit, dataFor}
+use Rattle.arriving_data.specs.Data.{replyLength, unfit, dataFor}
+
+-- in the base every reply buffer has room once an arrival is looked at: the first test asks for as much
+pub reply-fits : (c : Channel) (k : Kind) (n : ℕ) → ackLength ≤ n → ltb n (replyLength c k) ≡ false
+reply-fits c k n h = le-ltb n (replyLength c k) h
 
 -- Data that is fit has at most P octets
-pub fit-payload : (c : Channel) (f : Fields) (x : ℕ) → unfit c f x ≡ false → f .kind ≡ 0 → x ≤ c .limits .payload
+pub fit-payload : (c : Channel) (f : Fields) (x : ℕ) → unfit c f x ≡ false → kindOf (f .kind) ≡ Data → x ≤ c .limits .payload
 unfolding unfit
 fit-payload c f x e k =
-    ltb-false (c .limits .payload) x (sym (ap (λ (b : Bool). b && ltb (c .limits .payload) x) (eq-eqb (f .kind) 0 k)) ∙ e)
+    ltb-false (c .limits .payload) x (sym (ap (λ (b : Kind). isData b && ltb (c .limits .payload) x) k) ∙ e)
 
 -- ---- Data, over the whole of what is lent
 

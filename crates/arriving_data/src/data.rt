@@ -4,7 +4,10 @@ use channel::Channel;
 use channel::Node;
 use channel::Stepped;
 use packet::Fields;
-use packet::fields::DATA;
+use packet::Kind;
+use packet::fields::LEAST;
+use packet::kinds::is_data;
+use packet::kinds::kind_of;
 use table::Decision;
 use table::surveying::area;
 ghost use mathlib.Core.Path.{_≡_};
@@ -14,13 +17,20 @@ ghost use Rattle.walks.specs.Serving.{works};
 ghost use Rattle.channel.specs.Record.{receives};
 ghost use Rattle.receiver.specs.Receiving.{ackLength};
 ghost use Rattle.table.specs.Surveying.{Served, stepping};
-ghost use Rattle.arriving_data.specs.Data.{unfit, dataFor};
+ghost use Rattle.arriving_data.specs.Data.{replyLength, unfit, dataFor};
+
+// The octets of the reply to a packet of a kind: an Ack, which has no payload.
+pub fn reply_length(c: Channel, kind: Kind) -> usize
+    ensures { λ r. ⌜ r ≡ replyLength c kind ⌝ }
+{
+    LEAST
+}
 
 // What a channel cannot take, though the packet is sound: a payload over P.
 pub fn is_unfit(c: Channel, f: Fields, length: usize) -> bool
     ensures { λ r. ⌜ r ≡ unfit c f length ⌝ }
 {
-    if f.kind != DATA {
+    if !is_data(kind_of(f.kind)) {
         return false;
     }
     c.limits.payload < length

@@ -2,6 +2,7 @@
 use channel::Node;
 use channel::Refusal;
 use packet::Fields;
+use packet::fields::LEAST;
 use packet_read::Read;
 use packet_read::read_packet;
 use table::Look;
@@ -47,8 +48,8 @@ fn look_for(node: Node, fields: Fields, length: usize) -> Look
 pub fn look_of(node: Node, packet: &[u8], room: usize) -> Look
     ensures { λ r. ⌜ r ≡ lookOf node (now (packet .entry)) room ⌝ }
 {
-    if room < 12 {
-        return Look::Nobody(Refusal::Small(12));
+    if room < LEAST {
+        return Look::Nobody(Refusal::Small(LEAST));
     }
     look_by(node, read_packet(packet))
 }

@@ -4,6 +4,7 @@ use mathlib.Core.Bool.{Bool}
 use mathlib.Core.List.{List, [], _++_}
 use lib.ListN.{drop}
 use Rattle.packet.specs.Layout.{packetOf}
+use Rattle.packet.specs.Tests.{flagsWhole}
 use Rattle.walks.specs.Serving.{Worked, works}
 use Rattle.channel.specs.declared.record.Node.{Node}
 use Rattle.channel.specs.declared.record.Addresses.{Addresses}
@@ -16,8 +17,8 @@ use Rattle.receiver.specs.Receiving.{ackLength, ackKind}
 
 -- the reply: with 0 and 15 an Ack at its front, with 9 and every refusal as it was
 abbrev pub repliedBy : Answer → Node → Addresses → Bool → ℕ → List ℕ → List ℕ
-repliedBy (Done n u) node a ofData number out = packetOf (outgoingOf node a (ackKind ofData) 3 number) [] ++ drop ackLength out
-repliedBy (Repeated n) node a ofData number out = packetOf (outgoingOf node a (ackKind ofData) 3 number) [] ++ drop ackLength out
+repliedBy (Done n u) node a ofData number out = packetOf (outgoingOf node a (ackKind ofData) flagsWhole number) [] ++ drop ackLength out
+repliedBy (Repeated n) node a ofData number out = packetOf (outgoingOf node a (ackKind ofData) flagsWhole number) [] ++ drop ackLength out
 repliedBy (Inactive why) node a ofData number out = out
 repliedBy (Refused why) node a ofData number out = out
 

@@ -1,6 +1,11 @@
 -- What every step of a channel is made of.
 use Prim.Native.Nat.{ℕ}
 use Rattle.packet.specs.declared.fields.Fields.{Fields}
+use Rattle.packet.specs.declared.kinds.Kind.{Kind}
+use Rattle.packet.specs.declared.kinds.Kind.the-variants.{ControlAck}
+use Rattle.packet.specs.Kinds.{codeOf}
+use Rattle.packet.specs.Layout.{wholeLength}
+use Rattle.packet.specs.Tests.{flagsWhole}
 use Rattle.channel.specs.declared.record.Node.{Node}
 use Rattle.channel.specs.declared.record.Addresses.{Addresses}
 use Rattle.channel.specs.declared.record.Channel.{Channel}
@@ -35,7 +40,7 @@ abbrev pub enabledOf : Channel → Lone → Channel
 enabledOf c control = freshOf (c .addresses) (c .limits) enabled control
 
 -- a packet's fields, from this node to the channel's other end
-abbrev pub outgoingOf : Node → Addresses → ℕ → ℕ → ℕ → Fields
+abbrev pub outgoingOf : Node → Addresses → Kind → ℕ → ℕ → Fields
 outgoingOf node a kind flags number =
     record {
       destination = a .remote;
@@ -43,10 +48,14 @@ outgoingOf node a kind flags number =
       version = 1;
       secondary = 0;
       flags = flags;
-      kind = kind;
+      kind = codeOf kind;
       channel = a .channel;
       number = number;
       reserved = 0;
       prefix = 0;
       source = node .address;
     }
+
+-- how many octets a packet has that goes to the channel's other end with a payload of x octets: the same from any node, of any kind
+abbrev pub outgoingLength : Addresses → ℕ → ℕ
+outgoingLength a x = wholeLength (outgoingOf (record { address = 0; protocol = 0 }) a ControlAck flagsWhole 0) x

@@ -8,6 +8,8 @@ use crate::record::Lone;
 use crate::record::Node;
 use crate::record::fresh;
 use packet::Fields;
+use packet::Kind;
+use packet::kinds::code_of;
 ghost use mathlib.Core.Path.{_≡_};
 ghost use Rattle.channel.specs.Steps.{answered, refusing, doing, enabledOf, outgoingOf};
 
@@ -56,7 +58,7 @@ pub fn enabled(c: Channel, control: Lone) -> Channel
 }
 
 // From this node to the channel's other end.
-pub fn outgoing(node: Node, a: Addresses, kind: u8, flags: u8, number: u8) -> Fields
+pub fn outgoing(node: Node, a: Addresses, kind: Kind, flags: u8, number: u8) -> Fields
     ensures { λ r. ⌜ r ≡ outgoingOf node a kind flags number ⌝ }
 {
     Fields {
@@ -65,7 +67,7 @@ pub fn outgoing(node: Node, a: Addresses, kind: u8, flags: u8, number: u8) -> Fi
         version: 1,
         secondary: 0,
         flags,
-        kind,
+        kind: code_of(kind),
         channel: a.channel,
         number,
         reserved: 0,

@@ -1,7 +1,7 @@
 -- The packet that a record hands out: its fields and its payload, read from the octets written.
 -- Assumes nothing.
 use mathlib.Core.Path.{_≡_, refl, sym, ap, _∙_, subst}
-use mathlib.Core.Bool.{Bool, true, false}
+use mathlib.Core.Bool.{Bool, true, false, false≢true}
 use mathlib.Core.List.{List, []}
 use Prim.Native.Nat.{ℕ, _+_, _-_, _%_, _≤_, _<_}
 use native.Mathlib.Omega.{arith}
@@ -12,9 +12,11 @@ use Rattle.laws.specs.Choice.{if_then_else_}
 use Rattle.laws.proofs.Choice.{chosen, passed-by}
 use Rattle.slots.specs.Slots.{segmentIn}
 use Rattle.channel.specs.Places.{slotOf}
+use Rattle.packet.specs.declared.kinds.Kind.the-variants.{Data, Open, Close}
+use Rattle.packet.specs.Kinds.{codeOf, kindOf, isData}
 use Rattle.packet.specs.declared.fields.Fields.{Fields}
 use Rattle.packet.specs.declared.writing.Written.the-variants as written
-use Rattle.packet.specs.Layout.{fieldsAt}
+use Rattle.packet.specs.Layout.{payloadAt, wholeLength, fieldsAt}
 use Rattle.packet.specs.Writing.{afterWrite}
 use Rattle.packet.proofs.WriteLaws.{write-done}
 use Rattle.packet_read.proofs.ReadLaws.{accepted}
@@ -25,7 +27,7 @@ use Rattle.channel.specs.declared.record.Channel.{Channel}
 use Rattle.channel.specs.declared.answer.Refusal.the-variants as refusal
 use Rattle.channel.specs.declared.step.Stepped.{Stepped}
 use Rattle.channel.specs.Record.{enabled}
-use Rattle.channel.specs.Steps.{refusing, doing}
+use Rattle.channel.specs.Steps.{refusing, doing, outgoingLength}
 use Rattle.channel.specs.Asked.{Asked}
 use Rattle.channel.proofs.StandingLaws.{counted-is}
 use Rattle.sender.specs.Directives.{placeAt}
@@ -66,12 +68,13 @@ module _ (node : Node) (c : Channel) (rank : ℕ) where
   next-data e = passed-by (eqb rank 0) (controlFields node c) (dataFields node c (segmentFor c rank)) (ne-eqb rank 0 e)
 
 -- a Control packet is no Data
-pub control-kind : (node : Node) (c : Channel) → controlFields node c .kind ≡ 0 → ⊥
+pub control-kind : (node : Node) (c : Channel) → kindOf (controlFields node c .kind) ≡ Data → ⊥
+unfolding kindOf
 control-kind node c = go (eqb (c .phase .state) enabled)
   where
-    go : (b : Bool) → _≡_ {A = ℕ} (if b then 2 else 3) 0 → ⊥
-    go true e = omega arith
-    go false e = omega arith
+    go : (b : Bool) → kindOf (codeOf (if b then Open else Close)) ≡ Data → ⊥
+    go true e = false≢true (ap isData e)
+    go false e = false≢true (ap isData e)
 
 module _ (c : Channel) (mem lens : List ℕ) (rank : ℕ) where
   pub payload-control : rank ≡ 0 → nextPayload c lens mem rank ≡ []
@@ -105,18 +108,18 @@ module _ (node : Node) (c : Channel) (mem lens : List ℕ) (a : Asked c mem lens
           rank-2-is c (sym (ready .is) ∙ two) .0
 
   -- what is written is plain, and of the length that was reckoned
-  pub next-plain : Plain (nextFields node c rank) (length (nextPayload c lens mem rank)) × (nextLength c lens rank ≡ 12 + length (nextPayload c lens mem rank))
+  pub next-plain : Plain (nextFields node c rank) (length (nextPayload c lens mem rank)) × (nextLength c lens rank ≡ outgoingLength (c .addresses) (length (nextPayload c lens mem rank)))
   next-plain = go (eqb rank 0) refl
     where
       go : (b : Bool) → eqb rank 0 ≡ b
           → Plain (nextFields node c rank) (length (nextPayload c lens mem rank))
-          × (12 + (if b then 0 else getD lens (slotOf c (placeAt c (segmentFor c rank))) 0) ≡ 12 + length (nextPayload c lens mem rank))
+          × (outgoingLength (c .addresses) (if b then 0 else getD lens (slotOf c (placeAt c (segmentFor c rank))) 0) ≡ outgoingLength (c .addresses) (length (nextPayload c lens mem rank)))
       go true e =
           let zero = eqb-true rank 0 e in
           let p : length (nextPayload c lens mem rank) ≡ 0 = ap length (payload-control c mem lens rank zero) in (
             subst (λ (f : Fields). Plain f (length (nextPayload c lens mem rank))) (sym (next-control node c rank zero))
                 (subst (λ (n : ℕ). Plain (controlFields node c) n) (sym p) (control-plain node (c .addresses) (c .phase .state))),
-            ap (λ (n : ℕ). 12 + n) (sym p),
+            ap (outgoingLength (c .addresses)) (sym p),
           )
       go false e =
           let some = eqb-false rank 0 e in
@@ -128,7 +131,7 @@ module _ (node : Node) (c : Channel) (mem lens : List ℕ) (a : Asked c mem lens
             subst (λ (f : Fields). Plain f (length (nextPayload c lens mem rank))) (sym (next-data node c rank some))
                 (data-plain node (c .addresses) (getD (c .marks) (placeAt c i) 0 - 1) ((c .window .start + i) % 256) (length (nextPayload c lens mem rank))
                 (omega (arith, there .mark)) (omega (arith, p, there .short, there .most))),
-            ap (λ (n : ℕ). 12 + n) (sym p),
+            ap (outgoingLength (c .addresses)) (sym p),
           )
 
   carries : (out : List ℕ) → nextLength c lens rank ≤ length out
@@ -138,11 +141,11 @@ module _ (node : Node) (c : Channel) (mem lens : List ℕ) (a : Asked c mem lens
       let p = nextPayload c lens mem rank in
       let plain = next-plain in
       let done = write-done f (length p) (length out) (plain .0 .base) (plain .0 .plain) (omega (arith, room, plain .1)) in
-      let back = written-then-read f p out (12 + length p) done in
-      let packet = take (12 + length p) (afterWrite (written.Done (12 + length p)) f p out) in
-      let got = accepted packet f 10 (length p) (back .answer) in
+      let back = written-then-read f p out (wholeLength f (length p)) done in
+      let packet = take (wholeLength f (length p)) (afterWrite (written.Done (wholeLength f (length p))) f p out) in
+      let got = accepted packet f (payloadAt f) (length p) (back .answer) in
       subst (λ (n : ℕ). Carries node c mem lens rank (take n (afterWrite (written.Done n) f p out))) (sym (plain .1))
-      (record { fields = got .fields; payload = ap (λ (n : ℕ). take n (drop 10 packet)) (got .payload) ∙ back .payload })
+      (record { fields = got .fields; payload = ap (λ (n : ℕ). take n (drop (payloadAt f) packet)) (got .payload) ∙ back .payload })
 
   -- a buffer that is too small, and one in which the packet is written
   pub hand-cases : (P : Worked Stepped → Type 0) (out : List ℕ)

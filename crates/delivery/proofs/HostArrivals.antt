@@ -11,6 +11,10 @@ use lib.Dec.{ltb, eqb}
 use lib.ListN.{length}
 use Rattle.laws.specs.Choice.{if_then_else_}
 use Rattle.laws.proofs.Choice.{either-way, chosen, passed-by}
+use Rattle.packet.specs.declared.kinds.Kind as packets
+use Rattle.packet.specs.declared.kinds.Kind.the-variants as packet-kind
+use Rattle.packet.specs.Kinds.{kindOf, isData}
+use Rattle.receiver.specs.Receiving.{ackLength}
 use Rattle.packet.specs.declared.fields.Fields.{Fields}
 use Rattle.packet.specs.Layout.{fieldsAt, lengthAt}
 use Rattle.channel.specs.declared.record.Addresses.{Addresses}
@@ -23,12 +27,12 @@ use Rattle.channel.specs.Record.{sends, receives}
 use Rattle.sender_acks.specs.Acks.{controlAckStep, dataAckStep}
 use Rattle.table.specs.declared.looking.Look.{Look}
 use Rattle.table.specs.Looking.{looksFor, same, graded, chosen as choice}
-use Rattle.table.proofs.OneLaws.{same-direction}
+use Rattle.table.proofs.OneLaws.{kind-finds}
 use Rattle.table.specs.Serving.{recordAt}
 use Rattle.steps_arriving.specs.Arriving.{arriveBy, payloadIn, arrivalFor, Framed}
 use Rattle.arriving_look.specs.Finding.{lookOf}
 use Rattle.arriving_data.specs.Data.{unfit}
-use Rattle.steps_arriving.proofs.ArriveLaws.{framed, by-data-ack, by-control-ack}
+use Rattle.steps_arriving.proofs.ArriveLaws.{framed, by-kind}
 use Rattle.arriving_look.proofs.FindLaws.{found-packet}
 use Rattle.node_calls.specs.Calls.{arrived}
 use Rattle.node_keeps.specs.Keeping.{Given}
@@ -45,7 +49,7 @@ use Rattle.sender_means.proofs.Sends.{Sends, open-state, state-opened}
 use Rattle.sender_means.proofs.Controls.{control-ack-sends}
 use Rattle.sender_means.proofs.Acks.{ack-sends, ack-near}
 use Rattle.delivery.specs.Calls.{End, arrives, Request, channelOf}
-use Rattle.delivery.specs.History.{Event, names, kindOf, Replied, confirmed}
+use Rattle.delivery.specs.History.{Event, names, IsData, IsDataAck, Replied, confirmed}
 use Rattle.delivery.specs.Delivery.{NotLate}
 use Rattle.delivery.proofs.Nodes.{endWith}
 use Rattle.delivery.proofs.Known.{limits}
@@ -56,17 +60,10 @@ use Rattle.delivery.proofs.HostNow.{HostAt, asking, own, octets, length
 
 -- ---- what a packet that is found a channel has shown
 
--- a sender is looked for by Acks alone
-ack-kinds : (kind : ℕ) → looksFor kind ≡ sends → eqb kind 1 ≡ false → kind ≡ 7
-ack-kinds kind e one =
-    either-way (eqb kind 7)
-    (λ q. eqb-true kind 7 q)
-    (λ q. absurd (omega (arith, sym e ∙ passed-by (eqb kind 1 || eqb kind 7) sends receives (ap₂ (λ (a b : Bool). a || b) one q))))
-
 -- no Ack is Data
-fit-ack : (c : Channel) (f : Fields) (x : ℕ) → (f .kind ≡ 0 → ⊥) → unfit c f x ≡ false
+fit-ack : (c : Channel) (f : Fields) (x : ℕ) (kind : packets.Kind) → kindOf (f .kind) ≡ kind → isData kind ≡ false → unfit c f x ≡ false
 unfolding unfit
-fit-ack c f x e = ap (λ (b : Bool). b && ltb (c .limits .payload) x) (ne-eqb (f .kind) 0 e)
+fit-ack c f x kind is not-data = ap (λ (b : Bool). b && ltb (c .limits .payload) x) (ap isData is ∙ not-data)
 
 -- a Control Ack confirms nothing
 control-confirms : (c : Channel) (number : ℕ) → confirmedOf (controlAckStep c number .answer) ≡ 0
@@ -99,7 +96,7 @@ module _ {h s : End} {past : List Event} {x : Sender} {y : Receiver} {t : List C
 
   -- what the link must have shown
   abbrev pub FairReply : Type 0
-  FairReply = names h u ≡ true → Replied past copy u × (kindOf u ≡ 1 → NotLate (endWith h t mem lens n) copy)
+  FairReply = names h u ≡ true → Replied past copy u × (IsDataAck u → NotLate (endWith h t mem lens n) copy)
 
   confirms : (m : ℕ) (v : Bool) → (v ≡ true → m ≡ 0) → (if v then confirmed h past + m else confirmed h past) ≡ confirmed h past
   confirms m true e = omega (arith, e refl)
@@ -131,7 +128,7 @@ module _ {h s : End} {past : List Event} {x : Sender} {y : Receiver} {t : List C
   abbrev number : ℕ
   number = fieldsAt u .number
 
-  ack-own : names h u ≡ true → kindOf u ≡ 1 → Replied past copy u → NotLate (endWith h t mem lens n) copy
+  ack-own : names h u ≡ true → IsDataAck u → Replied past copy u → NotLate (endWith h t mem lens n) copy
       → Next k request copy (dataAckStep (own k) number .answer) b (dataAckStep (own k) number .channel) (octets k) (lengths k)
   ack-own named kind replied late =
       let a = dataAckStep (own k) number .answer in
@@ -183,7 +180,7 @@ module _ {h s : End} {past : List Event} {x : Sender} {y : Receiver} {t : List C
   arrive-own : FairReply → (r : ℕ) → Given looked (h .index) r (own k) (octets k) (lengths k)
       → Left (Next k request copy) (arrivalFor (h .node) u (own k) r (octets k) (lengths k) b)
   unfolding arrivalFor
-  arrive-own fair r g = by-kind (eqb (kindOf u) 1) refl
+  arrive-own fair r g = as-kind (kindOf (fieldsAt u .kind)) refl
     where
       f : Fields
       f = fieldsAt u
@@ -199,24 +196,28 @@ module _ {h s : End} {past : List Event} {x : Sender} {y : Receiver} {t : List C
           let q = found-packet (h .node) u (length b) (h .index) (own k) suits in
           names-so h u (q .1) (q .2) (subst (λ (a : Addresses). same a f ≡ true) (own-addresses k) ours)
 
-      looks : looksFor (kindOf u) ≡ sends
-      looks = sym (same-direction (own k .addresses) f ours) ∙ own-sends k
+      looks : (kind : packets.Kind) → kindOf (f .kind) ≡ kind → looksFor kind ≡ sends
+      looks kind is = sym (kind-finds (own k .addresses) f kind ours is) ∙ own-sends k
 
-      by-kind : (q : Bool) → eqb (kindOf u) 1 ≡ q
+      room : ackLength ≤ length b
+      room = told (h .index) (own k) r (octets k) (lengths k) g .room
+
+      -- a sender is looked for by Acks alone
+      as-kind : (kind : packets.Kind) → kindOf (f .kind) ≡ kind
           → Left (Next k request copy) (arriveBy (h .node) f (lengthAt u) (payloadIn u) (own k) r (octets k) (lengths k) b)
-      by-kind true q =
-          let kind = eqb-true (kindOf u) 1 q in
-          let not-data : kindOf u ≡ 0 → ⊥ = λ z. omega (arith, z, kind) in
+      as-kind packet-kind.DataAck is =
           let w = fair named in
           subst (Left (Next k request copy))
-          (sym (by-data-ack (h .node) f (lengthAt u) (payloadIn u) (own k) r (octets k) (lengths k) b (fit-ack (own k) f (lengthAt u) not-data) not-data kind))
-          (ack-own named kind (w .0) (w .1 kind))
-      by-kind false q =
-          let kind = ack-kinds (kindOf u) looks q in
-          let not-data : kindOf u ≡ 0 → ⊥ = λ z. omega (arith, z, kind) in
+          (sym (by-kind (h .node) f (lengthAt u) (payloadIn u) (own k) r (octets k) (lengths k) b room (fit-ack (own k) f (lengthAt u) packet-kind.DataAck is refl) packet-kind.DataAck is))
+          (ack-own named is (w .0) (w .1 is))
+      as-kind packet-kind.ControlAck is =
           subst (Left (Next k request copy))
-          (sym (by-control-ack (h .node) f (lengthAt u) (payloadIn u) (own k) r (octets k) (lengths k) b (fit-ack (own k) f (lengthAt u) not-data) not-data (eqb-false (kindOf u) 1 q) kind))
+          (sym (by-kind (h .node) f (lengthAt u) (payloadIn u) (own k) r (octets k) (lengths k) b room (fit-ack (own k) f (lengthAt u) packet-kind.ControlAck is refl) packet-kind.ControlAck is))
           control-ack-own
+      as-kind packet-kind.Data is = absurd (omega (arith, looks packet-kind.Data is))
+      as-kind packet-kind.Open is = absurd (omega (arith, looks packet-kind.Open is))
+      as-kind packet-kind.Close is = absurd (omega (arith, looks packet-kind.Close is))
+      as-kind (packet-kind.Lacking code) is = absurd (omega (arith, looks (packet-kind.Lacking code) is))
 
   pub host-arrives : FairReply → Seen (Next k request copy) (h .index) (arrived t mem lens (h .node) u b)
   host-arrives fair =

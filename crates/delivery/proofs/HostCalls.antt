@@ -15,7 +15,7 @@ use Rattle.protocol.specs.Sending.{Sender}
 use Rattle.protocol.specs.Receiving.{Receiver}
 use Rattle.sender_means.proofs.Controls.{tick-sends}
 use Rattle.delivery.specs.Calls.{End, Kind, opens, closes, transfers, takes, reclaims, hands, arrives, ticks, Request, called}
-use Rattle.delivery.specs.History.{host, Event, is, granted, names, kindOf, Replied, openings}
+use Rattle.delivery.specs.History.{host, Event, is, granted, names, IsDataAck, Replied, openings}
 use Rattle.delivery.specs.Delivery.{Fresh, Alike, NotLate}
 use Rattle.delivery.proofs.Nodes.{endWith}
 use Rattle.delivery.proofs.Known.{InvOf, Numbered, Host}
@@ -54,7 +54,7 @@ module _ (h s : End) (fresh-h : Fresh h) (fresh-s : Fresh s) (alike : Alike h s)
   HostCall r copy =
       let g = called (endWith h t mem lens n) r in
       (is host arrives (hostCall r copy) ≡ true → names h (r .octets) ≡ true
-      → Replied past copy (r .octets) × (kindOf (r .octets) ≡ 1 → NotLate (endWith h t mem lens n) copy))
+      → Replied past copy (r .octets) × (IsDataAck (r .octets) → NotLate (endWith h t mem lens n) copy))
       → (granted host opens (h .index) (hostEvent r copy n (g .answer) (g .out)) ≡ true → openings host (h .index) past ≡ 0)
       → HostNext h s past y (hostEvent r copy n (g .answer) (g .out)) n (recordAt t (h .index)) (recordAt (g .table) (h .index))
       (ownMem (g .table) (h .index) (g .mem)) (ownLens (g .table) (h .index) (g .lens))

@@ -21,7 +21,7 @@ use Rattle.protocol.proofs.Invariant.{Inv}
 use Rattle.units_held.specs.Meaning.{carried}
 use Rattle.sender_means.proofs.Sends.{Sends}
 use Rattle.delivery.specs.Calls.{End, hands, Request, countedOn}
-use Rattle.delivery.specs.History.{host, Call, Event, is, written, names, kindOf, segmentOf, openings, accepted, confirmed, reclaimed, taken}
+use Rattle.delivery.specs.History.{host, Call, Event, is, written, names, IsData, segmentOf, openings, accepted, confirmed, reclaimed, taken}
 use Rattle.delivery.proofs.Known.{Out, Back, back-later, limits, InvOf, Numbered, inv-links}
 use Rattle.delivery.proofs.Counting.{counted-same}
 use Rattle.delivery.proofs.Protocol.{FairAck, sender-keeps}
@@ -79,7 +79,7 @@ module _ (h s : End) (past : List Event) (y : Receiver) where
         → written event ≡ packet
         → segmentOf n packet ≡ j
         → names s packet ≡ true
-        → kindOf packet ≡ 0
+        → IsData packet
         → (fieldsAt packet .number ≡ numberAt j)
         × ((g : Segment) → carried (fieldsAt packet .flags) (payloadIn packet) ≡ g → protocol.sentBy k (senderStep (limits h s) x k .1) j g (Out h s past j g))
 
@@ -136,7 +136,7 @@ module _ (h s : End) (past : List Event) (y : Receiver) where
         → accepted h (event ∷ past) ≡ accepted h past
         → confirmed h (event ∷ past) ≡ confirmed h past
         → reclaimed h (event ∷ past) ≡ reclaimed h past
-        → ((packet : List ℕ) → is host hands (hostCall r copy) ≡ true → written event ≡ packet → names s packet ≡ true → kindOf packet ≡ 0 → ⊥)
+        → ((packet : List ℕ) → is host hands (hostCall r copy) ≡ true → written event ≡ packet → names s packet ≡ true → IsData packet → ⊥)
         → Sends c mem lens x
         → n ≡ x .start
         → (openings host (h .index) (event ∷ past) ≡ 0 → x .phase ≡ fresh)

@@ -11,6 +11,7 @@ use borrow.Author.Tests.{eqb-true, eqb-false}
 use lib.Dec.{eqb}
 use lib.ListN.{length, getD, take}
 use Rattle.laws.proofs.Choice.{both}
+use Rattle.packet.specs.Kinds.{kindOf}
 use Rattle.packet.specs.declared.fields.Fields.{Fields}
 use Rattle.packet.specs.Layout.{fieldsAt}
 use Rattle.walks.specs.Serving.{Worked}
@@ -46,7 +47,7 @@ use Rattle.units_held.specs.Meaning.{carried}
 use Rattle.sender_means.proofs.Sends.{Sends, state-opened}
 use Rattle.sender_means.proofs.Handing.{DataOut, control-out-sends, data-out-sends}
 use Rattle.delivery.specs.Calls.{End, hands, Request, channelOf}
-use Rattle.delivery.specs.History.{Event, names, kindOf, segmentOf}
+use Rattle.delivery.specs.History.{Event, names, IsData, segmentOf}
 use Rattle.delivery.proofs.Nodes.{own-asked}
 use Rattle.delivery.proofs.Known.{Out, limits}
 use Rattle.delivery.proofs.Counting.{distance-on}
@@ -65,7 +66,7 @@ ours-to node f e = eqb-true (f .destination) (node .address) (both (eqb (f .dest
 same-channel : (a : Addresses) (f : Fields) → same a f ≡ true → a .channel ≡ f .channel
 unfolding same
 same-channel a f e =
-    let p = both (eqb (a .channel) (f .channel) && eqb (a .remote) (f .source)) (eqb (a .direction) (looksFor (f .kind))) e in
+    let p = both (eqb (a .channel) (f .channel) && eqb (a .remote) (f .source)) (eqb (a .direction) (looksFor (kindOf (f .kind)))) e in
     eqb-true (a .channel) (f .channel) (both (eqb (a .channel) (f .channel)) (eqb (a .remote) (f .source)) (p .0) .0)
 
 -- the number of a segment, d past the start
@@ -81,7 +82,7 @@ module _ {h s : End} {past : List Event} {x : Sender} {y : Receiver} {t : List C
   -- ---- nothing goes to the subscriber's channel
 
   hand-quiet : (a : Answer) (o : List ℕ)
-      → ((packet : List ℕ) → take (lengthOf a) o ≡ packet → names s packet ≡ true → kindOf packet ≡ 0 → ⊥)
+      → ((packet : List ℕ) → take (lengthOf a) o ≡ packet → names s packet ≡ true → IsData packet → ⊥)
       → Next k request copy a o (own k) (octets k) (lengths k)
   hand-quiet a o none = stays-so k request copy a o refl refl refl (λ packet _. none packet)
 
@@ -126,7 +127,7 @@ module _ {h s : End} {past : List Event} {x : Sender} {y : Receiver} {t : List C
       host-next h s past y x (k .inv) (k .numbered) (small k) request copy n (Done z 0) o SenderCall.noise tt refl refl refl
       (λ j packet _ wrote _ _ kind.
       let fields = subst (Carries (h .node) (own k) (octets k) (lengths k) 0) wrote carries .fields ∙ next-control (h .node) (own k) 0 refl in
-      absurd (control-kind (h .node) (own k) (sym (ap (λ (f : Fields). f .kind) fields) ∙ kind)))
+      absurd (control-kind (h .node) (own k) (sym (ap (λ (f : Fields). kindOf (f .kind)) fields) ∙ kind)))
       (own k) c (octets k) (lengths k) means
       (counts-same k c (octets k) (lengths k) x means refl (was-open k refl))
       (waits-on k (hostEvent request copy n (Done z 0) o))

@@ -24,7 +24,7 @@ use Rattle.sender_means.proofs.Sends.{Sends, state-opened}
 use Rattle.sender_means.proofs.Holding.{phase-cases}
 use Rattle.sender_means.proofs.Controls.{Moves}
 use Rattle.delivery.specs.Calls.{End, Kind, opens, hands, Request, channelOf, countedOn}
-use Rattle.delivery.specs.History.{host, Event, is, granted, written, names, kindOf, openings, accepted, confirmed, reclaimed}
+use Rattle.delivery.specs.History.{host, Event, is, granted, written, names, IsData, openings, accepted, confirmed, reclaimed}
 use Rattle.delivery.specs.Delivery.{Fresh, Alike}
 use Rattle.delivery.proofs.Nodes.{same-addresses, same-limits, same-length, own-asked, small-window}
 use Rattle.delivery.proofs.Known.{limits, InvOf, Numbered, Host}
@@ -100,7 +100,7 @@ module _ {h s : End} {past : List Event} {x : Sender} {y : Receiver} {t : List C
       → accepted h (hostEvent r copy n a o ∷ past) ≡ accepted h past
       → confirmed h (hostEvent r copy n a o ∷ past) ≡ confirmed h past
       → reclaimed h (hostEvent r copy n a o ∷ past) ≡ reclaimed h past
-      → ((packet : List ℕ) → is host hands (hostCall r copy) ≡ true → written (hostEvent r copy n a o) ≡ packet → names s packet ≡ true → kindOf packet ≡ 0 → ⊥)
+      → ((packet : List ℕ) → is host hands (hostCall r copy) ≡ true → written (hostEvent r copy n a o) ≡ packet → names s packet ≡ true → IsData packet → ⊥)
       → Next r copy a o own octets lengths
   stays-so r copy a o acc cnt back none =
       host-quiet h s past y x (k .inv) (k .numbered) small r copy n a o own octets lengths acc cnt back none (k .now .means) (k .now .counted)

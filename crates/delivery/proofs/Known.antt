@@ -20,7 +20,7 @@ use Rattle.units_held.specs.Meaning.{limitsOf, carried}
 use Rattle.sender_means.proofs.Sends.{Sends}
 use Rattle.receiver_means.proofs.Receives.{Receives}
 use Rattle.delivery.specs.Calls.{End, channelOf}
-use Rattle.delivery.specs.History.{host, subscriber, Event, names, kindOf, HandedOut, Replied, openings, accepted, confirmed, reclaimed, taken}
+use Rattle.delivery.specs.History.{host, subscriber, Event, names, IsData, IsDataAck, HandedOut, Replied, openings, accepted, confirmed, reclaimed, taken}
 use Rattle.delivery.proofs.Nodes.{Kept}
 
 -- ---- what the link has, as the protocol sees it
@@ -31,7 +31,7 @@ module _ (h s : End) where
     pub packet : List ℕ
     pub handed : HandedOut past i packet
     pub named : names s packet ≡ true
-    pub is-data : kindOf packet ≡ 0
+    pub is-data : IsData packet
     pub segment : carried (fieldsAt packet .flags) (payloadIn packet) ≡ g
 
   -- a Data Ack for the segment i
@@ -39,7 +39,7 @@ module _ (h s : End) where
     pub packet : List ℕ
     pub replied : Replied past i packet
     pub named : names h packet ≡ true
-    pub is-ack : kindOf packet ≡ 1
+    pub is-ack : IsDataAck packet
 
   -- what was replied stays so
   pub back-later : (past : List Event) (e : Event) (i : ℕ) → Back past i → Back (e ∷ past) i
@@ -53,8 +53,8 @@ module _ (h s : End) where
 
   -- the numbers on packets are those of their segments
   pub record Numbered (past : List Event) : Type 0 where
-    pub sent : (i : ℕ) (packet : List ℕ) → HandedOut past i packet → names s packet ≡ true → kindOf packet ≡ 0 → fieldsAt packet .number ≡ numberAt i
-    pub back : (i : ℕ) (packet : List ℕ) → Replied past i packet → names h packet ≡ true → kindOf packet ≡ 1 → fieldsAt packet .number ≡ numberAt i
+    pub sent : (i : ℕ) (packet : List ℕ) → HandedOut past i packet → names s packet ≡ true → IsData packet → fieldsAt packet .number ≡ numberAt i
+    pub back : (i : ℕ) (packet : List ℕ) → Replied past i packet → names h packet ≡ true → IsDataAck packet → fieldsAt packet .number ≡ numberAt i
 
 -- ---- an end: what is lent to its node, how far the window is counted on, and the protocol's end that its record means
 

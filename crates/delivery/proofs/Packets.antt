@@ -8,6 +8,7 @@ use borrow.Author.Tests.{eqb-true, eq-eqb}
 use lib.Dec.{eqb}
 use Rattle.laws.specs.Choice.{if_then_else_}
 use Rattle.laws.proofs.Choice.{both}
+use Rattle.packet.specs.Kinds.{kindOf}
 use Rattle.packet.specs.declared.fields.Fields.{Fields}
 use Rattle.packet.specs.Layout.{fieldsAt, lengthAt, payloadAt}
 use Rattle.packet.specs.Tests.{short, damaged, lacking, strange}
@@ -71,13 +72,13 @@ names-nothing e = refl
 pub same-clash : (a b : Addresses) (f : Fields) → same a f ≡ true → same b f ≡ true → clash a b ≡ true
 unfolding same clash
 same-clash a b f p q =
-    let p1 = both (eqb (a .channel) (f .channel) && eqb (a .remote) (f .source)) (eqb (a .direction) (looksFor (f .kind))) p in
-    let q1 = both (eqb (b .channel) (f .channel) && eqb (b .remote) (f .source)) (eqb (b .direction) (looksFor (f .kind))) q in
+    let p1 = both (eqb (a .channel) (f .channel) && eqb (a .remote) (f .source)) (eqb (a .direction) (looksFor (kindOf (f .kind)))) p in
+    let q1 = both (eqb (b .channel) (f .channel) && eqb (b .remote) (f .source)) (eqb (b .direction) (looksFor (kindOf (f .kind)))) q in
     let p2 = both (eqb (a .channel) (f .channel)) (eqb (a .remote) (f .source)) (p1 .0) in
     let q2 = both (eqb (b .channel) (f .channel)) (eqb (b .remote) (f .source)) (q1 .0) in
     let x = eq-eqb (a .channel) (b .channel) (eqb-true (a .channel) (f .channel) (p2 .0) ∙ sym (eqb-true (b .channel) (f .channel) (q2 .0))) in
     let y = eq-eqb (a .remote) (b .remote) (eqb-true (a .remote) (f .source) (p2 .1) ∙ sym (eqb-true (b .remote) (f .source) (q2 .1))) in
-    let z = eq-eqb (a .direction) (b .direction) (eqb-true (a .direction) (looksFor (f .kind)) (p1 .1) ∙ sym (eqb-true (b .direction) (looksFor (f .kind)) (q1 .1))) in
+    let z = eq-eqb (a .direction) (b .direction) (eqb-true (a .direction) (looksFor (kindOf (f .kind))) (p1 .1) ∙ sym (eqb-true (b .direction) (looksFor (kindOf (f .kind))) (q1 .1))) in
     simp (x, y, z)
 
 pub equal-clash : (a b : Addresses) → a .channel ≡ b .channel → a .remote ≡ b .remote → a .direction ≡ b .direction → clash a b ≡ true

@@ -10,9 +10,12 @@ use lib.Dec.{eqb}
 use lib.ListN.{length, take, drop}
 use Rattle.laws.specs.Choice.{if_then_else_}
 use Rattle.laws.proofs.Choice.{both}
+use Rattle.packet.specs.declared.kinds.Kind.{Kind}
+use Rattle.packet.specs.declared.kinds.Kind.the-variants.{Data, DataAck, Open, Close, ControlAck, Lacking}
+use Rattle.packet.specs.Kinds.{kindOf}
 use Rattle.packet.specs.declared.fields.Fields.{Fields}
-use Rattle.packet.specs.Layout.{packetOf, fieldsAt, lengthAt}
-use Rattle.packet.specs.Tests.{lacking, strange}
+use Rattle.packet.specs.Layout.{packetOf, payloadAt, fieldsAt, lengthAt}
+use Rattle.packet.specs.Tests.{lacking, strange, flagsWhole}
 use Rattle.packet.specs.Writing.{afterWrite}
 use Rattle.packet.proofs.WriteLaws.{write-done}
 use Rattle.packet_read.specs.declared.reading.Read.the-variants.{Found}
@@ -32,23 +35,24 @@ use Rattle.channel.specs.Answers.{lengthOf}
 use Rattle.channel.specs.Steps.{refusing, doing, outgoingOf}
 use Rattle.channel.specs.Lone.{isOut}
 use Rattle.sender_acks.specs.Acks.{controlAcked, controlAckStep, awayOf, isAwaited, recorded, confirmedAt, advanced, dataAckStep}
-use Rattle.receiver.specs.Receiving.{ackKind, controlStep}
+use Rattle.receiver.specs.Receiving.{ackLength, ackKind, controlStep}
 use Rattle.receiver_data.specs.Data.{dataStep}
 use Rattle.receiver_keeps.proofs.Cases.{control-cases, data-cases, accept-cases}
 use Rattle.table.specs.Looking.{same, graded}
-use Rattle.steps_arriving.specs.Arriving.{arriveBy, payloadIn, arrivalFor, Framed}
+use Rattle.steps_arriving.specs.Arriving.{arriveAs, arriveBy, payloadIn, arrivalFor, Framed}
 use Rattle.arriving_look.specs.Finding.{isOurs, lookOf}
 use Rattle.arriving_data.specs.Data.{unfit}
-use Rattle.arriving_reply.specs.Replying.{repliedBy}
-use Rattle.steps_arriving.proofs.ArriveLaws.{framed, data-receives, by-unfit, by-data, by-data-ack, by-control-ack, by-control}
+use Rattle.arriving_reply.specs.Replying.{repliedBy, replying}
+use Rattle.steps_arriving.proofs.ArriveLaws.{framed, by-unfit, by-kind}
+use Rattle.table.proofs.OneLaws.{kind-finds}
 use Rattle.arriving_look.proofs.FindLaws.{found-packet}
 use Rattle.node_keeps.specs.Keeping.{Given}
 
 -- ---- a receiver's steps: with 0 and 15 they have an Ack's octets written
 
 abbrev pub Twelve : Answer → Type 0
-Twelve (Done n u) = n ≡ 12
-Twelve (Repeated n) = n ≡ 12
+Twelve (Done n u) = n ≡ ackLength
+Twelve (Repeated n) = n ≡ ackLength
 Twelve (Inactive why) = Unit {0}
 Twelve (Refused why) = Unit {0}
 
@@ -88,32 +92,32 @@ control-ack-silent c number = go (not (eqb (c .phase .state) enabled || eqb (c .
 
 -- ---- an Ack, read back
 
-pub record Acks (node : Node) (a : Addresses) (kind number : ℕ) (packet : List ℕ) : Type 0 where
-  pub read : readOf packet ≡ Found (outgoingOf node a kind 3 number) 10 0
-  pub fields : fieldsAt packet ≡ outgoingOf node a kind 3 number
+pub record Acks (node : Node) (a : Addresses) (kind : Kind) (number : ℕ) (packet : List ℕ) : Type 0 where
+  pub read : readOf packet ≡ Found (outgoingOf node a kind flagsWhole number) (payloadAt (outgoingOf node a kind flagsWhole number)) 0
+  pub fields : fieldsAt packet ≡ outgoingOf node a kind flagsWhole number
 
 module _ (node : Node) (a : Addresses) (number : ℕ) where
-  ack-plain : (ofData : Bool) → (lacking (outgoingOf node a (ackKind ofData) 3 number) ≡ false) × (strange (outgoingOf node a (ackKind ofData) 3 number) 0 ≡ false)
-  unfolding lacking strange
+  ack-plain : (ofData : Bool) → (lacking (outgoingOf node a (ackKind ofData) flagsWhole number) ≡ false) × (strange (outgoingOf node a (ackKind ofData) flagsWhole number) 0 ≡ false)
+  unfolding lacking strange kindOf
   ack-plain true = (refl, refl)
   ack-plain false = (refl, refl)
 
-  module _ (ofData : Bool) (out : List ℕ) (room : 12 ≤ length out) where
+  module _ (ofData : Bool) (out : List ℕ) (room : ackLength ≤ length out) where
     abbrev f : Fields
-    f = outgoingOf node a (ackKind ofData) 3 number
+    f = outgoingOf node a (ackKind ofData) flagsWhole number
 
-    pub ack-written : Acks node a (ackKind ofData) number (take 12 (packetOf f [] ++ drop 12 out))
+    pub ack-written : Acks node a (ackKind ofData) number (take ackLength (packetOf f [] ++ drop ackLength out))
     unfolding afterWrite
     ack-written =
         let plain = ack-plain ofData in
-        let r = written-then-read f [] out 12 (write-done f 0 (length out) (plain .0) (plain .1) room) in
-        record { read = r .answer; fields = accepted _ f 10 0 (r .answer) .fields }
+        let r = written-then-read f [] out ackLength (write-done f 0 (length out) (plain .0) (plain .1) room) in
+        record { read = r .answer; fields = accepted _ f (payloadAt f) 0 (r .answer) .fields }
 
     -- what is written by an answer: nothing, or the Ack
     pub reply-written : (r : Answer) → Twelve r
         → (take (lengthOf r) (repliedBy r node a ofData number out) ≡ []) ⊎ Acks node a (ackKind ofData) number (take (lengthOf r) (repliedBy r node a ofData number out))
-    reply-written (Done n u) e = inr (subst (λ (k : ℕ). Acks node a (ackKind ofData) number (take k (packetOf f [] ++ drop 12 out))) (sym e) ack-written)
-    reply-written (Repeated n) e = inr (subst (λ (k : ℕ). Acks node a (ackKind ofData) number (take k (packetOf f [] ++ drop 12 out))) (sym e) ack-written)
+    reply-written (Done n u) e = inr (subst (λ (k : ℕ). Acks node a (ackKind ofData) number (take k (packetOf f [] ++ drop ackLength out))) (sym e) ack-written)
+    reply-written (Repeated n) e = inr (subst (λ (k : ℕ). Acks node a (ackKind ofData) number (take k (packetOf f [] ++ drop ackLength out))) (sym e) ack-written)
     reply-written (Inactive why) e = inl refl
     reply-written (Refused why) e = inl refl
 
@@ -121,10 +125,10 @@ module _ (node : Node) (a : Addresses) (number : ℕ) where
 
 module _ (node other : Node) (a b : Addresses) (number : ℕ) where
   abbrev g : Fields
-  g = outgoingOf node a 1 3 number
+  g = outgoingOf node a DataAck flagsWhole number
 
   pub ack-named : isOurs other g ≡ true → same b g ≡ true → (a .remote ≡ other .address) × (b .channel ≡ a .channel)
-  unfolding isOurs same
+  unfolding isOurs same kindOf
   ack-named ours is =
       let p = both (eqb (g .destination) (other .address)) (eqb (g .protocol) (other .protocol)) ours in
       let q = both (eqb (b .channel) (g .channel) && eqb (b .remote) (g .source)) (eqb (b .direction) sends) is in
@@ -133,7 +137,7 @@ module _ (node other : Node) (a b : Addresses) (number : ℕ) where
 
   pub ack-names : a .remote ≡ other .address → node .protocol ≡ other .protocol → b .channel ≡ a .channel → b .remote ≡ node .address → b .direction ≡ sends
       → (isOurs other g && same b g) ≡ true
-  unfolding isOurs same
+  unfolding isOurs same kindOf
   ack-names e1 e2 e3 e4 e5 =
       simp (eq-eqb (a .remote) (other .address) e1, eq-eqb (node .protocol) (other .protocol) e2, eq-eqb (b .channel) (a .channel) e3, eq-eqb (b .remote) (node .address) e4, eq-eqb (b .direction) sends e5)
 
@@ -154,8 +158,8 @@ module _ (node : Node) (packet out : List ℕ) (at rank : ℕ) (c : Channel) (me
   abbrev Wrote : Worked Stepped → Type 0
   Wrote v =
       (take (lengthOf (v .made .answer)) (v .out) ≡ [])
-      ⊎ (Acks node (c .addresses) 7 n (take (lengthOf (v .made .answer)) (v .out)))
-      ⊎ ((c .addresses .direction ≡ receives) × Acks node (c .addresses) 1 n (take (lengthOf (v .made .answer)) (v .out)))
+      ⊎ (Acks node (c .addresses) ControlAck n (take (lengthOf (v .made .answer)) (v .out)))
+      ⊎ ((c .addresses .direction ≡ receives) × Acks node (c .addresses) DataAck n (take (lengthOf (v .made .answer)) (v .out)))
 
   pub arrival-wrote : Wrote (arrivalFor node packet c rank mem lens out)
   unfolding arrivalFor
@@ -176,24 +180,21 @@ module _ (node : Node) (packet out : List ℕ) (at rank : ℕ) (c : Channel) (me
       silent : (s : Stepped) → lengthOf (s .answer) ≡ 0 → Wrote (works s mem lens out)
       silent s e = inl (ap (λ (k : ℕ). take k out) e)
 
-      by-kind : unfit c f x ≡ false → (a : Bool) → eqb (f .kind) 0 ≡ a → (b : Bool) → eqb (f .kind) 1 ≡ b → (d : Bool) → eqb (f .kind) 7 ≡ d
-          → Wrote (arriveBy node f x p c rank mem lens out)
-      by-kind fit true k b k1 d k7 =
-          let kind = eqb-true (f .kind) 0 k in
-          subst Wrote (sym (by-data node f x p c rank mem lens out fit kind))
-          (⊎-elim (λ e. inl e) (λ e. inr (inr (data-receives (c .addresses) f (told .ours) kind, e)))
-          (reply-written node (c .addresses) n true out (told .room) (dataStep c n (f .flags) .answer) (data-twelve c n (f .flags))))
-      by-kind fit false k true k1 d k7 =
-          subst Wrote (sym (by-data-ack node f x p c rank mem lens out fit (eqb-false (f .kind) 0 k) (eqb-true (f .kind) 1 k1)))
-          (silent (dataAckStep c n) (data-ack-silent c n))
-      by-kind fit false k false k1 true k7 =
-          subst Wrote (sym (by-control-ack node f x p c rank mem lens out fit (eqb-false (f .kind) 0 k) (eqb-false (f .kind) 1 k1) (eqb-true (f .kind) 7 k7)))
-          (silent (controlAckStep c n) (control-ack-silent c n))
-      by-kind fit false k false k1 false k7 =
-          subst Wrote (sym (by-control node f x p c rank mem lens out fit (eqb-false (f .kind) 0 k) (eqb-false (f .kind) 1 k1) (eqb-false (f .kind) 7 k7)))
-          (⊎-elim (λ e. inl e) (λ e. inr (inl e))
-          (reply-written node (c .addresses) n false out (told .room) (controlStep c (eqb (f .kind) 2) n .answer) (control-twelve c (eqb (f .kind) 2) n)))
+      control : (opens : Bool) → Wrote (replying node c false n (controlStep c opens n) mem lens out)
+      control opens =
+          ⊎-elim (λ e. inl e) (λ e. inr (inl e))
+          (reply-written node (c .addresses) n false out (told .room) (controlStep c opens n .answer) (control-twelve c opens n))
+
+      as-kind : (k : Kind) → kindOf (f .kind) ≡ k → Wrote (arriveAs k node f p c rank mem lens out)
+      as-kind Data is =
+          ⊎-elim (λ e. inl e) (λ e. inr (inr (kind-finds (c .addresses) f Data (told .ours) is, e)))
+          (reply-written node (c .addresses) n true out (told .room) (dataStep c n (f .flags) .answer) (data-twelve c n (f .flags)))
+      as-kind DataAck is = silent (dataAckStep c n) (data-ack-silent c n)
+      as-kind Open is = control true
+      as-kind Close is = control false
+      as-kind ControlAck is = silent (controlAckStep c n) (control-ack-silent c n)
+      as-kind (Lacking code) is = inl refl
 
       by-fit : (b : Bool) → unfit c f x ≡ b → Wrote (arriveBy node f x p c rank mem lens out)
-      by-fit true e = subst Wrote (sym (by-unfit node f x p c rank mem lens out e)) (inl refl)
-      by-fit false e = by-kind e (eqb (f .kind) 0) refl (eqb (f .kind) 1) refl (eqb (f .kind) 7) refl
+      by-fit true e = subst Wrote (sym (by-unfit node f x p c rank mem lens out (told .room) e)) (inl refl)
+      by-fit false e = subst Wrote (sym (by-kind node f x p c rank mem lens out (told .room) e (kindOf (f .kind)) refl)) (as-kind (kindOf (f .kind)) refl)

@@ -11,6 +11,10 @@ use borrow.Author.Tests.{eqb-true, eqb-false}
 use lib.Dec.{eqb}
 use lib.ListN.{length, take, drop, length-take}
 use Rattle.laws.proofs.Choice.{neither}
+use Rattle.packet.specs.declared.kinds.Kind as packets
+use Rattle.packet.specs.declared.kinds.Kind.the-variants as packet-kind
+use Rattle.packet.specs.Kinds.{codeOf, kindOf}
+use Rattle.packet.proofs.KindLaws.{kind-back}
 use Rattle.packet.specs.declared.fields.Fields.{Fields}
 use Rattle.packet.specs.Layout.{fieldsAt, lengthAt, payloadAt}
 use Rattle.walks.specs.Serving.{Worked}
@@ -26,13 +30,13 @@ use Rattle.channel.specs.Settings.{clash}
 use Rattle.receiver.specs.Receiving.{controlStep}
 use Rattle.table.specs.declared.looking.Look.{Look}
 use Rattle.table.specs.Looking.{same, chosen as choice}
-use Rattle.table.proofs.OneLaws.{acks-find}
+use Rattle.table.proofs.OneLaws.{kind-finds}
 use Rattle.table.specs.Serving.{recordAt, ownMem, ownLens}
-use Rattle.steps_arriving.specs.Arriving.{arriveBy, payloadIn, arrivalFor, Framed}
+use Rattle.steps_arriving.specs.Arriving.{arriveAs, arriveBy, payloadIn, arrivalFor, Framed}
 use Rattle.arriving_look.specs.Finding.{isOurs, lookOf}
 use Rattle.arriving_data.specs.Data.{unfit}
-use Rattle.arriving_reply.specs.Replying.{repliedBy}
-use Rattle.steps_arriving.proofs.ArriveLaws.{by-unfit, by-data, by-control}
+use Rattle.arriving_reply.specs.Replying.{repliedBy, replying}
+use Rattle.steps_arriving.proofs.ArriveLaws.{by-unfit, by-kind}
 use Rattle.arriving_look.proofs.FindLaws.{found-packet}
 use Rattle.arriving_data.proofs.DataLaws.{fit-payload}
 use Rattle.node_keeps.specs.Keeping.{Given}
@@ -42,7 +46,7 @@ use Rattle.protocol.specs.Sending.{Sender}
 use Rattle.protocol.specs.Receiving.{Receiver}
 use Rattle.receiver_means.proofs.Control.{control-receives}
 use Rattle.delivery.specs.Calls.{End, arrives, Request, channelOf, calledBy}
-use Rattle.delivery.specs.History.{Event, names, kindOf, HandedOut}
+use Rattle.delivery.specs.History.{Event, names, IsData, HandedOut}
 use Rattle.delivery.specs.Delivery.{NotLate}
 use Rattle.delivery.proofs.Own.{Seen, Left, own-cases}
 use Rattle.delivery.proofs.Nodes.{endWith, same-length, same-addresses}
@@ -87,15 +91,17 @@ module _ {h s : End} {past : List Event} {x : Sender} {y : Receiver} {t : List C
   arrives-quiet : (a : Answer) (o : List ℕ) → Unreplied w request copy a o → Next w request copy a o c m l
   arrives-quiet a o u = quiet w request copy a o refl refl u
 
-  control-written : (a : Answer) (o : List ℕ) (d : Addresses) (number : ℕ) → Acks (s .node) d 7 number (take (lengthOf a) o) → Unreplied w request copy a o
+  control-written : (a : Answer) (o : List ℕ) (d : Addresses) (number : ℕ) → Acks (s .node) d packet-kind.ControlAck number (take (lengthOf a) o) → Unreplied w request copy a o
   control-written a o d number k q is wrote named kind =
-      let seven : kindOf q ≡ 7 = ap kindOf (sym wrote) ∙ ap (λ (g : Fields). g .kind) (k .fields) in
-      omega (arith, seven, kind)
+      let is-control : kindOf (fieldsAt q .kind) ≡ packet-kind.ControlAck
+      = ap (λ (o : List ℕ). kindOf (fieldsAt o .kind)) (sym wrote) ∙ ap (λ (g : Fields). kindOf (g .kind)) (k .fields) ∙ kind-back packet-kind.ControlAck refl
+      in
+      omega (arith, ap codeOf (sym is-control ∙ kind))
 
   -- of another channel: it would have the addresses of this one
   other-written : (j : ℕ) → j < length t → (j ≡ i → ⊥) → (a : Answer) (o : List ℕ) (number : ℕ)
       → recordAt t j .addresses .direction ≡ receives
-      → Acks (s .node) (recordAt t j .addresses) 1 number (take (lengthOf a) o)
+      → Acks (s .node) (recordAt t j .addresses) packet-kind.DataAck number (take (lengthOf a) o)
       → Unreplied w request copy a o
   other-written j there apart a o number direction k q is wrote named kind =
       let d : Addresses = recordAt t j .addresses in
@@ -124,13 +130,13 @@ module _ {h s : End} {past : List Event} {x : Sender} {y : Receiver} {t : List C
       (λ k. other-written j there apart (v .made .answer) (v .out) (f .number) (k .0) (k .1)) z)
       (subst (λ (u : Worked Stepped).
       (take (lengthOf (u .made .answer)) (u .out) ≡ [])
-      ⊎ (Acks (s .node) (recordAt t j .addresses) 7 (f .number) (take (lengthOf (u .made .answer)) (u .out)))
-      ⊎ ((recordAt t j .addresses .direction ≡ receives) × Acks (s .node) (recordAt t j .addresses) 1 (f .number) (take (lengthOf (u .made .answer)) (u .out)))) e
+      ⊎ (Acks (s .node) (recordAt t j .addresses) packet-kind.ControlAck (f .number) (take (lengthOf (u .made .answer)) (u .out)))
+      ⊎ ((recordAt t j .addresses .direction ≡ receives) × Acks (s .node) (recordAt t j .addresses) packet-kind.DataAck (f .number) (take (lengthOf (u .made .answer)) (u .out)))) e
       (arrival-wrote (s .node) packet buffer j (choice look t .rank) (recordAt t j) (ownMem t j mem) (ownLens t j lens) g)))
 
   -- ---- at the channel itself
 
-  module _ (fair : names s packet ≡ true → HandedOut past copy packet × (kindOf packet ≡ 0 → NotLate (endWith s t mem lens n) copy))
+  module _ (fair : names s packet ≡ true → HandedOut past copy packet × (IsData packet → NotLate (endWith s t mem lens n) copy))
       (rank : ℕ) (g : Given look i rank c m l) where
     told : Framed c f count packet buffer
     told = arrival-framed (s .node) packet buffer i rank c m l g
@@ -140,42 +146,45 @@ module _ {h s : End} {past : List Event} {x : Sender} {y : Receiver} {t : List C
         let q = found-packet (s .node) packet (length buffer) i c (subst (λ (k : ℕ). k < 3) (g .suits) (g .found)) in
         names-so s packet (q .1) (q .2) (ap (λ (a : Addresses). same a f) (sym (addresses-are w)) ∙ told .ours)
 
-    short-payload : unfit c f count ≡ false → f .kind ≡ 0 → length p ≤ c .limits .payload
+    short-payload : unfit c f count ≡ false → kindOf (f .kind) ≡ packet-kind.Data → length p ≤ c .limits .payload
     short-payload fit kind = omega (arith, fit-payload c f count fit kind, length-take count (drop (payloadAt f) packet))
 
     abbrev Made : Worked Stepped → Type 0
     Made v = Left (Next w request copy) v
 
-    by-kind : unfit c f count ≡ false → (a : Bool) → eqb (f .kind) 0 ≡ a → (b : Bool) → (eqb (f .kind) 1 || eqb (f .kind) 7) ≡ b
-        → Made (arriveBy (s .node) f count p c rank m l buffer)
-    by-kind fit true k b k17 =
-        let kind : f .kind ≡ 0 = eqb-true (f .kind) 0 k in
-        let q = fair for-us in
-        subst Made (sym (by-data (s .node) f count p c rank m l buffer fit kind))
-        (data-next w channel packet buffer copy for-us kind (q .0) (q .1 kind) (told .room) (told .flags) (short-payload fit kind))
-    by-kind fit false k true k17 = absurd (not-sending w (acks-find (c .addresses) f (told .ours) k17))
-    by-kind fit false k false k17 =
-        let other = neither (eqb (f .kind) 1) (eqb (f .kind) 7) k17 in
-        let opens : Bool = eqb (f .kind) 2 in
+    control : (opens : Bool) → Made (replying (s .node) c false (f .number) (controlStep c opens (f .number)) m l buffer)
+    control opens =
         let step : Stepped = controlStep c opens (f .number) in
         let out : List ℕ = repliedBy (step .answer) (s .node) (c .addresses) false (f .number) buffer in
-        subst Made (sym (by-control (s .node) f count p c rank m l buffer fit (eqb-false (f .kind) 0 k) (eqb-false (f .kind) 1 (other .0)) (eqb-false (f .kind) 7 (other .1))))
-        (moves-next w request copy (step .answer) out refl refl
+        moves-next w request copy (step .answer) out refl refl
         (⊎-elim (λ e. unwritten w request copy (step .answer) out e) (λ e. control-written (step .answer) out (c .addresses) (f .number) e)
         (reply-written (s .node) (c .addresses) (f .number) false buffer (told .room) (step .answer) (control-twelve c opens (f .number))))
-        (step .channel) (control-receives c m l y (asked w) (receiving w) (w .now .means) opens (f .number)))
+        (step .channel) (control-receives c m l y (asked w) (receiving w) (w .now .means) opens (f .number))
+
+    as-kind : unfit c f count ≡ false → (kind : packets.Kind) → kindOf (f .kind) ≡ kind → Made (arriveAs kind (s .node) f p c rank m l buffer)
+    as-kind fit packet-kind.Data is =
+        let q = fair for-us in
+        data-next w channel packet buffer copy for-us is (q .0) (q .1 is) (told .room) (told .flags) (short-payload fit is)
+    as-kind fit packet-kind.DataAck is = absurd (not-sending w (kind-finds (c .addresses) f packet-kind.DataAck (told .ours) is))
+    as-kind fit packet-kind.Open is = control true
+    as-kind fit packet-kind.Close is = control false
+    as-kind fit packet-kind.ControlAck is = absurd (not-sending w (kind-finds (c .addresses) f packet-kind.ControlAck (told .ours) is))
+    as-kind fit (packet-kind.Lacking code) is =
+        arrives-quiet (Refused refusal.Lacking) buffer (unwritten w request copy (Refused refusal.Lacking) buffer refl)
 
     by-fit : (b : Bool) → unfit c f count ≡ b → Made (arriveBy (s .node) f count p c rank m l buffer)
     by-fit true e =
-        subst Made (sym (by-unfit (s .node) f count p c rank m l buffer e))
+        subst Made (sym (by-unfit (s .node) f count p c rank m l buffer (told .room) e))
         (arrives-quiet (Refused refusal.Strange) buffer (unwritten w request copy (Refused refusal.Strange) buffer refl))
-    by-fit false e = by-kind e (eqb (f .kind) 0) refl (eqb (f .kind) 1 || eqb (f .kind) 7) refl
+    by-fit false e =
+        let kind = kindOf (f .kind) in
+        subst Made (sym (by-kind (s .node) f count p c rank m l buffer (told .room) e kind refl)) (as-kind e kind refl)
 
     own-arrival : Made (arrivalFor (s .node) packet c rank m l buffer)
     unfolding arrivalFor
     own-arrival = by-fit (unfit c f count) refl
 
-  pub subscriber-arrives : (names s packet ≡ true → HandedOut past copy packet × (kindOf packet ≡ 0 → NotLate (endWith s t mem lens n) copy))
+  pub subscriber-arrives : (names s packet ≡ true → HandedOut past copy packet × (IsData packet → NotLate (endWith s t mem lens n) copy))
       → Seen (Next w request copy) i (calledBy arrives (endWith s t mem lens n) request)
   subscriber-arrives fair =
       own-cases look (arrivalFor (s .node) packet) t mem lens buffer (shapes look (arrivalFor (s .node) packet) buffer (arrival-keeps (s .node) packet buffer)) i (below w)

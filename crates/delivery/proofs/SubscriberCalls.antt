@@ -11,7 +11,7 @@ use Rattle.table.specs.Serving.{recordAt, ownMem, ownLens}
 use Rattle.protocol.specs.Sending.{Sender}
 use Rattle.protocol.specs.Receiving.{Receiver}
 use Rattle.delivery.specs.Calls.{End, Kind, opens, closes, transfers, takes, reclaims, hands, arrives, ticks, Request, called}
-use Rattle.delivery.specs.History.{subscriber, Event, is, granted, names, kindOf, HandedOut, openings}
+use Rattle.delivery.specs.History.{subscriber, Event, is, granted, names, IsData, HandedOut, openings}
 use Rattle.delivery.specs.Delivery.{Fresh, Alike, NotLate}
 use Rattle.delivery.proofs.Nodes.{endWith}
 use Rattle.delivery.proofs.Known.{InvOf, Numbered, Subscriber}
@@ -41,7 +41,7 @@ module _ (h s : End) (fresh-h : Fresh h) (fresh-s : Fresh s) (alike : Alike h s)
   FairArrival r copy =
       is subscriber arrives (subscriberCall r copy) ≡ true
       → names s (r .octets) ≡ true
-      → HandedOut past copy (r .octets) × (kindOf (r .octets) ≡ 0 → NotLate (endWith s t mem lens n) copy)
+      → HandedOut past copy (r .octets) × (IsData (r .octets) → NotLate (endWith s t mem lens n) copy)
 
   abbrev FairOpening : Request → ℕ → Type 0
   FairOpening r copy = granted subscriber opens (s .index) (event r copy) ≡ true → openings subscriber (s .index) past ≡ 0

@@ -11,6 +11,9 @@ use borrow.Author.Tests.{eqb-true, eqb-false}
 use lib.Dec.{eqb, ltb, leb}
 use lib.ListN.{length, take}
 use Rattle.laws.specs.Choice.{if_then_else_}
+use Rattle.packet.specs.declared.kinds.Kind.the-variants.{Data, DataAck}
+use Rattle.packet.specs.Kinds.{kindOf}
+use Rattle.packet.proofs.KindLaws.{kind-back}
 use Rattle.packet.specs.declared.fields.Fields.{Fields}
 use Rattle.packet.specs.Layout.{fieldsAt}
 use Rattle.packet_read.specs.declared.reading.Read.{Read}
@@ -24,6 +27,7 @@ use Rattle.channel.specs.declared.answer.Refusal.the-variants as refusal
 use Rattle.channel.specs.declared.step.Stepped.{Stepped}
 use Rattle.channel.specs.Record as state
 use Rattle.channel.specs.Answers.{numberOf, lengthOf, refusalNumber}
+use Rattle.receiver.specs.Receiving.{ackLength}
 use Rattle.receiver_data.specs.Data.{dataStep, dataMem, dataLens}
 use Rattle.receiver_data.proofs.DataLaws.{data-state, state-mem, state-lens}
 use Rattle.table.specs.Serving.{recordAt, ownMem, ownLens}
@@ -123,8 +127,8 @@ module _ {h s : End} {past : List Event} {x : Sender} {y : Receiver} {t : List C
   request = record { kind = arrives; channel = channel; octets = packet; buffer = buffer }
 
   -- what is known of the packet
-  module _ (named : names s packet ≡ true) (kind : f .kind ≡ 0) (handed : HandedOut past copy packet) (late : NotLate (endWith s t mem lens n) copy)
-      (room : 12 ≤ length buffer) (few : f .flags < 4) (short : length p ≤ c .limits .payload) where
+  module _ (named : names s packet ≡ true) (kind : kindOf (f .kind) ≡ Data) (handed : HandedOut past copy packet) (late : NotLate (endWith s t mem lens n) copy)
+      (room : ackLength ≤ length buffer) (few : f .flags < 4) (short : length p ≤ c .limits .payload) where
     abbrev call : ReceiverCall
     call = ReceiverCall.arrival copy (f .number) (carried (f .flags) p)
 
@@ -149,7 +153,7 @@ module _ {h s : End} {past : List Event} {x : Sender} {y : Receiver} {t : List C
     abbrev Acked : ℕ → Bool → Type 0
     Acked j b = if b then (copy ≡ j) ⊎ Back h s past j else Back h s past j
 
-    ack-for-host : (q : List ℕ) → Acks (s .node) (c .addresses) 1 (f .number) q → names h q ≡ true
+    ack-for-host : (q : List ℕ) → Acks (s .node) (c .addresses) DataAck (f .number) q → names h q ≡ true
     ack-for-host q k =
         let d = addresses-are w in
         ap (λ (r : Read). namesBy r (h .node) (channelOf h .addresses)) (k .read)
@@ -157,7 +161,7 @@ module _ {h s : End} {past : List Event} {x : Sender} {y : Receiver} {t : List C
         (ap (λ (a : Addresses). a .remote) d ∙ w .alike .to-host) (sym (w .alike .protocol)) (w .alike .number ∙ sym (ap (λ (a : Addresses). a .channel) d))
         (w .alike .to-subscriber) (w .alike .sends)
 
-    acked : (a : Answer) → Acks (s .node) (c .addresses) 1 (f .number) (take (lengthOf a) (outOf a)) → protocol.replied said ≡ true → Reply a
+    acked : (a : Answer) → Acks (s .node) (c .addresses) DataAck (f .number) (take (lengthOf a) (outOf a)) → protocol.replied said ≡ true → Reply a
     acked a k e =
         record {
           number = λ j q is wrote at names-h ack.
@@ -170,7 +174,7 @@ module _ {h s : End} {past : List Event} {x : Sender} {y : Receiver} {t : List C
                 packet = take (lengthOf a) (outOf a);
                 replied = inl (refl, refl, λ kind. at);
                 named = ack-for-host (take (lengthOf a) (outOf a)) k;
-                is-ack = ap (λ (g : Fields). g .kind) (k .fields);
+                is-ack = ap (λ (g : Fields). kindOf (g .kind)) (k .fields) ∙ kind-back DataAck refl;
               })
               (λ q. back-later h s past _ j q)
               (subst (Acked j) e b);
@@ -186,10 +190,10 @@ module _ {h s : End} {past : List Event} {x : Sender} {y : Receiver} {t : List C
 
     reply-by : (a : Answer) → Twelve a → numberOf a ≡ said .number → Reply a
     reply-by (Done k u) e q =
-        acked (Done k u) (subst (λ (j : ℕ). Acks (s .node) (c .addresses) 1 (f .number) (take j (outOf (Done k u)))) (sym e) (ack-written (s .node) (c .addresses) (f .number) true buffer room))
+        acked (Done k u) (subst (λ (j : ℕ). Acks (s .node) (c .addresses) DataAck (f .number) (take j (outOf (Done k u)))) (sym e) (ack-written (s .node) (c .addresses) (f .number) true buffer room))
         (ap isReplied (sym q))
     reply-by (Repeated k) e q =
-        acked (Repeated k) (subst (λ (j : ℕ). Acks (s .node) (c .addresses) 1 (f .number) (take j (outOf (Repeated k)))) (sym e) (ack-written (s .node) (c .addresses) (f .number) true buffer room))
+        acked (Repeated k) (subst (λ (j : ℕ). Acks (s .node) (c .addresses) DataAck (f .number) (take j (outOf (Repeated k)))) (sym e) (ack-written (s .node) (c .addresses) (f .number) true buffer room))
         (ap isReplied (sym q))
     reply-by (Inactive why) e q = silent (Inactive why) refl (ap isReplied (sym q))
     reply-by (Refused why) e q = silent (Refused why) refl (ap isReplied (sym q) ∙ unreplied-number why)

@@ -25,7 +25,7 @@ use Rattle.units_held.specs.Meaning.{stateOf, limitsOf}
 use Rattle.receiver_means.proofs.Receives.{Receives}
 use Rattle.receiver_means.proofs.Control.{Moves}
 use Rattle.delivery.specs.Calls.{End, Kind, opens, takes, arrives, Request, channelOf, countedOn}
-use Rattle.delivery.specs.History.{Side, subscriber, Event, is, granted, written, names, kindOf, openings, taken}
+use Rattle.delivery.specs.History.{Side, subscriber, Event, is, granted, written, names, IsDataAck, openings, taken}
 use Rattle.delivery.specs.Delivery.{Fresh, Alike}
 use Rattle.delivery.proofs.Own.{View}
 use Rattle.delivery.proofs.Nodes.{same-length, same-addresses, same-limits, own-asked, small-window}
@@ -145,7 +145,7 @@ module _ {h s : End} {past : List Event} {x : Sender} {y : Receiver} {t : List C
     -- no Data Ack for the host is written
     abbrev pub Unreplied : Type 0
     Unreplied =
-        (packet : List ℕ) → is subscriber arrives (subscriberCall r copy) ≡ true → written event ≡ packet → names h packet ≡ true → kindOf packet ≡ 1 → ⊥
+        (packet : List ℕ) → is subscriber arrives (subscriberCall r copy) ≡ true → written event ≡ packet → names h packet ≡ true → IsDataAck packet → ⊥
 
     pub unwritten : written event ≡ [] → Unreplied
     unwritten e packet is wrote named kind = true≢false (sym named ∙ ap (names h) (sym wrote ∙ e) ∙ names-nothing h)

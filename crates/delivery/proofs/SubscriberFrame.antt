@@ -19,7 +19,7 @@ use Rattle.protocol.specs.History as protocol
 use Rattle.protocol.proofs.Invariant.{Inv}
 use Rattle.receiver_means.proofs.Receives.{Receives}
 use Rattle.delivery.specs.Calls.{End, arrives, Request, countedOn}
-use Rattle.delivery.specs.History.{subscriber, Call, Event, is, written, names, kindOf, openings, accepted, confirmed, reclaimed, taken}
+use Rattle.delivery.specs.History.{subscriber, Call, Event, is, written, names, IsDataAck, openings, accepted, confirmed, reclaimed, taken}
 use Rattle.delivery.proofs.Known.{Out, Back, back-later, limits, InvOf, Numbered, inv-links}
 use Rattle.delivery.proofs.Counting.{counted-same}
 use Rattle.delivery.proofs.Protocol.{FairData, receiver-keeps}
@@ -77,14 +77,14 @@ module _ (h s : End) (past : List Event) (x : Sender) where
           → written event ≡ packet
           → copy ≡ j
           → names h packet ≡ true
-          → kindOf packet ≡ 1
+          → IsDataAck packet
           → fieldsAt packet .number ≡ numberAt j
       pub down : (j : ℕ) (packet : List ℕ)
           → is subscriber arrives (subscriberCall r copy) ≡ true
           → written event ≡ packet
           → copy ≡ j
           → names h packet ≡ true
-          → kindOf packet ≡ 1
+          → IsDataAck packet
           → protocol.ackedBy k (receiverStep (limits h s) y k .1) j (Back h s past j)
       pub up : (j : ℕ) → protocol.ackedBy k (receiverStep (limits h s) y k .1) j (Back h s past j) → Back h s (event ∷ past) j
 
@@ -133,7 +133,7 @@ module _ (h s : End) (past : List Event) (x : Sender) where
 
     -- where no Data Ack for the other end is written, and the protocol writes none
     pub no-reply : (k : ReceiverCall)
-        → ((packet : List ℕ) → is subscriber arrives (subscriberCall r copy) ≡ true → written event ≡ packet → names h packet ≡ true → kindOf packet ≡ 1 → ⊥)
+        → ((packet : List ℕ) → is subscriber arrives (subscriberCall r copy) ≡ true → written event ≡ packet → names h packet ≡ true → IsDataAck packet → ⊥)
         → ((j : ℕ) → protocol.ackedBy k (receiverStep (limits h s) y k .1) j (Back h s past j) → Back h s past j)
         → Replying k
     no-reply k none-written same =
@@ -146,7 +146,7 @@ module _ (h s : End) (past : List Event) (x : Sender) where
     -- a call that leaves the channel and every account as they were
     pub subscriber-quiet : (c : Channel) (mem lens : List ℕ)
         → taken s (event ∷ past) ≡ taken s past
-        → ((packet : List ℕ) → is subscriber arrives (subscriberCall r copy) ≡ true → written event ≡ packet → names h packet ≡ true → kindOf packet ≡ 1 → ⊥)
+        → ((packet : List ℕ) → is subscriber arrives (subscriberCall r copy) ≡ true → written event ≡ packet → names h packet ≡ true → IsDataAck packet → ⊥)
         → Receives c mem lens y
         → (rank (y .phase) ≤ 2 → n ≡ startOf y)
         → (openings subscriber (s .index) (event ∷ past) ≡ 0 → y .phase ≡ fresh)

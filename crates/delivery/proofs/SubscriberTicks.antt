@@ -1,7 +1,7 @@
 -- A tick at the subscriber: a move of its record to a later phase, or nothing.
 -- Assumes nothing.
 use mathlib.Core.Path.{refl, sym, ap, subst}
-use mathlib.Core.Bool.{true≢false, false}
+use mathlib.Core.Bool.{true≢false}
 use mathlib.Core.List.{List, []}
 use Prim.Native.Nat.{ℕ}
 use Rattle.channel.specs.declared.record.Channel.{Channel}
@@ -37,6 +37,6 @@ module _ {h s : End} {past : List Event} {x : Sender} {y : Receiver} {t : List C
   pub subscriber-ticks : Seen (Next w request copy) (s .index) (calledBy ticks (endWith s t mem lens n) request)
   subscriber-ticks =
       tick-seen (Next w request copy) t mem lens (w .now .kept .stands) (s .index) (below w)
-      (subst (λ (k : Channel). Next w request copy (ticked t mem lens .answer) [] k m l) (sym (ap (λ (k : Ticked). k .channel) (steps.tick-receives c false (not-sending w))))
+      (subst (λ (k : Channel). Next w request copy (ticked t mem lens .answer) [] k m l) (sym (ap (λ (k : Ticked). k .channel) (steps.tick-receives c (not-sending w))))
       (moves-next w request copy (ticked t mem lens .answer) [] refl refl (λ packet q. absurd (true≢false (sym q)))
       (tickStep c) (tick-receives c m l y (asked w) (receiving w) (w .now .means))))

@@ -19,7 +19,7 @@ use Rattle.table.specs.Serving.{recordAt}
 use Rattle.node_keeps.specs.Keeping.{Wide}
 use Rattle.units_held.specs.Meaning.{limitsOf}
 use Rattle.delivery.specs.Calls.{End, opens, arrives, called, channelOf, unitsOf, afterCall}
-use Rattle.delivery.specs.History.{Side, host, subscriber, Call, Event, is, granted, names, kindOf, HandedOut, Replied, openings, accepted, confirmed, reclaimed, taken}
+use Rattle.delivery.specs.History.{Side, host, subscriber, Call, Event, is, granted, names, IsData, IsDataAck, HandedOut, Replied, openings, accepted, confirmed, reclaimed, taken}
 
 -- ---- the two ends at the beginning
 
@@ -95,10 +95,10 @@ NotLate e i = e .start ≤ i + (256 - channelOf e .limits .window)
 pub record Fair (h s : End) (w : Run) (c : Call) : Type 0 where
   pub at-subscriber : is subscriber arrives c ≡ true
       → names s (c .request .octets) ≡ true
-      → HandedOut (w .past) (c .copyOf) (c .request .octets) × (kindOf (c .request .octets) ≡ 0 → NotLate (w .subscriber) (c .copyOf))
+      → HandedOut (w .past) (c .copyOf) (c .request .octets) × (IsData (c .request .octets) → NotLate (w .subscriber) (c .copyOf))
   pub at-host : is host arrives c ≡ true
       → names h (c .request .octets) ≡ true
-      → Replied (w .past) (c .copyOf) (c .request .octets) × (kindOf (c .request .octets) ≡ 1 → NotLate (w .host) (c .copyOf))
+      → Replied (w .past) (c .copyOf) (c .request .octets) × (IsDataAck (c .request .octets) → NotLate (w .host) (c .copyOf))
   -- 'one opening': no second Open directive is accepted at either end
   pub opens-host : granted host opens (h .index) (eventOf w c) ≡ true → openings host (h .index) (w .past) ≡ 0
   pub opens-subscriber : granted subscriber opens (s .index) (eventOf w c) ≡ true → openings subscriber (s .index) (w .past) ≡ 0

@@ -7,6 +7,8 @@ use mathlib.Core.List.{List, [], _∷_, _++_}
 use lib.Dec.{eqb}
 use lib.ListN.{take}
 use Rattle.laws.specs.Choice.{if_then_else_}
+use Rattle.packet.specs.declared.kinds.Kind.the-variants.{Data, DataAck}
+use Rattle.packet.specs.Kinds.{kindOf}
 use Rattle.packet.specs.Layout.{fieldsAt}
 use Rattle.packet_read.specs.declared.reading.Read.{Read}
 use Rattle.packet_read.specs.declared.reading.Read.the-variants.{Found, Short, Damaged, Strange, Lacking}
@@ -67,9 +69,12 @@ namesBy Lacking node a = false
 abbrev pub names : End → List ℕ → Bool
 names e packet = namesBy (readOf packet) (e .node) (channelOf e .addresses)
 
--- its type: 0 Data, 1 Data Ack (000, Table 4-2)
-abbrev pub kindOf : List ℕ → ℕ
-kindOf packet = fieldsAt packet .kind
+-- of what kind it is
+abbrev pub IsData : List ℕ → Type 0
+IsData packet = kindOf (fieldsAt packet .kind) ≡ Data
+
+abbrev pub IsDataAck : List ℕ → Type 0
+IsDataAck packet = kindOf (fieldsAt packet .kind) ≡ DataAck
 
 -- the segment of a Data packet that is handed out: its number, counted on from where the window starts
 abbrev pub segmentOf : ℕ → List ℕ → ℕ
@@ -79,13 +84,13 @@ segmentOf started packet = started + distance (fieldsAt packet .number) (numberA
 abbrev pub HandedOut : List Event → ℕ → List ℕ → Type 0
 HandedOut [] i packet = ⊥
 HandedOut (e ∷ past) i packet =
-    ((is host hands (e .call) ≡ true) × (written e ≡ packet) × (kindOf packet ≡ 0 → segmentOf (e .started) packet ≡ i)) ⊎ HandedOut past i packet
+    ((is host hands (e .call) ≡ true) × (written e ≡ packet) × (IsData packet → segmentOf (e .started) packet ≡ i)) ⊎ HandedOut past i packet
 
 -- the subscriber replied with this packet, and if it is a Data Ack, to a copy of the segment i
 abbrev pub Replied : List Event → ℕ → List ℕ → Type 0
 Replied [] i packet = ⊥
 Replied (e ∷ past) i packet =
-    ((is subscriber arrives (e .call) ≡ true) × (written e ≡ packet) × (kindOf packet ≡ 1 → e .call .copyOf ≡ i)) ⊎ Replied past i packet
+    ((is subscriber arrives (e .call) ≡ true) × (written e ≡ packet) × (IsDataAck packet → e .call .copyOf ≡ i)) ⊎ Replied past i packet
 
 -- ---- the accounts of the channel whose two ends were these at the beginning
 

@@ -5,13 +5,17 @@ use mathlib.Core.Bool.{Bool, true, false, true≢false, not, _&&_, _||_}
 use mathlib.Core.List.{List, [], _∷_, _++_}
 use mathlib.Core.Logic.{_⊎_, inl, inr, ⊎-elim}
 use Prim.Native.Nat.{ℕ, zero, suc, _+_, _-_}
-use borrow.Author.Tests.{eqb-true, eq-eqb, leb-true}
+use borrow.Author.Tests.{eqb-true, leb-true}
 use lib.Dec.{leb, eqb}
 use lib.ListN.{replicate, set}
 use Rattle.laws.specs.Choice.{if_then_else_}
 use Rattle.laws.proofs.Choice.{both}
+use Rattle.packet.specs.declared.kinds.Kind as packets
+use Rattle.packet.specs.declared.kinds.Kind.the-variants as packet-kind
+use Rattle.packet.specs.Kinds.{kindOf, isData}
+use Rattle.packet.specs.Layout.{fieldsAt}
 use Rattle.delivery.specs.Calls.{End, opens, hands, arrives, channelOf}
-use Rattle.delivery.specs.History.{Side, host, subscriber, Call, Event, is, granted, written, names, kindOf, segmentOf, HandedOut, Replied, openings}
+use Rattle.delivery.specs.History.{Side, host, subscriber, Call, Event, is, granted, written, names, segmentOf, HandedOut, Replied, openings}
 use Rattle.delivery.specs.Delivery.{Run, eventOf, step, run, Fair, AllFair}
 
 -- ---- tests of what is asked
@@ -45,11 +49,19 @@ implied : (a b : Bool) → implies a b ≡ true → a ≡ true → b ≡ true
 implied true b e q = e
 implied false b e q = absurd (true≢false (sym q))
 
+abbrev pub isDataAck : packets.Kind → Bool
+isDataAck packet-kind.Data = false
+isDataAck packet-kind.DataAck = true
+isDataAck packet-kind.Open = false
+isDataAck packet-kind.Close = false
+isDataAck packet-kind.ControlAck = false
+isDataAck (packet-kind.Lacking code) = false
+
 unfoldable pub handedIn : ℕ → List Event → ℕ → List ℕ → Bool
 handedIn zero past i packet = false
 handedIn (suc n) [] i packet = false
 handedIn (suc n) (e ∷ past) i packet =
-    (is host hands (e .call) && equal (written e) packet && implies (eqb (kindOf packet) 0) (eqb (segmentOf (e .started) packet) i)) || handedIn n past i packet
+    (is host hands (e .call) && equal (written e) packet && implies (isData (kindOf (fieldsAt packet .kind))) (eqb (segmentOf (e .started) packet) i)) || handedIn n past i packet
 
 handed-in : (n : ℕ) (past : List Event) (i : ℕ) (packet : List ℕ) → handedIn n past i packet ≡ true → HandedOut past i packet
 unfolding handedIn
@@ -58,19 +70,19 @@ handed-in (suc n) [] i packet e = absurd (true≢false (sym e))
 handed-in (suc n) (v ∷ past) i packet e = ⊎-elim found (λ q. inr (handed-in n past i packet q)) (either here (handedIn n past i packet) e)
   where
     here : Bool
-    here = is host hands (v .call) && equal (written v) packet && implies (eqb (kindOf packet) 0) (eqb (segmentOf (v .started) packet) i)
+    here = is host hands (v .call) && equal (written v) packet && implies (isData (kindOf (fieldsAt packet .kind))) (eqb (segmentOf (v .started) packet) i)
 
     found : here ≡ true → HandedOut (v ∷ past) i packet
     found q =
-        let p = both (is host hands (v .call) && equal (written v) packet) (implies (eqb (kindOf packet) 0) (eqb (segmentOf (v .started) packet) i)) q in
+        let p = both (is host hands (v .call) && equal (written v) packet) (implies (isData (kindOf (fieldsAt packet .kind))) (eqb (segmentOf (v .started) packet) i)) q in
         let r = both (is host hands (v .call)) (equal (written v) packet) (p .0) in
-        inl (r .0, equal-is (written v) packet (r .1), λ k. eqb-true (segmentOf (v .started) packet) i (implied _ _ (p .1) (eq-eqb (kindOf packet) 0 k)))
+        inl (r .0, equal-is (written v) packet (r .1), λ k. eqb-true (segmentOf (v .started) packet) i (implied _ _ (p .1) (ap isData k)))
 
 unfoldable pub repliedIn : ℕ → List Event → ℕ → List ℕ → Bool
 repliedIn zero past i packet = false
 repliedIn (suc n) [] i packet = false
 repliedIn (suc n) (e ∷ past) i packet =
-    (is subscriber arrives (e .call) && equal (written e) packet && implies (eqb (kindOf packet) 1) (eqb (e .call .copyOf) i)) || repliedIn n past i packet
+    (is subscriber arrives (e .call) && equal (written e) packet && implies (isDataAck (kindOf (fieldsAt packet .kind))) (eqb (e .call .copyOf) i)) || repliedIn n past i packet
 
 replied-in : (n : ℕ) (past : List Event) (i : ℕ) (packet : List ℕ) → repliedIn n past i packet ≡ true → Replied past i packet
 unfolding repliedIn
@@ -79,13 +91,13 @@ replied-in (suc n) [] i packet e = absurd (true≢false (sym e))
 replied-in (suc n) (v ∷ past) i packet e = ⊎-elim found (λ q. inr (replied-in n past i packet q)) (either here (repliedIn n past i packet) e)
   where
     here : Bool
-    here = is subscriber arrives (v .call) && equal (written v) packet && implies (eqb (kindOf packet) 1) (eqb (v .call .copyOf) i)
+    here = is subscriber arrives (v .call) && equal (written v) packet && implies (isDataAck (kindOf (fieldsAt packet .kind))) (eqb (v .call .copyOf) i)
 
     found : here ≡ true → Replied (v ∷ past) i packet
     found q =
-        let p = both (is subscriber arrives (v .call) && equal (written v) packet) (implies (eqb (kindOf packet) 1) (eqb (v .call .copyOf) i)) q in
+        let p = both (is subscriber arrives (v .call) && equal (written v) packet) (implies (isDataAck (kindOf (fieldsAt packet .kind))) (eqb (v .call .copyOf) i)) q in
         let r = both (is subscriber arrives (v .call)) (equal (written v) packet) (p .0) in
-        inl (r .0, equal-is (written v) packet (r .1), λ k. eqb-true (v .call .copyOf) i (implied _ _ (p .1) (eq-eqb (kindOf packet) 1 k)))
+        inl (r .0, equal-is (written v) packet (r .1), λ k. eqb-true (v .call .copyOf) i (implied _ _ (p .1) (ap isDataAck k)))
 
 -- ---- a script: calls, and packets that the link brings
 
@@ -137,13 +149,13 @@ module _ (h s : End) where
   abbrev pub toSubscriber : Run → Call → Bool
   toSubscriber w c =
       implies (is subscriber arrives c)
-      ((handedIn 8 (w .past) (c .copyOf) (c .request .octets) && implies (eqb (kindOf (c .request .octets)) 0) (inTime (w .subscriber) (c .copyOf)))
+      ((handedIn 8 (w .past) (c .copyOf) (c .request .octets) && implies (isData (kindOf (fieldsAt (c .request .octets) .kind))) (inTime (w .subscriber) (c .copyOf)))
       || not (names s (c .request .octets)))
 
   abbrev pub toHost : Run → Call → Bool
   toHost w c =
       implies (is host arrives c)
-      ((repliedIn 8 (w .past) (c .copyOf) (c .request .octets) && implies (eqb (kindOf (c .request .octets)) 1) (inTime (w .host) (c .copyOf)))
+      ((repliedIn 8 (w .past) (c .copyOf) (c .request .octets) && implies (isDataAck (kindOf (fieldsAt (c .request .octets) .kind))) (inTime (w .host) (c .copyOf)))
       || not (names h (c .request .octets)))
 
   abbrev pub opensOnce : Side → ℕ → Run → Call → Bool
@@ -161,13 +173,13 @@ module _ (h s : End) where
       let octets = c .request .octets in
       record {
         at-subscriber = λ a n.
-            let y = copied (handedIn 8 (w .past) (c .copyOf) octets && implies (eqb (kindOf octets) 0) (inTime (w .subscriber) (c .copyOf))) (names s octets) (implied (is subscriber arrives c) _ (r .0) a) n in
-            let z = both (handedIn 8 (w .past) (c .copyOf) octets) (implies (eqb (kindOf octets) 0) (inTime (w .subscriber) (c .copyOf))) y in
-            (handed-in 8 (w .past) (c .copyOf) octets (z .0), λ k. leb-true _ _ (implied _ _ (z .1) (eq-eqb (kindOf octets) 0 k)));
+            let y = copied (handedIn 8 (w .past) (c .copyOf) octets && implies (isData (kindOf (fieldsAt octets .kind))) (inTime (w .subscriber) (c .copyOf))) (names s octets) (implied (is subscriber arrives c) _ (r .0) a) n in
+            let z = both (handedIn 8 (w .past) (c .copyOf) octets) (implies (isData (kindOf (fieldsAt octets .kind))) (inTime (w .subscriber) (c .copyOf))) y in
+            (handed-in 8 (w .past) (c .copyOf) octets (z .0), λ k. leb-true _ _ (implied _ _ (z .1) (ap isData k)));
         at-host = λ a n.
-            let y = copied (repliedIn 8 (w .past) (c .copyOf) octets && implies (eqb (kindOf octets) 1) (inTime (w .host) (c .copyOf))) (names h octets) (implied (is host arrives c) _ (r .1) a) n in
-            let z = both (repliedIn 8 (w .past) (c .copyOf) octets) (implies (eqb (kindOf octets) 1) (inTime (w .host) (c .copyOf))) y in
-            (replied-in 8 (w .past) (c .copyOf) octets (z .0), λ k. leb-true _ _ (implied _ _ (z .1) (eq-eqb (kindOf octets) 1 k)));
+            let y = copied (repliedIn 8 (w .past) (c .copyOf) octets && implies (isDataAck (kindOf (fieldsAt octets .kind))) (inTime (w .host) (c .copyOf))) (names h octets) (implied (is host arrives c) _ (r .1) a) n in
+            let z = both (repliedIn 8 (w .past) (c .copyOf) octets) (implies (isDataAck (kindOf (fieldsAt octets .kind))) (inTime (w .host) (c .copyOf))) y in
+            (replied-in 8 (w .past) (c .copyOf) octets (z .0), λ k. leb-true _ _ (implied _ _ (z .1) (ap isDataAck k)));
         opens-host = λ g. eqb-true (openings host (h .index) (w .past)) 0 (implied _ _ (q .1) g);
         opens-subscriber = λ g. eqb-true (openings subscriber (s .index) (w .past)) 0 (implied _ _ (p .1) g);
       }

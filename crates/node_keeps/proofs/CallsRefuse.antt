@@ -14,11 +14,15 @@ use Rattle.slots.specs.Slots.{laid}
 use Rattle.packet.specs.declared.fields.Fields.{Fields}
 use Rattle.packet.specs.Layout.{fieldsAt, lengthAt}
 use Rattle.walks.specs.Serving.{Worked, works, changes}
+use Rattle.packet.specs.declared.kinds.Kind.{Kind}
+use Rattle.packet.specs.declared.kinds.Kind.the-variants.{Data, DataAck, Open, Close, ControlAck, Lacking}
+use Rattle.packet.specs.Kinds.{kindOf}
 use Rattle.channel.specs.declared.record.Node.{Node}
 use Rattle.channel.specs.declared.record.Addresses.{Addresses}
 use Rattle.channel.specs.declared.record.Channel.{Channel}
 use Rattle.channel.specs.declared.answer.Answer.{Answer}
 use Rattle.channel.specs.declared.answer.Answer.the-variants.{Done, Repeated, Inactive, Refused}
+use Rattle.channel.specs.declared.answer.Refusal.{Refusal}
 use Rattle.channel.specs.declared.answer.Refusal.the-variants as refusal
 use Rattle.channel.specs.declared.step.Stepped.{Stepped}
 use Rattle.channel.specs.Answers.{numberOf}
@@ -41,9 +45,9 @@ use Rattle.table.specs.Serving.{blank, recordAt, ownMem, ownLens, Step, alone, 
 use Rattle.steps.specs.Requests.{openedBy, closedBy, transferFor, takeFor, reclaimFor}
 use Rattle.steps_handing.specs.Handing.{nextFor}
 use Rattle.arriving_look.specs.Finding.{lookOf}
-use Rattle.arriving_data.specs.Data.{unfit, dataFor}
+use Rattle.arriving_data.specs.Data.{replyLength, unfit, dataFor}
 use Rattle.arriving_reply.specs.Replying.{repliedBy}
-use Rattle.steps_arriving.specs.Arriving.{arriveBy, payloadIn, arrivalFor}
+use Rattle.steps_arriving.specs.Arriving.{arriveAs, arriveBy, payloadIn, arrivalFor}
 use Rattle.table.proofs.Parts.{laid-own}
 use Rattle.node_ticks.specs.Ticks.{tickOf, anyInactive, firstInactive, ticked}
 use Rattle.node_calls.specs.Calls.{opened, closed, transferred, taken, reclaimed, handed, arrived}
@@ -192,7 +196,7 @@ replied-silent (Refused why) node a ofData number out e = refl
 
 -- what holds for each type of packet holds of the arrival
 module _ (node : Node) (f : Fields) (x : ℕ) (p : List ℕ) (c : Channel) (rank : ℕ) (mem lens out : List ℕ) (P : Worked Stepped → Type 0) where
-  pub arrive-cases : P (works (refusing c refusal.Strange) mem lens out)
+  pub arrive-cases : ((why : Refusal) → P (works (refusing c why) mem lens out))
       → P (dataFor node f p c rank mem lens out)
       → P (works (dataAckStep c (f .number)) mem lens out)
       → P (works (controlAckStep c (f .number)) mem lens out)
@@ -200,20 +204,21 @@ module _ (node : Node) (f : Fields) (x : ℕ) (p : List ℕ) (c : Channel) (rank
       → P (works (receiver.controlStep c opens (f .number)) mem lens (repliedBy (receiver.controlStep c opens (f .number) .answer) node (c .addresses) false (f .number) out)))
       → P (arriveBy node f x p c rank mem lens out)
   unfolding arriveBy
-  arrive-cases over filed data-ack control-ack control = go (unfit c f x) (eqb (f .kind) 0) (eqb (f .kind) 1) (eqb (f .kind) 7)
+  arrive-cases refuses filed data-ack control-ack control = go (ltb (length out) (replyLength c (kindOf (f .kind)))) (unfit c f x) (kindOf (f .kind))
     where
-      go : (u a b d : Bool)
+      go : (small over : Bool) (k : Kind)
           → P
-          (if u then works (refusing c refusal.Strange) mem lens out
-          else if a then dataFor node f p c rank mem lens out
-          else if b then works (dataAckStep c (f .number)) mem lens out
-          else if d then works (controlAckStep c (f .number)) mem lens out
-          else works (receiver.controlStep c (eqb (f .kind) 2) (f .number)) mem lens (repliedBy (receiver.controlStep c (eqb (f .kind) 2) (f .number) .answer) node (c .addresses) false (f .number) out))
-      go true a b d = over
-      go false true b d = filed
-      go false false true d = data-ack
-      go false false false true = control-ack
-      go false false false false = control (eqb (f .kind) 2)
+          (if small then works (refusing c refusal.Small) mem lens out
+          else if over then works (refusing c refusal.Strange) mem lens out
+          else arriveAs k node f p c rank mem lens out)
+      go true over k = refuses refusal.Small
+      go false true k = refuses refusal.Strange
+      go false false Data = filed
+      go false false DataAck = data-ack
+      go false false Open = control true
+      go false false Close = control false
+      go false false ControlAck = control-ack
+      go false false (Lacking code) = refuses refusal.Lacking
 
 module _ (node : Node) (packet : List ℕ) (c : Channel) (rank : ℕ) (mem lens out : List ℕ) where
   arrival-still : Still c mem lens out (arrivalFor node packet c rank mem lens out)
@@ -224,7 +229,7 @@ module _ (node : Node) (packet : List ℕ) (c : Channel) (rank : ℕ) (mem lens 
       let p = payloadIn packet in
       let s = dataStep c n (f .flags) in
       arrive-cases node f (lengthAt packet) p c rank mem lens out (Still c mem lens out)
-      (λ quiet. (refl, refl, refl, refl))
+      (λ why quiet. (refl, refl, refl, refl))
       (λ quiet. let u = received.refusals-change-nothing c n (f .flags) p mem lens quiet in (u .0, u .1, u .2, replied-still (s .answer) node (c .addresses) true n out quiet))
       (λ quiet. (sent.data-ack-unchanged c n (λ e. quiet (inl e)), refl, refl, refl))
       (λ quiet. (sent.control-ack-unchanged c n (λ e. quiet (inl e)), refl, refl, refl))
@@ -236,7 +241,7 @@ module _ (node : Node) (packet : List ℕ) (c : Channel) (rank : ℕ) (mem lens 
   arrival-silent =
       let f = fieldsAt packet in
       let n = f .number in
-      arrive-cases node f (lengthAt packet) (payloadIn packet) c rank mem lens out (Silent out) (λ e. refl)
+      arrive-cases node f (lengthAt packet) (payloadIn packet) c rank mem lens out (Silent out) (λ why e. refl)
       (λ e. replied-silent (dataStep c n (f .flags) .answer) node (c .addresses) true n out e)
       (λ e. refl)
       (λ e. refl)

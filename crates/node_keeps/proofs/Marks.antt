@@ -208,7 +208,7 @@ unfolding arrivalFor
 arrival-marking node packet out c rank mem lens w =
     let f = fieldsAt packet in
     let n = f .number in
-    arrive-cases node f (lengthAt packet) (payloadIn packet) c rank mem lens out (λ (x : Worked Stepped). Fills (x .made)) w (data-full c w n (f .flags))
+    arrive-cases node f (lengthAt packet) (payloadIn packet) c rank mem lens out (λ (x : Worked Stepped). Fills (x .made)) (λ why. w) (data-full c w n (f .flags))
     (data-ack-full c w n)
     (control-ack-full c w n)
     (λ opens. control-full c w opens n)

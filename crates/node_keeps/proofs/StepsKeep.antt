@@ -13,6 +13,9 @@ use Rattle.slots.specs.Slots.{Sized}
 use Rattle.packet.specs.declared.fields.Fields.{Fields}
 use Rattle.packet.specs.Layout.{fieldsAt, lengthAt, payloadAt}
 use Rattle.walks.specs.Serving.{works}
+use Rattle.packet.specs.declared.kinds.Kind.{Kind}
+use Rattle.packet.specs.declared.kinds.Kind.the-variants.{Data, DataAck, Open, Close, ControlAck, Lacking}
+use Rattle.packet.specs.Kinds.{kindOf}
 use Rattle.channel.specs.declared.record.Node.{Node}
 use Rattle.channel.specs.declared.record.Channel.{Channel}
 use Rattle.channel.specs.declared.answer.Refusal.{Refusal}
@@ -39,22 +42,22 @@ use Rattle.receiver_keeps.proofs.Keeps as received
 use Rattle.receiver_keeps.proofs.Fixed as fixed
 use Rattle.table.specs.declared.looking.Look.{Look}
 use Rattle.table.specs.declared.looking.Look.the-variants.{Ready}
-use Rattle.table.specs.Looking.{graded}
+use Rattle.table.specs.Looking.{looksFor, graded}
 use Rattle.table.specs.Serving.{alone}
 use Rattle.steps_ticking.specs.declared.ticking.Ticked.{Ticked}
 use Rattle.steps.specs.Requests.{openedBy, closedBy, transferFor, takeFor, reclaimFor}
 use Rattle.steps_handing.specs.Handing.{nextFor}
 use Rattle.arriving_look.specs.Finding.{lookOf}
 use Rattle.arriving_data.specs.Data.{unfit}
-use Rattle.arriving_reply.specs.Replying.{repliedBy}
-use Rattle.steps_arriving.specs.Arriving.{arriveBy, payloadIn, arrivalFor, Framed}
-use Rattle.table.proofs.OneLaws.{acks-find, others-find}
+use Rattle.arriving_reply.specs.Replying.{repliedBy, replying}
+use Rattle.steps_arriving.specs.Arriving.{arriveAs, arriveBy, payloadIn, arrivalFor, Framed}
+use Rattle.table.proofs.OneLaws.{kind-finds}
 use Rattle.steps_handing.proofs.HandLaws.{ready-is}
 use Rattle.steps_ticking.proofs.TickLaws.{tick-sends, tick-receives}
 use Rattle.steps.proofs.RequestLaws.{opened-sends, opened-receives, closed-sends, closed-receives}
 use Rattle.arriving_look.proofs.FindLaws.{found-packet}
 use Rattle.arriving_data.proofs.DataLaws.{fit-payload}
-use Rattle.steps_arriving.proofs.ArriveLaws.{framed, data-receives, by-unfit, by-data, by-data-ack, by-control-ack, by-control}
+use Rattle.steps_arriving.proofs.ArriveLaws.{framed, by-unfit, by-kind}
 use Rattle.node_ticks.specs.Ticks.{tickOf}
 use Rattle.node_keeps.specs.Keeping.{Given, Kept, Keeps}
 
@@ -155,7 +158,7 @@ next-keeps node out at rank c mem lens g =
 -- ---- an arrival
 
 -- the payload of Data that is fit has at most P octets
-payload-short : (c : Channel) (s : List ℕ) → unfit c (fieldsAt s) (lengthAt s) ≡ false → fieldsAt s .kind ≡ 0 → length (payloadIn s) ≤ c .limits .payload
+payload-short : (c : Channel) (s : List ℕ) → unfit c (fieldsAt s) (lengthAt s) ≡ false → kindOf (fieldsAt s .kind) ≡ Data → length (payloadIn s) ≤ c .limits .payload
 payload-short c s fit k =
     omega (arith, fit-payload c (fieldsAt s) (lengthAt s) fit k, length-take (lengthAt s) (drop (payloadAt (fieldsAt s)) s))
 
@@ -184,36 +187,35 @@ arrival-keeps node packet out at rank c mem lens g = by-fit (unfit c f x) refl
     Wanted : Type 0
     Wanted = Kept c (arriveBy node f x p c rank mem lens out)
 
-    by-kind : unfit c f x ≡ false → (a : Bool) → eqb (f .kind) 0 ≡ a → (b : Bool) → eqb (f .kind) 1 ≡ b → (d : Bool) → eqb (f .kind) 7 ≡ d → Wanted
-    by-kind fit true k b k1 d k7 =
-        let kind = eqb-true (f .kind) 0 k in
-        let dir = data-receives (c .addresses) f (told .ours) kind in
-        let short = payload-short c packet fit kind in
-        subst (Kept c) (sym (by-data node f x p c rank mem lens out fit kind))
-        (record {
+    control : c .addresses .direction ≡ receives → (opens : Bool)
+        → Kept c (replying node c false n (receiver.controlStep c opens n) mem lens out)
+    control dir opens =
+        quiet-kept c mem lens (repliedBy (receiver.controlStep c opens n .answer) node (c .addresses) false n out) (g .sized) (receiver.controlStep c opens n)
+        (fixed.control-fixed c opens n) (received.control-stands c lens dir (g .standing) opens n)
+
+    as-kind : unfit c f x ≡ false → (k : Kind) → kindOf (f .kind) ≡ k → c .addresses .direction ≡ looksFor k → Kept c (arriveAs k node f p c rank mem lens out)
+    as-kind fit Data is dir =
+        let short = payload-short c packet fit is in
+        record {
           addresses = fixed.data-fixed c n (f .flags) .0;
           limits = fixed.data-fixed c n (f .flags) .1;
           standing = received.data-stands c lens dir (g .standing) n p mem short (f .flags) (told .flags);
           sized = received.data-sized c lens dir (g .standing) n p mem short (g .sized);
-        })
-    by-kind fit false k true k1 d k7 =
-        let dir = acks-find (c .addresses) f (told .ours) (ap (λ (y : Bool). y || eqb (f .kind) 7) k1) in
-        subst (Kept c) (sym (by-data-ack node f x p c rank mem lens out fit (eqb-false (f .kind) 0 k) (eqb-true (f .kind) 1 k1)))
-        (quiet-kept c mem lens out (g .sized) (dataAckStep c n) (sent.data-ack-fixed c n) (data-ack-stands c lens n (g .standing) dir))
-    by-kind fit false k false k1 true k7 =
-        let dir = acks-find (c .addresses) f (told .ours) (ap (λ (y : Bool). y || eqb (f .kind) 7) k1 ∙ k7) in
-        subst (Kept c) (sym (by-control-ack node f x p c rank mem lens out fit (eqb-false (f .kind) 0 k) (eqb-false (f .kind) 1 k1) (eqb-true (f .kind) 7 k7)))
-        (quiet-kept c mem lens out (g .sized) (controlAckStep c n) (sent.control-ack-fixed c n) (control-ack-stands c lens n (g .standing) dir))
-    by-kind fit false k false k1 false k7 =
-        let dir = others-find (c .addresses) f (told .ours) (ap (λ (y : Bool). y || eqb (f .kind) 7) k1 ∙ k7) in
-        let opens = eqb (f .kind) 2 in
-        subst (Kept c) (sym (by-control node f x p c rank mem lens out fit (eqb-false (f .kind) 0 k) (eqb-false (f .kind) 1 k1) (eqb-false (f .kind) 7 k7)))
-        (quiet-kept c mem lens (repliedBy (receiver.controlStep c opens n .answer) node (c .addresses) false n out) (g .sized) (receiver.controlStep c opens n) (fixed.control-fixed c opens n) (received.control-stands c lens dir (g .standing) opens n))
+        }
+    as-kind fit DataAck is dir =
+        quiet-kept c mem lens out (g .sized) (dataAckStep c n) (sent.data-ack-fixed c n) (data-ack-stands c lens n (g .standing) dir)
+    as-kind fit Open is dir = control dir true
+    as-kind fit Close is dir = control dir false
+    as-kind fit ControlAck is dir =
+        quiet-kept c mem lens out (g .sized) (controlAckStep c n) (sent.control-ack-fixed c n) (control-ack-stands c lens n (g .standing) dir)
+    as-kind fit (Lacking code) is dir = refused-kept c mem lens out (g .sized) refusal.Lacking (g .standing)
 
     by-fit : (b : Bool) → unfit c f x ≡ b → Wanted
     by-fit true e =
-        subst (Kept c) (sym (by-unfit node f x p c rank mem lens out e)) (refused-kept c mem lens out (g .sized) refusal.Strange (g .standing))
-    by-fit false e = by-kind e (eqb (f .kind) 0) refl (eqb (f .kind) 1) refl (eqb (f .kind) 7) refl
+        subst (Kept c) (sym (by-unfit node f x p c rank mem lens out (told .room) e)) (refused-kept c mem lens out (g .sized) refusal.Strange (g .standing))
+    by-fit false e =
+        let k = kindOf (f .kind) in
+        subst (Kept c) (sym (by-kind node f x p c rank mem lens out (told .room) e k refl)) (as-kind e k refl (kind-finds (c .addresses) f k (told .ours) refl))
 
 -- ---- a tick of one channel
 

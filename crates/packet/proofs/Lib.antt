@@ -1,2 +1,3 @@
+pub mod KindLaws
 pub mod Tests
 pub mod WriteLaws

@@ -13,8 +13,11 @@ use Rattle.laws.specs.Octets.{pairAt}
 use Rattle.laws.proofs.Choice.{neither}
 use Rattle.crc.specs.Crc.{crcOf}
 use Rattle.packet.specs.declared.fields.Fields.{Fields}
+use Rattle.packet.specs.declared.kinds.Kind.{Kind}
+use Rattle.packet.specs.Kinds.{kindOf, isData}
 use Rattle.packet.specs.Layout.{least, wholeLength, fieldsAt, lengthAt}
-use Rattle.packet.specs.Tests.{short, damaged, lacking, strange, carried, flagsAllowed, payloadAllowed, Sound}
+use Rattle.packet.proofs.KindLaws.{carried-small}
+use Rattle.packet.specs.Tests.{short, damaged, lacking, strange, flagsAllowed, payloadAllowed, Sound}
 
 -- ---- 1
 
@@ -39,26 +42,19 @@ undamaged s e = eqb-true _ _ (not-false _ e)
 
 -- ---- 4 and 3
 
-carried-small : (k : ℕ) → carried k ≡ true → k < 8
-carried-small k e = go (leb k 3) refl
+flags-small : (k : Kind) (g : ℕ) → flagsAllowed k g ≡ true → g < 4
+flags-small k g = go (isData k)
   where
-    go : (t : Bool) → leb k 3 ≡ t → k < 8
-    go true p = omega (arith, leb-true k 3 p)
-    go false p = omega (arith, eqb-true k 7 (rw p at e))
+    go : (t : Bool) → (if t then leb g 3 else eqb g 3) ≡ true → g < 4
+    go true e = omega (arith, leb-true g 3 e)
+    go false e = omega (arith, eqb-true g 3 e)
 
-flags-small : (k g : ℕ) → flagsAllowed k g ≡ true → g < 4
-flags-small k g e = go (eqb k 0) refl
+payload-small : (k : Kind) (g x : ℕ) → payloadAllowed k g x ≡ true → x < 65536
+payload-small k g x = go (isData k)
   where
-    go : (t : Bool) → eqb k 0 ≡ t → g < 4
-    go true p = omega (arith, leb-true g 3 (rw p at e))
-    go false p = omega (arith, eqb-true g 3 (rw p at e))
-
-payload-small : (k g x : ℕ) → payloadAllowed k g x ≡ true → x < 65536
-payload-small k g x e = go (eqb k 0) refl
-  where
-    go : (t : Bool) → eqb k 0 ≡ t → x < 65536
-    go true p = omega (arith, leb-true x 65535 (rw p at e))
-    go false p = omega (arith, eqb-true x 0 (rw p at e))
+    go : (t : Bool) → (if t then leb x 65535 else eqb x 0) ≡ true → x < 65536
+    go true e = omega (arith, leb-true x 65535 e)
+    go false e = omega (arith, eqb-true x 0 e)
 
 pub sound : (f : Fields) (x : ℕ) → lacking f ≡ false → strange f x ≡ false → Sound f x
 unfolding lacking strange
@@ -74,6 +70,6 @@ sound f x l e =
       kind = carried-small _ (not-false _ (l1 .1));
       version = eqb-true _ _ (not-false _ (e3 .0));
       reserved = eqb-true _ _ (not-false _ (e3 .1));
-      flags = flags-small (f .kind) _ (not-false _ (e2 .1));
-      payload = payload-small (f .kind) (f .flags) _ (not-false _ (e1 .1));
+      flags = flags-small (kindOf (f .kind)) _ (not-false _ (e2 .1));
+      payload = payload-small (kindOf (f .kind)) (f .flags) _ (not-false _ (e1 .1));
     }

@@ -1,3 +1,4 @@
+pub mod Kinds
 pub mod Layout
 pub mod Tests
 pub mod Writing

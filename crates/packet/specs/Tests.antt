@@ -9,19 +9,11 @@ use Rattle.laws.specs.Choice.{if_then_else_}
 use Rattle.laws.specs.Octets.{pairAt}
 use Rattle.crc.specs.Crc.{crcOf}
 use Rattle.packet.specs.declared.fields.Fields.{Fields}
+use Rattle.packet.specs.declared.kinds.Kind.{Kind}
+use Rattle.packet.specs.Kinds.{kindOf, isData, carried}
 use Rattle.packet.specs.Layout.{least, wholeLength, fieldsAt, lengthAt}
 
--- ---- packet types and sequence flags, as far as the tests name them (000, Tables 4-2 and 4-1)
-
-abbrev pub typeData : ℕ
-typeData = 0
-
-abbrev pub typeClose : ℕ
-typeClose = 3
-
-abbrev pub typeControlAck : ℕ
-typeControlAck = 7
-
+-- the sequence flags of a packet that is whole (000, Table 4-1)
 abbrev pub flagsWhole : ℕ
 flagsWhole = 3
 
@@ -37,29 +29,25 @@ damaged s = not (eqb (crcOf (take (length s - 2) s)) (pairAt s (length s - 2)))
 
 -- ---- 4: a secondary header, a prefix, or a type that the base lacks
 
--- the types of the base: Data, Data Ack, Open, Close (0 to 3) and Control Ack; not Heartbeat, its Ack, Flow Control (4 to 6)
-abbrev pub carried : ℕ → Bool
-carried kind = leb kind typeClose || eqb kind typeControlAck
-
 unfoldable pub lacking : Fields → Bool
-lacking f = not (eqb (f .secondary) 0) || not (eqb (f .prefix) 0) || not (carried (f .kind))
+lacking f = not (eqb (f .secondary) 0) || not (eqb (f .prefix) 0) || not (carried (kindOf (f .kind)))
 
 -- ---- 3: another header field unexpected
 
 -- any flags on Data, 11 on every other packet (000, 4.2.3.4.4)
-abbrev pub flagsAllowed : ℕ → ℕ → Bool
-flagsAllowed kind flags = if eqb kind typeData then leb flags flagsWhole else eqb flags flagsWhole
+abbrev pub flagsAllowed : Kind → ℕ → Bool
+flagsAllowed kind flags = if isData kind then leb flags flagsWhole else eqb flags flagsWhole
 
 -- Data carries what two octets can count, every other packet nothing (000, 4.2.4.1)
-abbrev pub payloadAllowed : ℕ → ℕ → ℕ → Bool
-payloadAllowed kind flags x = if eqb kind typeData then leb x 65535 else eqb x 0
+abbrev pub payloadAllowed : Kind → ℕ → ℕ → Bool
+payloadAllowed kind flags x = if isData kind then leb x 65535 else eqb x 0
 
 unfoldable pub strange : Fields → ℕ → Bool
 strange f x =
     not (eqb (f .version) 1)
     || not (eqb (f .reserved) 0)
-    || not (flagsAllowed (f .kind) (f .flags))
-    || not (payloadAllowed (f .kind) (f .flags) x)
+    || not (flagsAllowed (kindOf (f .kind)) (f .flags))
+    || not (payloadAllowed (kindOf (f .kind)) (f .flags) x)
 
 -- ---- what passes 4 and 3, as numbers: by these bounds the octets of a head hold its fields
 

@@ -1,6 +1,10 @@
 // The fields of a packet, and the two tests that look at nothing else: what the base lacks (4), and what is strange (3).
+use crate::kinds::Kind;
+use crate::kinds::is_data;
+use crate::kinds::kind_of;
 ghost use mathlib.Core.Path.{_≡_};
-ghost use Rattle.packet.specs.Tests.{carried, lacking, flagsAllowed, payloadAllowed, strange};
+ghost use Rattle.packet.specs.Kinds.{carried};
+ghost use Rattle.packet.specs.Tests.{lacking, flagsAllowed, payloadAllowed, strange};
 
 // As 000, 4.2.3, names and orders them, each subfield a number of its own, so that a caller can also say what is refused.
 // The payload's length is not among them: it is the payload's own.
@@ -19,16 +23,10 @@ pub struct Fields {
     pub source: u8,
 }
 
-// Packet types (000, Table 4-2).
-pub const DATA: u8 = 0;
+// Where the payload begins, and the octets of a packet without one (document 01, The packet).
+pub const HEAD: usize = 10;
 
-pub const DATA_ACK: u8 = 1;
-
-pub const OPEN: u8 = 2;
-
-pub const CLOSE: u8 = 3;
-
-pub const CONTROL_ACK: u8 = 7;
+pub const LEAST: usize = 12;
 
 // Sequence flags (000, Table 4-1).
 pub const MIDDLE: u8 = 0;
@@ -52,7 +50,7 @@ pub fn is_lacking(f: Fields) -> bool
     if f.prefix != 0 {
         return true;
     }
-    !is_carried(f.kind)
+    !is_carried(kind_of(f.kind))
 }
 
 // Another header field unexpected, with a payload of so many octets.
@@ -65,36 +63,41 @@ pub fn is_strange(f: Fields, length: usize) -> bool
     if f.reserved != 0 {
         return true;
     }
-    if !allows_flags(f.kind, f.flags) {
+    let kind = kind_of(f.kind);
+    if !allows_flags(kind, f.flags) {
         return true;
     }
-    !allows_payload(f.kind, f.flags, length)
+    !allows_payload(kind, f.flags, length)
 }
 
-// The types that the base carries.
-fn is_carried(kind: u8) -> bool
+// The kinds that the base has.
+fn is_carried(kind: Kind) -> bool
     ensures { λ r. ⌜ r ≡ carried kind ⌝ }
 {
-    if kind <= CLOSE {
-        return true;
+    match kind {
+        Kind::Data => true,
+        Kind::DataAck => true,
+        Kind::Open => true,
+        Kind::Close => true,
+        Kind::ControlAck => true,
+        Kind::Lacking(_) => false,
     }
-    kind == CONTROL_ACK
 }
 
-fn allows_flags(kind: u8, flags: u8) -> bool
+fn allows_flags(kind: Kind, flags: u8) -> bool
     ensures { λ r. ⌜ r ≡ flagsAllowed kind flags ⌝ }
 {
-    if kind == DATA {
+    if is_data(kind) {
         return flags <= WHOLE;
     }
     flags == WHOLE
 }
 
 // The flags are not looked at in the base; they are what decides once empty middles are refused.
-fn allows_payload(kind: u8, flags: u8, length: usize) -> bool
+fn allows_payload(kind: Kind, flags: u8, length: usize) -> bool
     ensures { λ r. ⌜ r ≡ payloadAllowed kind flags length ⌝ }
 {
-    if kind == DATA {
+    if is_data(kind) {
         return length <= 65535;
     }
     length == 0

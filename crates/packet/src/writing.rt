@@ -1,5 +1,7 @@
 // A packet is written into a lent buffer, whole or not at all.
 use crate::fields::Fields;
+use crate::fields::HEAD;
+use crate::fields::LEAST;
 use crate::fields::is_lacking;
 use crate::fields::is_strange;
 ghost use mathlib.Core.Path.{_≡_};
@@ -33,14 +35,14 @@ pub fn write_packet(fields: Fields, payload: &[u8], out: &mut [u8]) -> Written
     if is_strange(fields, length) {
         return Written::Strange;
     }
-    if out.len() < 12 + length {
-        return Written::Small(12 + length);
+    if out.len() < LEAST + length {
+        return Written::Small(LEAST + length);
     }
     let head = head_of(fields, length as u16);
     bytes::copy(&head, out);
-    bytes::copy(payload, &mut out[10..]);
-    seal(out, 10 + length);
-    Written::Done(12 + length)
+    bytes::copy(payload, &mut out[HEAD..]);
+    seal(out, HEAD + length);
+    Written::Done(LEAST + length)
 }
 
 // The answer number of document 01.
@@ -56,7 +58,7 @@ pub fn written_number(w: Written) -> u32
 }
 
 // What stands before a payload of so many octets.
-fn head_of(f: Fields, length: u16) -> [u8; 10]
+fn head_of(f: Fields, length: u16) -> [u8; HEAD]
     requires { ⌜ Sound f length ⌝ }
     ensures { λ r. ⌜ r ≡ headOf f length ⌝ }
 {

@@ -20,7 +20,7 @@ use Rattle.packet_read.specs.declared.reading.Read.{Read}
 use Rattle.packet_read.specs.declared.reading.Read.the-variants.{Found, Short, Damaged, Lacking, Strange}
 use Rattle.packet.specs.declared.writing.Written.{Written}
 use Rattle.packet.specs.declared.writing.Written.the-variants as written
-use Rattle.packet.specs.Layout.{payloadAt, wholeLength, headOf, bodyOf, packetOf, fieldsAt, lengthAt}
+use Rattle.packet.specs.Layout.{least, payloadAt, wholeLength, headOf, bodyOf, packetOf, fieldsAt, lengthAt}
 use Rattle.packet.specs.Tests.{short, damaged, lacking, strange, Sound}
 use Rattle.packet_read.specs.Reading.{readOf}
 use Rattle.packet.specs.Writing.{writtenOf, afterWrite}
@@ -68,7 +68,7 @@ packet-read f p l t =
     let s = packetOf f p in
     let fields = fields-back f p (sound f (length p) l t) in
     let x = length-back f p in
-    let count : length s ≡ 12 + length p = packet-length f p in
+    let count : length s ≡ wholeLength f (length p) = packet-length f p in
     read-found s (not-short s (omega arith) (cc)) (sum-back f p) (ap lacking fields ∙ l) (ap₂ strange fields x ∙ t) ∙ (cc)
 
 payload-back : (f : Fields) (p : List ℕ) → take (length p) (drop (payloadAt f) (packetOf f p)) ≡ p
@@ -91,7 +91,7 @@ written-then-read f p out n e =
 -- ---- read, then written
 
 -- what stands before the payload is the head of the fields that stand there
-head-back : (s : List ℕ) → Octets s → 12 ≤ length s → Sound (fieldsAt s) (lengthAt s) → take 10 s ≡ headOf (fieldsAt s) (lengthAt s)
+head-back : (s : List ℕ) → Octets s → least ≤ length s → Sound (fieldsAt s) (lengthAt s) → take (payloadAt (fieldsAt s)) s ≡ headOf (fieldsAt s) (lengthAt s)
 head-back s octets l g =
     let c2 = octets 2 in
     let c4 = octets 4 in
@@ -103,7 +103,7 @@ head-back s octets l g =
     let e5 : getD s 5 0 ≡ pairAt s 5 / 256 = omega arith in
     let e6 : getD s 6 0 ≡ pairAt s 5 % 256 = omega arith in
     let e8 : getD s 8 0 ≡ getD s 8 0 / 16 * 16 + getD s 8 0 % 16 = omega arith in
-    firsts 10 0 s (omega arith) ∙ (cc)
+    firsts (payloadAt (fieldsAt s)) 0 s (omega arith) ∙ (cc)
 
 -- an accepted packet is the packet of its fields and its payload
 packet-same : (s : List ℕ)
@@ -111,30 +111,31 @@ packet-same : (s : List ℕ)
     → short s ≡ false
     → damaged s ≡ false
     → Sound (fieldsAt s) (lengthAt s)
-    → packetOf (fieldsAt s) (take (lengthAt s) (drop 10 s)) ≡ s
+    → packetOf (fieldsAt s) (take (lengthAt s) (drop (payloadAt (fieldsAt s)) s)) ≡ s
 unfolding packetOf bodyOf
 packet-same s octets short undamaged-s g =
     let x = lengthAt s in
     let f = fieldsAt s in
-    let p = take x (drop 10 s) in
-    let n : length s - 2 ≡ 10 + x = omega (arith, whole s short) in
-    let lp : length p ≡ x = length-take-le x (drop 10 s) (omega (arith, whole s short, length-drop 10 s)) in
-    let body : headOf f (length p) ++ p ≡ take (10 + x) s =
-    ap₂ (λ (a b : List ℕ). a ++ b) (ap (headOf f) lp ∙ sym (head-back s octets (long s short) g)) refl ∙ sym (take-add 10 x s) in
-    let sum : crcOf (headOf f (length p) ++ p) ≡ pairAt s (10 + x) =
+    let at = payloadAt f in
+    let p = take x (drop at s) in
+    let n : length s - 2 ≡ at + x = omega (arith, whole s short) in
+    let lp : length p ≡ x = length-take-le x (drop at s) (omega (arith, whole s short, length-drop at s)) in
+    let body : headOf f (length p) ++ p ≡ take (at + x) s =
+    ap₂ (λ (a b : List ℕ). a ++ b) (ap (headOf f) lp ∙ sym (head-back s octets (long s short) g)) refl ∙ sym (take-add at x s) in
+    let sum : crcOf (headOf f (length p) ++ p) ≡ pairAt s (at + x) =
     ap crcOf body ∙ ap (λ (k : ℕ). crcOf (take k s)) (sym n) ∙ undamaged s undamaged-s ∙ ap (pairAt s) n in
-    let hi = getD s (10 + x) 0 in
-    let lo = getD s (10 + x + 1) 0 in
-    let low = octets (10 + x + 1) in
+    let hi = getD s (at + x) 0 in
+    let lo = getD s (at + x + 1) 0 in
+    let low = octets (at + x + 1) in
     let e : pairOf hi lo / 256 ≡ hi = omega arith in
     let e′ : pairOf hi lo % 256 ≡ lo = omega arith in
-    let last : drop (10 + x) s ≡ hi ∷ lo ∷ [] =
-    sym (take-all 2 (drop (10 + x) s) (omega (arith, whole s short, length-drop (10 + x) s)))
-    ∙ firsts 2 (10 + x) s (omega (arith, whole s short))
-    ∙ ap (λ (k : ℕ). hi ∷ getD s k 0 ∷ []) (sym (add-one (10 + x))) in
-    let trailer : octetsOf (crcOf (headOf f (length p) ++ p)) ≡ drop (10 + x) s =
+    let last : drop (at + x) s ≡ hi ∷ lo ∷ [] =
+    sym (take-all 2 (drop (at + x) s) (omega (arith, whole s short, length-drop (at + x) s)))
+    ∙ firsts 2 (at + x) s (omega (arith, whole s short))
+    ∙ ap (λ (k : ℕ). hi ∷ getD s k 0 ∷ []) (sym (add-one (at + x))) in
+    let trailer : octetsOf (crcOf (headOf f (length p) ++ p)) ≡ drop (at + x) s =
     ap octetsOf sum ∙ ap₂ (λ (a b : ℕ). a ∷ b ∷ []) e e′ ∙ sym last in
-    ap₂ (λ (a b : List ℕ). a ++ b) body trailer ∙ take-append-drop (10 + x) s
+    ap₂ (λ (a b : List ℕ). a ++ b) body trailer ∙ take-append-drop (at + x) s
 
 pub read-then-written : ReadThenWritten
 unfolding afterWrite
@@ -142,14 +143,14 @@ read-then-written s out f start x octets e room =
     let a = accepted s f start x e in
     let p = take x (drop start s) in
     let g = sound (fieldsAt s) (lengthAt s) (a .base) (a .plain) in
-    let count : length s ≡ 12 + x = whole s (a .long) ∙ ap (λ (k : ℕ). 12 + k) (a .payload) in
+    let count : length s ≡ wholeLength f x = whole s (a .long) ∙ ap (wholeLength f) (a .payload) in
     let same : packetOf f p ≡ s = cc (packet-same s octets (a .long) (a .sealed) g) in
     let lp : length p ≡ x = length-take-le x (drop start s) (omega (arith, length-drop start s, a .place)) in
     record {
       answer =
           write-done f (length p) (length out) (ap lacking (sym (a .fields)) ∙ a .base) (ap₂ strange (sym (a .fields)) (lp ∙ sym (a .payload)) ∙ a .plain)
           (omega arith)
-          ∙ ap written.Done (ap (λ (k : ℕ). 12 + k) lp ∙ sym count);
+          ∙ ap written.Done (ap (wholeLength f) lp ∙ sym count);
       octets = ap (λ (l : List ℕ). l ++ drop (length s) out) same;
-      count = count ∙ ap (λ (k : ℕ). 12 + k) (sym lp);
+      count = count ∙ ap (wholeLength f) (sym lp);
     }

@@ -1,5 +1,7 @@
 // A packet is read where it lies: the answer says where its payload is.
 use packet::Fields;
+use packet::fields::HEAD;
+use packet::fields::LEAST;
 use packet::fields::is_lacking;
 use packet::fields::is_strange;
 ghost use mathlib.Core.Path.{_≡_};
@@ -43,7 +45,7 @@ pub fn read_packet(packet: &[u8]) -> Read
     }
     Read::Found {
         fields,
-        start: 10,
+        start: HEAD,
         length,
     }
 }
@@ -69,10 +71,10 @@ pub fn read_number(r: Read) -> u32
 fn is_short(packet: &[u8]) -> bool
     ensures { λ r. ⌜ r ≡ short (now (packet .entry)) ⌝ }
 {
-    if packet.len() < 12 {
+    if packet.len() < LEAST {
         return true;
     }
-    packet.len() != 12 + length_at(packet)
+    packet.len() != LEAST + length_at(packet)
 }
 
 // The last two octets are not the check sum of those before.

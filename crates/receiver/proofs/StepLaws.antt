@@ -10,7 +10,7 @@ use Rattle.packet.specs.declared.fields.Fields.{Fields}
 use Rattle.packet.specs.declared.writing.Written.{Written}
 use Rattle.packet.specs.declared.writing.Written.the-variants as written
 use Rattle.packet.specs.Layout.{packetOf}
-use Rattle.packet.specs.Tests.{lacking, strange}
+use Rattle.packet.specs.Tests.{lacking, strange, flagsWhole}
 use Rattle.packet.specs.Writing.{writtenOf, afterWrite}
 use Rattle.packet.proofs.WriteLaws.{write-done}
 use Rattle.channel.specs.declared.record.Node.{Node}
@@ -18,6 +18,8 @@ use Rattle.channel.specs.declared.record.Addresses.{Addresses}
 use Rattle.channel.specs.declared.record.Channel.{Channel}
 use Rattle.channel.specs.declared.answer.Refusal.the-variants as refusal
 use Rattle.channel.specs.Record.{closed, enabled, opened, closing, lateOpen, controlNumber, noLone, heldIn, withState, withTimers}
+use Rattle.packet.specs.declared.kinds.Kind.{Kind}
+use Rattle.packet.specs.Kinds.{kindOf}
 use Rattle.channel.specs.Steps.{refusing, doing, repeating, failing, enabledOf, outgoingOf}
 use Rattle.receiver.specs.Receiving.{ackLength, ackKind, leaving, shutFor, withClosing, openStep, openArrives, closeArrives, controlStep, tickStep}
 
@@ -104,26 +106,26 @@ module _ (c : Channel) where
 -- ---- an ack: the writer never refuses its fields
 
 module _ (node : Node) (a : Addresses) (number : ℕ) where
-  ack-base : (ofData : Bool) → lacking (outgoingOf node a (ackKind ofData) 3 number) ≡ false
-  unfolding lacking
+  ack-base : (ofData : Bool) → lacking (outgoingOf node a (ackKind ofData) flagsWhole number) ≡ false
+  unfolding lacking kindOf
   ack-base true = refl
   ack-base false = refl
 
-  ack-plain : (ofData : Bool) → strange (outgoingOf node a (ackKind ofData) 3 number) 0 ≡ false
-  unfolding strange
+  ack-plain : (ofData : Bool) → strange (outgoingOf node a (ackKind ofData) flagsWhole number) 0 ≡ false
+  unfolding strange kindOf
   ack-plain true = refl
   ack-plain false = refl
 
-  pub ack-written : (ofData : Bool) (kind : ℕ) (f : Fields) (w : Written) (out s : List ℕ)
+  pub ack-written : (ofData : Bool) (kind : Kind) (f : Fields) (w : Written) (out s : List ℕ)
       → kind ≡ ackKind ofData
-      → f ≡ outgoingOf node a kind 3 number
+      → f ≡ outgoingOf node a kind flagsWhole number
       → w ≡ writtenOf f 0 (length out)
       → s ≡ afterWrite w f [] out
       → ackLength ≤ length out
-      → s ≡ packetOf (outgoingOf node a (ackKind ofData) 3 number) [] ++ drop ackLength out
+      → s ≡ packetOf (outgoingOf node a (ackKind ofData) flagsWhole number) [] ++ drop ackLength out
   unfolding afterWrite
   ack-written ofData kind f w out s ek ef ew es h =
-      let g = outgoingOf node a (ackKind ofData) 3 number in
-      let same : f ≡ g = ef ∙ ap (λ (x : ℕ). outgoingOf node a x 3 number) ek in
-      let done : w ≡ written.Done 12 = ew ∙ ap (λ (x : Fields). writtenOf x 0 (length out)) same ∙ write-done g 0 (length out) (ack-base ofData) (ack-plain ofData) h in
-      es ∙ ap (λ (x : Written). afterWrite x f [] out) done ∙ ap (λ (x : Fields). packetOf x [] ++ drop 12 out) same
+      let g = outgoingOf node a (ackKind ofData) flagsWhole number in
+      let same : f ≡ g = ef ∙ ap (λ (x : Kind). outgoingOf node a x flagsWhole number) ek in
+      let done : w ≡ written.Done ackLength = ew ∙ ap (λ (x : Fields). writtenOf x 0 (length out)) same ∙ write-done g 0 (length out) (ack-base ofData) (ack-plain ofData) h in
+      es ∙ ap (λ (x : Written). afterWrite x f [] out) done ∙ ap (λ (x : Fields). packetOf x [] ++ drop ackLength out) same

@@ -5,6 +5,9 @@ use mathlib.Core.List.{List}
 use lib.Dec.{leb, eqb}
 use Rattle.laws.specs.Choice.{if_then_else_}
 use Rattle.ring.specs.Ring.{backOf, cleared}
+use Rattle.packet.specs.declared.kinds.Kind.{Kind}
+use Rattle.packet.specs.declared.kinds.Kind.the-variants.{DataAck, ControlAck}
+use Rattle.packet.specs.Layout.{least}
 use Rattle.channel.specs.declared.record.Limits.{Limits}
 use Rattle.channel.specs.declared.record.Window.{Window}
 use Rattle.channel.specs.declared.record.Timers.{Timers}
@@ -14,13 +17,13 @@ use Rattle.channel.specs.declared.answer.Refusal.the-variants as refusal
 use Rattle.channel.specs.Record.{closed, enabled, opened, closing, lateOpen, controlNumber, noLone, heldIn, withState, withReason, withWindow, withTimers, withMarks}
 use Rattle.channel.specs.Steps.{refusing, doing, repeating, failing, enabledOf}
 
--- an Ack's octets
+-- an Ack's octets: it has no payload
 abbrev pub ackLength : ℕ
-ackLength = 12
+ackLength = least
 
--- the type of the Ack of a Data packet, or else of a Control packet (000, Table 4-2)
-abbrev pub ackKind : Bool → ℕ
-ackKind ofData = if ofData then 1 else 7
+-- the kind of the Ack of a Data packet, or else of a Control packet
+abbrev pub ackKind : Bool → Kind
+ackKind ofData = if ofData then DataAck else ControlAck
 
 -- ---- leaving OPEN: complete units stay to be taken, unfinished ones and segments past the start are dropped (house)
 

@@ -3,13 +3,14 @@ use channel::Answer;
 use channel::Channel;
 use channel::Stepped;
 use channel::record::CLOSED;
+use packet::fields::LEAST;
 ghost use mathlib.Core.Path.{_≡_};
 ghost use Rattle.channel.specs.Steps.{repeating, failing};
 ghost use Rattle.channel.specs.Asked.{Ringed};
 ghost use Rattle.receiver.specs.Receiving.{ackLength, leaving, shutFor};
 
 // The octets of an ack.
-pub const ACK: usize = 12;
+pub const ACK: usize = LEAST;
 
 // Into another state, with the close timer at so many ticks. What is kept ends where the unit on the way begins.
 pub fn leave(c: Channel, state: u8, ticks: u16) -> Channel

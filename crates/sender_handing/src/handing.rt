@@ -9,8 +9,8 @@ use channel::step::done;
 use channel::step::outgoing;
 use channel::step::refused;
 use packet::Fields;
-use packet::fields::CLOSE;
-use packet::fields::DATA;
+use packet::Kind;
+use packet::fields::LEAST;
 use packet::fields::WHOLE;
 use sender_packets::handing::again_at;
 use sender_packets::handing::again_out;
@@ -23,6 +23,7 @@ ghost use lib.Dec.{eqb};
 ghost use lib.ListN.{length, getD};
 ghost use Rattle.laws.specs.Choice.{if_then_else_};
 ghost use Rattle.slots.specs.Slots.{segmentIn};
+ghost use Rattle.packet.specs.declared.kinds.Kind.the-variants.{Open, Close};
 ghost use Rattle.channel.specs.Places.{slotOf};
 ghost use Rattle.channel.specs.Record.{enabled};
 ghost use Rattle.channel.specs.Asked.{Asked};
@@ -35,7 +36,7 @@ fn send(before: Channel, after: Channel, fields: Fields, payload: &[u8], out: &m
     requires { ⌜ Plain fields (length (now payload)) ⌝ }
     ensures { λ r. ⌜ (r ≡ sentStep before after (length (now (payload .entry))) (length (now (out .entry)))) × (now (out .exit) ≡ sentOut fields (now (payload .entry)) (now (out .entry))) ⌝ }
 {
-    let n = 12 + payload.len();
+    let n = LEAST + payload.len();
     if out.len() < n {
         return refused(before, Refusal::Small(n));
     }
@@ -44,13 +45,13 @@ fn send(before: Channel, after: Channel, fields: Fields, payload: &[u8], out: &m
 }
 
 // An Open in ENABLED, a Close in CLOSING, both numbered 0.
-fn control_kind(state: u8) -> u8
-    ensures { λ r. ⌜ r ≡ (if eqb state enabled then 2 else 3) ⌝ }
+fn control_kind(state: u8) -> Kind
+    ensures { λ r. ⌜ r ≡ (if eqb state enabled then Open else Close) ⌝ }
 {
     if state == ENABLED {
-        packet::fields::OPEN
+        Kind::Open
     } else {
-        CLOSE
+        Kind::Close
     }
 }
 
@@ -80,7 +81,7 @@ fn hand_data(
     let slot = slot_of(c.limits, place);
     let marks = c.marks;
     let number = std::num::wrapping_add_u8(c.window.start, i as u8);
-    let fields = outgoing(node, c.addresses, DATA, marks[place] - 1, number);
+    let fields = outgoing(node, c.addresses, Kind::Data, marks[place] - 1, number);
     let from = slot * c.limits.payload;
     let end = from + lens[slot] as usize;
     send(c, after, fields, &mem[from..end], out)

@@ -15,8 +15,11 @@ use Rattle.ring.specs.Ring.{roundOf}
 use Rattle.slots.specs.Slots.{segmentIn}
 use Rattle.channel.specs.Places.{slotOf}
 use Rattle.packet.specs.declared.fields.Fields.{Fields}
+use Rattle.packet.specs.declared.kinds.Kind.the-variants.{Data, Open, Close}
 use Rattle.packet.specs.declared.writing.Written.the-variants as written
-use Rattle.packet.specs.Tests.{lacking, strange}
+use Rattle.packet.specs.Kinds.{kindOf}
+use Rattle.packet.specs.Layout.{wholeLength}
+use Rattle.packet.specs.Tests.{lacking, strange, flagsWhole}
 use Rattle.packet.specs.Writing.{afterWrite}
 use Rattle.channel.specs.declared.record.Node.{Node}
 use Rattle.channel.specs.declared.record.Addresses.{Addresses}
@@ -24,7 +27,7 @@ use Rattle.channel.specs.declared.record.Channel.{Channel}
 use Rattle.channel.specs.declared.answer.Answer.the-variants.{Done}
 use Rattle.channel.specs.declared.answer.Refusal.the-variants as refusal
 use Rattle.channel.specs.Record.{enabled, opened, closing}
-use Rattle.channel.specs.Steps.{refusing, doing, outgoingOf}
+use Rattle.channel.specs.Steps.{refusing, doing, outgoingOf, outgoingLength}
 use Rattle.sender_packets.specs.Asked.{Plain}
 use Rattle.sender.specs.Directives.{placeAt}
 use Rattle.sender_packets.specs.HandingOut.{againIn, againAt, readyControl, readyAgain, nextInWindow, readyNew, ready, rankOf, controlFields, controlOut, againOut, newOut, dataFields, nextFields, nextPayload, nextOut, sentStep, sentOut, handStep, handOut}
@@ -141,54 +144,54 @@ module _ (acked left : List ℕ) (slots : ℕ) where
 -- ---- a packet that goes out
 
 module _ (before after : Channel) (x n : ℕ) where
-  pub sent-small : n < 12 + x → sentStep before after x n ≡ refusing before (refusal.Small (12 + x))
-  sent-small h = chosen (ltb n (12 + x)) _ _ (lt-ltb _ _ h)
+  pub sent-small : n < outgoingLength (before .addresses) x → sentStep before after x n ≡ refusing before (refusal.Small (outgoingLength (before .addresses) x))
+  sent-small h = chosen (ltb n (outgoingLength (before .addresses) x)) _ _ (lt-ltb _ _ h)
 
-  pub sent-done : 12 + x ≤ n → sentStep before after x n ≡ doing after (12 + x)
-  sent-done h = passed-by (ltb n (12 + x)) _ _ (le-ltb _ _ h)
+  pub sent-done : outgoingLength (before .addresses) x ≤ n → sentStep before after x n ≡ doing after (outgoingLength (before .addresses) x)
+  sent-done h = passed-by (ltb n (outgoingLength (before .addresses) x)) _ _ (le-ltb _ _ h)
 
 module _ (f : Fields) (p out : List ℕ) where
-  pub out-small : length out < 12 + length p → sentOut f p out ≡ out
-  out-small h = chosen (ltb (length out) (12 + length p)) _ _ (lt-ltb _ _ h)
+  pub out-small : length out < wholeLength f (length p) → sentOut f p out ≡ out
+  out-small h = chosen (ltb (length out) (wholeLength f (length p))) _ _ (lt-ltb _ _ h)
 
-  pub out-done : 12 + length p ≤ length out → sentOut f p out ≡ afterWrite (written.Done (12 + length p)) f p out
-  out-done h = passed-by (ltb (length out) (12 + length p)) _ _ (le-ltb _ _ h)
+  pub out-done : wholeLength f (length p) ≤ length out → sentOut f p out ≡ afterWrite (written.Done (wholeLength f (length p))) f p out
+  out-done h = passed-by (ltb (length out) (wholeLength f (length p))) _ _ (le-ltb _ _ h)
 
 -- its writer never refuses it
 module _ (node : Node) (a : Addresses) where
-  open-base : lacking (outgoingOf node a 2 3 0) ≡ false
-  unfolding lacking
+  open-base : lacking (outgoingOf node a Open flagsWhole 0) ≡ false
+  unfolding lacking kindOf
   open-base = refl
 
-  close-base : lacking (outgoingOf node a 3 3 0) ≡ false
-  unfolding lacking
+  close-base : lacking (outgoingOf node a Close flagsWhole 0) ≡ false
+  unfolding lacking kindOf
   close-base = refl
 
-  open-plain : strange (outgoingOf node a 2 3 0) 0 ≡ false
-  unfolding strange
+  open-plain : strange (outgoingOf node a Open flagsWhole 0) 0 ≡ false
+  unfolding strange kindOf
   open-plain = refl
 
-  close-plain : strange (outgoingOf node a 3 3 0) 0 ≡ false
-  unfolding strange
+  close-plain : strange (outgoingOf node a Close flagsWhole 0) 0 ≡ false
+  unfolding strange kindOf
   close-plain = refl
 
-  pub control-plain : (state : ℕ) → Plain (outgoingOf node a (if eqb state enabled then 2 else 3) 3 0) 0
+  pub control-plain : (state : ℕ) → Plain (outgoingOf node a (if eqb state enabled then Open else Close) flagsWhole 0) 0
   control-plain state = go (eqb state enabled)
     where
-      go : (t : Bool) → Plain (outgoingOf node a (if t then 2 else 3) 3 0) 0
+      go : (t : Bool) → Plain (outgoingOf node a (if t then Open else Close) flagsWhole 0) 0
       go true = record { base = open-base; plain = open-plain; short = omega arith }
       go false = record { base = close-base; plain = close-plain; short = omega arith }
 
   module _ (flags number x : ℕ) where
-    data-base : lacking (outgoingOf node a 0 flags number) ≡ false
-    unfolding lacking
+    data-base : lacking (outgoingOf node a Data flags number) ≡ false
+    unfolding lacking kindOf
     data-base = refl
 
-    data-strange : flags ≤ 3 → x ≤ 1024 → strange (outgoingOf node a 0 flags number) x ≡ false
-    unfolding strange
+    data-strange : flags ≤ 3 → x ≤ 1024 → strange (outgoingOf node a Data flags number) x ≡ false
+    unfolding strange kindOf
     data-strange h k = simp (le-leb flags 3 h, le-leb x 65535 (omega arith))
 
-    pub data-plain : flags ≤ 3 → x ≤ 1024 → Plain (outgoingOf node a 0 flags number) x
+    pub data-plain : flags ≤ 3 → x ≤ 1024 → Plain (outgoingOf node a Data flags number) x
     data-plain h k = record { base = data-base; plain = data-strange h k; short = k }
 
 -- ---- the hand-out of each rank
@@ -212,8 +215,8 @@ module _ (node : Node) (c : Channel) (lens mem out : List ℕ) where
 
   -- the buffer, where the segment in the slot has the slot's length
   sized-out : (f : Fields) (p : List ℕ) (x : ℕ) → length p ≡ x
-      → (if ltb (length out) (12 + x) then out else afterWrite (written.Done (12 + x)) f p out) ≡ sentOut f p out
-  sized-out f p x e = ap (λ (k : ℕ). if ltb (length out) (12 + k) then out else afterWrite (written.Done (12 + k)) f p out) (sym e)
+      → (if ltb (length out) (wholeLength f x) then out else afterWrite (written.Done (wholeLength f x)) f p out) ≡ sentOut f p out
+  sized-out f p x e = ap (λ (k : ℕ). if ltb (length out) (wholeLength f k) then out else afterWrite (written.Done (wholeLength f k)) f p out) (sym e)
 
   pub out-again : length (segmentIn (c .limits .payload) mem lens (slotOf c (placeAt c (againAt c)))) ≡ getD lens (slotOf c (placeAt c (againAt c))) 0
       → handOut node c lens mem 1 out ≡ sentOut (dataFields node c (againAt c)) (segmentIn (c .limits .payload) mem lens (slotOf c (placeAt c (againAt c)))) out

@@ -8,6 +8,7 @@ use lib.ListN.{length, getD, drop, take}
 use Rattle.slots.specs.Slots.{segmentIn}
 use Rattle.channel.specs.Places.{slotOf}
 use Rattle.packet.specs.declared.fields.Fields.{Fields}
+use Rattle.packet.specs.declared.kinds.Kind.the-variants.{Data}
 use Rattle.channel.specs.declared.record.Node.{Node}
 use Rattle.channel.specs.declared.record.Channel.{Channel}
 use Rattle.channel.specs.Steps.{outgoingOf}
@@ -86,7 +87,7 @@ module _ (c : Channel) (mem lens : List ℕ) (a : Asked c mem lens) (i s t : ℕ
       ap length part-is ∙ segment-length (c .limits .slots) (c .limits .payload) mem lens t (a .sized) (y .slot) (y .short)
 
   module _ (node : Node) (number : ℕ) (g : Fields) (n : number ≡ (c .window .start + i) % 256)
-      (is : g ≡ outgoingOf node (c .addresses) 0 (getD (c .marks) s 0 - 1) number) where
+      (is : g ≡ outgoingOf node (c .addresses) Data (getD (c .marks) s 0 - 1) number) where
     pub part-plain : Plain g (length part)
     part-plain =
         let y = lying c mem lens a i l s t e f in
@@ -99,5 +100,5 @@ module _ (c : Channel) (mem lens : List ℕ) (a : Asked c mem lens) (i s t : ℕ
     pub part-out : (out : List ℕ) → sentOut g part out ≡ sentOut (dataFields node c i) (segmentIn (c .limits .payload) mem lens (slotOf c (placeAt c i))) out
     part-out out =
         ap₂ (λ (x : Fields) (p : List ℕ). sentOut x p out)
-        (is ∙ ap₂ (λ (p k : ℕ). outgoingOf node (c .addresses) 0 (getD (c .marks) p 0 - 1) k) e n)
+        (is ∙ ap₂ (λ (p k : ℕ). outgoingOf node (c .addresses) Data (getD (c .marks) p 0 - 1) k) e n)
         (part-is ∙ ap (segmentIn (c .limits .payload) mem lens) (f ∙ ap (slotOf c) e))

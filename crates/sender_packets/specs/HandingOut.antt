@@ -10,7 +10,10 @@ use Rattle.ring.specs.Ring.{roundOf}
 use Rattle.slots.specs.Slots.{segmentIn}
 use Rattle.channel.specs.Places.{slotOf}
 use Rattle.packet.specs.declared.fields.Fields.{Fields}
+use Rattle.packet.specs.declared.kinds.Kind.the-variants.{Data, Open, Close}
 use Rattle.packet.specs.declared.writing.Written.the-variants as written
+use Rattle.packet.specs.Layout.{wholeLength}
+use Rattle.packet.specs.Tests.{flagsWhole}
 use Rattle.packet.specs.Writing.{afterWrite}
 use Rattle.channel.specs.declared.record.Node.{Node}
 use Rattle.channel.specs.declared.record.Limits.{Limits}
@@ -19,7 +22,7 @@ use Rattle.channel.specs.declared.record.Channel.{Channel}
 use Rattle.channel.specs.declared.step.Stepped.{Stepped}
 use Rattle.channel.specs.declared.answer.Refusal.the-variants as refusal
 use Rattle.channel.specs.Record.{enabled, opened, closing, withControl, withWindow, withTimers, withAcked}
-use Rattle.channel.specs.Steps.{refusing, doing, outgoingOf}
+use Rattle.channel.specs.Steps.{refusing, doing, outgoingOf, outgoingLength}
 use Rattle.channel.specs.Lone.{isReady, handedOut}
 use Rattle.sender.specs.Directives.{placeAt}
 
@@ -66,12 +69,12 @@ rankOf c = if ready 0 c then 0 else if ready 1 c then 1 else if ready 2 c then 2
 
 -- an Open in ENABLED, a Close in CLOSING, both numbered 0
 abbrev pub controlFields : Node → Channel → Fields
-controlFields node c = outgoingOf node (c .addresses) (if eqb (c .phase .state) enabled then 2 else 3) 3 0
+controlFields node c = outgoingOf node (c .addresses) (if eqb (c .phase .state) enabled then Open else Close) flagsWhole 0
 
 -- the i-th segment from the start on: its flags are its mark less 1, its number counts on from the start
 abbrev pub dataFields : Node → Channel → ℕ → Fields
 dataFields node c i =
-    outgoingOf node (c .addresses) 0 (getD (c .marks) (placeAt c i) 0 - 1) ((c .window .start + i) % 256)
+    outgoingOf node (c .addresses) Data (getD (c .marks) (placeAt c i) 0 - 1) ((c .window .start + i) % 256)
 
 -- the timer of the segment at a place starts at the timeout, and so many resends are left to it
 abbrev pub timedAt : Channel → ℕ → ℕ → Channel
@@ -118,16 +121,18 @@ nextOut c rank = if eqb rank 0 then controlOut c else if eqb rank 1 then againOu
 
 -- how many octets the packet has: only its payload's length counts
 abbrev pub nextLength : Channel → List ℕ → ℕ → ℕ
-nextLength c lens rank = 12 + (if eqb rank 0 then 0 else getD lens (slotOf c (placeAt c (segmentFor c rank))) 0)
+nextLength c lens rank = outgoingLength (c .addresses) (if eqb rank 0 then 0 else getD lens (slotOf c (placeAt c (segmentFor c rank))) 0)
 
 -- a packet with a payload of x octets goes out into a buffer of n, and the channel is then another; 11 if it does not fit, and nothing changes
 abbrev pub sentStep : Channel → Channel → ℕ → ℕ → Stepped
-sentStep before after x n = if ltb n (12 + x) then refusing before (refusal.Small (12 + x)) else doing after (12 + x)
+sentStep before after x n =
+    if ltb n (outgoingLength (before .addresses) x) then refusing before (refusal.Small (outgoingLength (before .addresses) x))
+    else doing after (outgoingLength (before .addresses) x)
 
 -- the buffer afterwards
 abbrev pub sentOut : Fields → List ℕ → List ℕ → List ℕ
 sentOut f p out =
-    if ltb (length out) (12 + length p) then out else afterWrite (written.Done (12 + length p)) f p out
+    if ltb (length out) (wholeLength f (length p)) then out else afterWrite (written.Done (wholeLength f (length p))) f p out
 
 -- the answer for a rank that is ready, with a buffer of n octets: 11 if the packet does not fit, and nothing changes
 unfoldable pub handStep : Channel → List ℕ → ℕ → ℕ → Stepped

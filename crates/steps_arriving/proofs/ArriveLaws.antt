@@ -3,35 +3,32 @@
 use mathlib.Core.Path.{_≡_, sym, ap, ap₂, _∙_, subst}
 use mathlib.Core.Bool.{Bool, true, false, true≢false}
 use mathlib.Core.List.{List}
-use Prim.Native.Nat.{ℕ, _+_, _<_}
+use Prim.Native.Nat.{ℕ, _≤_, _<_}
 use native.Mathlib.Nat.{lt-irrefl}
-use borrow.Author.Tests.{eq-eqb, ne-eqb}
-use lib.Dec.{eqb}
 use lib.ListN.{length}
 use Rattle.laws.proofs.Choice.{either-way, passed-by}
 use Rattle.packet.specs.declared.fields.Fields.{Fields}
-use Rattle.packet.specs.Layout.{fieldsAt, lengthAt}
+use Rattle.packet.specs.declared.kinds.Kind.{Kind}
+use Rattle.packet.specs.Kinds.{kindOf}
+use Rattle.packet.specs.Layout.{wholeLength, fieldsAt, lengthAt}
 use Rattle.packet.proofs.Tests.{whole, sound}
 use Rattle.walks.specs.Serving.{works}
 use Rattle.channel.specs.declared.record.Addresses.{Addresses}
 use Rattle.channel.specs.declared.record.Node.{Node}
 use Rattle.channel.specs.declared.record.Channel.{Channel}
 use Rattle.channel.specs.declared.answer.Refusal.the-variants as refusal
-use Rattle.channel.specs.Record.{receives}
 use Rattle.channel.specs.Steps.{refusing}
-use Rattle.sender_acks.specs.Acks.{controlAckStep, dataAckStep}
-use Rattle.receiver.specs.Receiving.{controlStep}
+use Rattle.receiver.specs.Receiving.{ackLength}
 use Rattle.table.specs.declared.looking.Look.{Look}
 use Rattle.table.specs.declared.looking.Look.the-variants.{Index, Packet, Ready, Nobody}
 use Rattle.table.specs.declared.deciding.Decision.{Decision}
-use Rattle.table.specs.Looking.{looksFor, same, addressed, graded}
+use Rattle.table.specs.Looking.{same, addressed, graded}
 use Rattle.table.specs.Surveying.{stepping}
-use Rattle.table.proofs.OneLaws.{same-direction}
 use Rattle.arriving_look.specs.Finding.{lookOf}
 use Rattle.arriving_look.proofs.FindLaws.{found-packet}
-use Rattle.arriving_reply.specs.Replying.{replying}
-use Rattle.arriving_data.specs.Data.{unfit, dataFor}
-use Rattle.steps_arriving.specs.Arriving.{arriveBy, payloadIn, arrivalFor, Framed}
+use Rattle.arriving_data.specs.Data.{unfit}
+use Rattle.arriving_data.proofs.DataLaws.{reply-fits}
+use Rattle.steps_arriving.specs.Arriving.{arriveAs, arriveBy, payloadIn, arrivalFor, Framed}
 
 -- ---- what is looked for
 
@@ -39,10 +36,6 @@ use Rattle.steps_arriving.specs.Arriving.{arriveBy, payloadIn, arrivalFo
 addressed-is : (f : Fields) (a : Addresses) → addressed f a < 3 → same a f ≡ true
 addressed-is f a h =
     either-way (same a f) (λ e. e) (λ e. absurd (lt-irrefl 3 (subst (λ (k : ℕ). k < 3) (passed-by (same a f) 0 3 e) h)))
-
--- Data looks for a receiver
-pub data-receives : (a : Addresses) (f : Fields) → same a f ≡ true → f .kind ≡ 0 → a .direction ≡ receives
-data-receives a f e k = same-direction a f e ∙ ap looksFor k
 
 -- what the step asks of the packet
 pub framed : (node : Node) (s out : List ℕ) (at : ℕ) (c : Channel) (look : Look) (f : Fields) (x : ℕ)
@@ -56,7 +49,7 @@ framed node s out at c look f x e h p =
       ours = addressed-is f (c .addresses) (subst (λ (l : Look). graded l at c < 3) p h);
       fields = ef;
       count = ex;
-      whole = ap (λ (k : ℕ). 12 + k) ex ∙ sym (whole s (q .1 .short));
+      whole = ap (wholeLength f) ex ∙ sym (whole s (q .1 .short));
       flags = subst (λ (k : Fields). k .flags < 4) (sym ef) (sound (fieldsAt s) (lengthAt s) (q .1 .lacking) (q .1 .strange) .flags);
       room = q .0;
     }
@@ -94,31 +87,19 @@ not-ready node s room at c look e h p =
     isReady Ready = true
     isReady (Nobody why) = false
 
--- ---- one law for each case
+-- ---- one law for each test, and one for all kinds
 
-module _ (node : Node) (f : Fields) (x : ℕ) (p : List ℕ) (c : Channel) (rank : ℕ) (mem lens out : List ℕ) where
+module _ (node : Node) (f : Fields) (x : ℕ) (p : List ℕ) (c : Channel) (rank : ℕ) (mem lens out : List ℕ) (room : ackLength ≤ length out) where
   pub by-unfit : unfit c f x ≡ true → arriveBy node f x p c rank mem lens out ≡ works (refusing c refusal.Strange) mem lens out
   unfolding arriveBy
-  by-unfit e = simp (e)
+  by-unfit e = simp (reply-fits c (kindOf (f .kind)) (length out) room, e)
 
-  module _ (fit : unfit c f x ≡ false) where
-    pub by-data : f .kind ≡ 0 → arriveBy node f x p c rank mem lens out ≡ dataFor node f p c rank mem lens out
-    unfolding arriveBy
-    by-data e = simp (fit, eq-eqb (f .kind) 0 e)
-
-    pub by-data-ack : (f .kind ≡ 0 → ⊥) → f .kind ≡ 1 → arriveBy node f x p c rank mem lens out ≡ works (dataAckStep c (f .number)) mem lens out
-    unfolding arriveBy
-    by-data-ack n e = simp (fit, ne-eqb (f .kind) 0 n, eq-eqb (f .kind) 1 e)
-
-    pub by-control-ack : (f .kind ≡ 0 → ⊥) → (f .kind ≡ 1 → ⊥) → f .kind ≡ 7
-        → arriveBy node f x p c rank mem lens out ≡ works (controlAckStep c (f .number)) mem lens out
-    unfolding arriveBy
-    by-control-ack n n2 e = simp (fit, ne-eqb (f .kind) 0 n, ne-eqb (f .kind) 1 n2, eq-eqb (f .kind) 7 e)
-
-    pub by-control : (f .kind ≡ 0 → ⊥) → (f .kind ≡ 1 → ⊥) → (f .kind ≡ 7 → ⊥)
-        → arriveBy node f x p c rank mem lens out ≡ replying node c false (f .number) (controlStep c (eqb (f .kind) 2) (f .number)) mem lens out
-    unfolding arriveBy
-    by-control n n2 n3 = simp (fit, ne-eqb (f .kind) 0 n, ne-eqb (f .kind) 1 n2, ne-eqb (f .kind) 7 n3)
+  pub by-kind : unfit c f x ≡ false → (k : Kind) → kindOf (f .kind) ≡ k → arriveBy node f x p c rank mem lens out ≡ arriveAs k node f p c rank mem lens out
+  unfolding arriveBy
+  by-kind fit k e =
+      passed-by _ _ _ (reply-fits c (kindOf (f .kind)) (length out) room)
+      ∙ passed-by (unfit c f x) _ _ fit
+      ∙ ap (λ (z : Kind). arriveAs z node f p c rank mem lens out) e
 
 -- the arrival's step, by the fields that were read
 pub arrival-by : (node : Node) (f : Fields) (x : ℕ) (s : List ℕ) (c : Channel) (d : Decision) (mem lens out : List ℕ) → f ≡ fieldsAt s → x ≡ lengthAt s

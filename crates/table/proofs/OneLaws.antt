@@ -1,6 +1,6 @@
 -- Laws of one record of the survey, and of what the survey decides: one for each case.
 -- Assumes nothing.
-use mathlib.Core.Path.{_≡_, refl, sym, ap₂, _∙_}
+use mathlib.Core.Path.{_≡_, refl, sym, ap, ap₂, _∙_}
 use mathlib.Core.Bool.{Bool, true, false, _&&_, _||_}
 use mathlib.Core.List.{List}
 use Prim.Native.Nat.{ℕ, _+_, _≤_, _<_}
@@ -10,6 +10,8 @@ use lib.Dec.{eqb}
 use lib.ListN.{length, drop, length-take, length-drop}
 use Rattle.laws.proofs.Choice.{chosen, passed-by, both}
 use Rattle.packet.specs.declared.fields.Fields.{Fields}
+use Rattle.packet.specs.declared.kinds.Kind.{Kind}
+use Rattle.packet.specs.Kinds.{kindOf}
 use Rattle.channel.specs.declared.record.Addresses.{Addresses}
 use Rattle.channel.specs.declared.record.Channel.{Channel}
 use Rattle.channel.specs.Record.{sends, receives}
@@ -95,20 +97,17 @@ module _ (v : Survey) (n m l : ℕ) where
 
 -- ---- a packet's channel
 
-pub same-rest : (a : Addresses) (f : Fields) → a .channel ≡ f .channel → a .remote ≡ f .source → same a f ≡ eqb (a .direction) (looksFor (f .kind))
+pub same-rest : (a : Addresses) (f : Fields) → a .channel ≡ f .channel → a .remote ≡ f .source → same a f ≡ eqb (a .direction) (looksFor (kindOf (f .kind)))
 unfolding same
-same-rest a f e e2 = ap₂ (λ (x y : Bool). x && y && eqb (a .direction) (looksFor (f .kind))) (eq-eqb _ _ e) (eq-eqb _ _ e2)
+same-rest a f e e2 = ap₂ (λ (x y : Bool). x && y && eqb (a .direction) (looksFor (kindOf (f .kind)))) (eq-eqb _ _ e) (eq-eqb _ _ e2)
 
 -- its direction is the one looked for: Acks find a sender, Data and Control a receiver
-pub same-direction : (a : Addresses) (f : Fields) → same a f ≡ true → a .direction ≡ looksFor (f .kind)
+pub same-direction : (a : Addresses) (f : Fields) → same a f ≡ true → a .direction ≡ looksFor (kindOf (f .kind))
 unfolding same
-same-direction a f e = eqb-true (a .direction) (looksFor (f .kind)) (both (eqb (a .channel) (f .channel) && eqb (a .remote) (f .source)) _ e .1)
+same-direction a f e = eqb-true (a .direction) (looksFor (kindOf (f .kind))) (both (eqb (a .channel) (f .channel) && eqb (a .remote) (f .source)) _ e .1)
 
-pub acks-find : (a : Addresses) (f : Fields) → same a f ≡ true → (eqb (f .kind) 1 || eqb (f .kind) 7) ≡ true → a .direction ≡ sends
-acks-find a f e k = same-direction a f e ∙ chosen (eqb (f .kind) 1 || eqb (f .kind) 7) sends receives k
-
-pub others-find : (a : Addresses) (f : Fields) → same a f ≡ true → (eqb (f .kind) 1 || eqb (f .kind) 7) ≡ false → a .direction ≡ receives
-others-find a f e k = same-direction a f e ∙ passed-by (eqb (f .kind) 1 || eqb (f .kind) 7) sends receives k
+pub kind-finds : (a : Addresses) (f : Fields) (k : Kind) → same a f ≡ true → kindOf (f .kind) ≡ k → a .direction ≡ looksFor k
+kind-finds a f k e is = same-direction a f e ∙ ap looksFor is
 
 pub ready-rank : (c : Channel) → c .addresses .direction ≡ sends → readied c ≡ rankOf c
 ready-rank c e = chosen (eqb (c .addresses .direction) sends) (rankOf c) 3 (eq-eqb _ _ e)

@@ -1,11 +1,14 @@
 -- Which record of the table a call is for (document 01, Answer numbers: 'Data and Control look for a receiving record, Acks for a sending
 -- one; none found is 14'; Sending: 'among channels of equal rank the lowest index').
 use Prim.Native.Nat.{ℕ, _+_}
-use mathlib.Core.Bool.{Bool, _&&_, _||_}
+use mathlib.Core.Bool.{Bool, _&&_}
 use mathlib.Core.List.{List, [], _∷_}
 use lib.Dec.{leb, ltb, eqb}
 use Rattle.laws.specs.Choice.{if_then_else_}
 use Rattle.packet.specs.declared.fields.Fields.{Fields}
+use Rattle.packet.specs.declared.kinds.Kind.{Kind}
+use Rattle.packet.specs.declared.kinds.Kind.the-variants.{Data, DataAck, Open, Close, ControlAck, Lacking}
+use Rattle.packet.specs.Kinds.{kindOf}
 use Rattle.channel.specs.declared.record.Addresses.{Addresses}
 use Rattle.channel.specs.declared.record.Channel.{Channel}
 use Rattle.channel.specs.declared.answer.Refusal.{Refusal}
@@ -15,13 +18,18 @@ use Rattle.sender_packets.specs.HandingOut.{rankOf}
 use Rattle.table.specs.declared.looking.Look.{Look}
 use Rattle.table.specs.declared.looking.Look.the-variants.{Index, Packet, Ready, Nobody}
 
--- the direction of the record that a packet of a type looks for
-abbrev pub looksFor : ℕ → ℕ
-looksFor kind = if eqb kind 1 || eqb kind 7 then sends else receives
+-- the direction of the record that a packet of a kind looks for
+abbrev pub looksFor : Kind → ℕ
+looksFor Data = receives
+looksFor DataAck = sends
+looksFor Open = receives
+looksFor Close = receives
+looksFor ControlAck = sends
+looksFor (Lacking code) = receives
 
 -- a packet is for the channel with these addresses
 unfoldable pub same : Addresses → Fields → Bool
-same a f = eqb (a .channel) (f .channel) && eqb (a .remote) (f .source) && eqb (a .direction) (looksFor (f .kind))
+same a f = eqb (a .channel) (f .channel) && eqb (a .remote) (f .source) && eqb (a .direction) (looksFor (kindOf (f .kind)))
 
 -- ---- how well a record suits: 0 best, 3 not at all
 

@@ -5,8 +5,8 @@ use channel::Refusal;
 use channel::record::RECEIVES;
 use channel::record::SENDS;
 use packet::Fields;
-use packet::fields::CONTROL_ACK;
-use packet::fields::DATA_ACK;
+use packet::Kind;
+use packet::kinds::kind_of;
 use sender_packets::rank_of;
 ghost use mathlib.Core.Path.{_≡_};
 ghost use Rattle.channel.specs.Asked.{Ringed};
@@ -27,16 +27,17 @@ pub enum Look {
 pub const UNFIT: usize = 3;
 
 // Acks look for a record that sends, Data and Control for one that receives.
-fn looks_for(kind: u8) -> u8
+fn looks_for(kind: Kind) -> u8
     ensures { λ r. ⌜ r ≡ looksFor kind ⌝ }
 {
-    if kind == DATA_ACK {
-        return SENDS;
+    match kind {
+        Kind::Data => RECEIVES,
+        Kind::DataAck => SENDS,
+        Kind::Open => RECEIVES,
+        Kind::Close => RECEIVES,
+        Kind::ControlAck => SENDS,
+        Kind::Lacking(_) => RECEIVES,
     }
-    if kind == CONTROL_ACK {
-        return SENDS;
-    }
-    RECEIVES
 }
 
 // The packet is for the channel with these addresses.
@@ -49,7 +50,7 @@ pub fn is_same(a: Addresses, f: Fields) -> bool
     if a.remote != f.source {
         return false;
     }
-    a.direction == looks_for(f.kind)
+    a.direction == looks_for(kind_of(f.kind))
 }
 
 fn grade_index(i: usize, j: usize) -> usize

@@ -3,6 +3,7 @@
 use mathlib.Core.Path.{_≡_, refl, sym, ap, ap₂, _∙_}
 use Rattle.packet_read.specs.declared.reading.Read.{Read}
 use borrow.Author.Tests.{lt-ltb, le-ltb, le-leb, lt-leb, eq-eqb, ne-eqb, not-true, not-false}
+use Rattle.receiver.specs.Receiving.{ackLength}
 use Rattle.arriving_look.specs.Finding.{lookOf, lookBy}
 use Rattle.packet_read.specs.Reading.{readOf}
 use borrow.Author.Needs.{needs}
@@ -15,7 +16,7 @@ use Rattle.arriving_look.proofs.finding.look_by.Reads as look-by-reads
 
 returns : tie.Need-returns
 unfolding lookOf
-returns c = let a = c .before .before .args in simp (lt-ltb (a .room) 12 (c .if1 .taken))
+returns c = let a = c .before .before .args in simp (lt-ltb (a .room) ackLength (c .if1 .taken))
 
 read-packet-requires : tie.Need-read-packet-requires
 read-packet-requires c κs = search needs
@@ -25,7 +26,7 @@ look-by-requires c κs = search needs
 
 returns-2 : tie.Need-returns-2
 unfolding lookOf
-returns-2 c = let a = c .before .before .before .before .args in c .look-by .ensures ∙ ap (λ (z : Read). lookBy (a .node) z) (c .before .read-packet .ensures) ∙ simp (le-ltb (a .room) 12 (c .before .before .if1 .left))
+returns-2 c = let a = c .before .before .before .before .args in c .look-by .ensures ∙ ap (λ (z : Read). lookBy (a .node) z) (c .before .read-packet .ensures) ∙ simp (le-ltb (a .room) ackLength (c .before .before .if1 .left))
 
 pub look-of-spec : {M : Type 1} → statement M
 look-of-spec = tie.close (tie.spec returns read-packet-requires look-by-requires returns-2)

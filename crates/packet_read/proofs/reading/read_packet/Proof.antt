@@ -80,7 +80,7 @@ returns-5 c =
     let t4 = ap lacking (sym f) ∙ sym (c .before .before .before .before .is-lacking .ensures) ∙ c .before .before .before .if3 .left in
     let x = c .before .before .length-at .ensures .0 in
     let t3 = ap₂ strange (sym f) (sym x) ∙ sym (c .before .is-strange .ensures) ∙ c .if4 .left in
-    ap₂ (λ (g : Fields) (n : ℕ). Found g 10 n) f x ∙ sym (read-found s t1 t2 t4 t3)
+    ap₂ (λ (g : Fields) (n : ℕ). Found g (payloadAt g) n) f x ∙ sym (read-found s t1 t2 t4 t3)
 
 pub read-packet-spec : {M : Type 1} → statement M
 read-packet-spec =

@@ -1,6 +1,7 @@
 -- `receiver_control::control::close_arrives` meets its contract: a law of `closeArrives` for each case.
 -- Assumes nothing.
 use mathlib.Core.Path.{sym, ap, _∙_}
+use Rattle.receiver.specs.Receiving.{ackLength}
 use Rattle.receiver.proofs.StepLaws.{close-closes, close-again, close-other}
 use Rattle.channel.specs.declared.record.Channel.{Channel}
 use Rattle.channel.specs.Steps.{doing}
@@ -21,7 +22,7 @@ done-requires : tie.Need-done-requires
 done-requires c κs = tt
 
 returns : tie.Need-returns
-returns c = c .done .ensures ∙ ap (λ (x : Channel). doing x 12) (c .before .leave .ensures) ∙ sym (close-closes (c .before .before .before .before .args .c) (c .before .before .if1 .taken))
+returns c = c .done .ensures ∙ ap (λ (x : Channel). doing x ackLength) (c .before .leave .ensures) ∙ sym (close-closes (c .before .before .before .before .args .c) (c .before .before .if1 .taken))
 
 repeated-requires : tie.Need-repeated-requires
 repeated-requires c κs = tt

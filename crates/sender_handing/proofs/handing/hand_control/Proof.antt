@@ -12,6 +12,7 @@ use Rattle.sender_packets.specs.Asked.{Plain}
 use Rattle.sender_packets.specs.HandingOut.{sentStep, sentOut}
 use Rattle.sender_packets.proofs.HandLaws.{control-plain}
 use borrow.Author.Needs.{needs}
+use Rattle.packet.specs.declared.kinds.Kind.{Kind}
 use Rattle.sender_handing.proofs.handing.hand_control.Statement.{statement}
 use Rattle.sender_handing.proofs.handing.hand_control.Tie as tie
 use Rattle.sender_handing.proofs.handing.hand_control.Reads as reads
@@ -37,7 +38,7 @@ send-requires : tie.Need-send-requires
 send-requires c κs =
     let a = c .before .before .before .before .before .before .args in
     subst (λ (f : Fields). Plain f 0)
-    (sym (c .before .before .before .outgoing .ensures ∙ ap (λ (k : ℕ). outgoingOf (a .node) (a .c .addresses) k 3 0) (c .before .before .before .before .control-kind .ensures)))
+    (sym (c .before .before .before .outgoing .ensures ∙ ap (λ (k : Kind). outgoingOf (a .node) (a .c .addresses) k 3 0) (c .before .before .before .before .control-kind .ensures)))
     (control-plain (a .node) (a .c .addresses) (a .c .phase .state))
 
 same-length : tie.Need-same-length
@@ -47,7 +48,7 @@ returns : tie.Need-returns
 returns c =
     let a = c .before .before .before .before .before .before .before .before .before .args in (
       c .before .before .send .ensures .0 ∙ ap (λ (x : Channel). sentStep (a .c) x 0 (length (a .out .now))) (c .before .before .before .before .before .control-out .ensures),
-      c .before .before .send .ensures .1 ∙ ap (λ (f : Fields). sentOut f [] (a .out .now)) (c .before .before .before .before .before .before .outgoing .ensures ∙ ap (λ (k : ℕ). outgoingOf (c .before .before .before .before .before .before .before .before .before .args .node) (c .before .before .before .before .before .before .before .before .before .args .c .addresses) k 3 0) (c .before .before .before .before .before .before .before .control-kind .ensures)),
+      c .before .before .send .ensures .1 ∙ ap (λ (f : Fields). sentOut f [] (a .out .now)) (c .before .before .before .before .before .before .outgoing .ensures ∙ ap (λ (k : Kind). outgoingOf (c .before .before .before .before .before .before .before .before .before .args .node) (c .before .before .before .before .before .before .before .before .before .args .c .addresses) k 3 0) (c .before .before .before .before .before .before .before .control-kind .ensures)),
     )
 
 pub hand-control-spec : {M : Type 1} → statement M

@@ -13,7 +13,7 @@ use Rattle.receiver_control.proofs.control_step.Reads as control-step-reads
 use Rattle.arriving_reply.proofs.replying.reply.Reads as reply-reads
 
 control-step-requires : tie.Need-control-step-requires
-control-step-requires c κs = c .before .before .pre .0
+control-step-requires c κs = c .before .pre .0
 
 reply-requires : tie.Need-reply-requires
 reply-requires c κs = search needs
@@ -22,7 +22,7 @@ same-length : tie.Need-same-length
 same-length c = search needs
 
 returns : tie.Need-returns
-returns c = let a = c .before .before .before .before .before .before .before .args in (c .before .before .before .before .control-step .ensures, c .before .before .reply .ensures ∙ ap (λ (x : Stepped). repliedBy (x .answer) (a .node) (a .c .addresses) false (a .f .number) (a .out .now)) (c .before .before .before .before .control-step .ensures))
+returns c = let a = c .before .before .before .before .before .before .args in (c .before .before .before .before .control-step .ensures, c .before .before .reply .ensures ∙ ap (λ (x : Stepped). repliedBy (x .answer) (a .node) (a .c .addresses) false (a .number) (a .out .now)) (c .before .before .before .before .control-step .ensures))
 
 pub arrive-control-spec : {M : Type 1} → statement M
 arrive-control-spec = tie.close (tie.spec control-step-requires reply-requires same-length returns)

@@ -1,0 +1,41 @@
+-- The kinds of packets, and the codes of their types (000, Table 4-2). No type is told by its number anywhere else.
+use Prim.Native.Nat.{ℕ}
+use mathlib.Core.Bool.{Bool, true, false}
+use lib.Dec.{eqb}
+use Rattle.laws.specs.Choice.{if_then_else_}
+use Rattle.packet.specs.declared.kinds.Kind.{Kind}
+use Rattle.packet.specs.declared.kinds.Kind.the-variants.{Data, DataAck, Open, Close, ControlAck, Lacking}
+
+abbrev pub codeOf : Kind → ℕ
+codeOf Data = 0
+codeOf DataAck = 1
+codeOf Open = 2
+codeOf Close = 3
+codeOf ControlAck = 7
+codeOf (Lacking code) = code
+
+unfoldable pub kindOf : ℕ → Kind
+kindOf code =
+    if eqb code (codeOf Data) then Data
+    else if eqb code (codeOf DataAck) then DataAck
+    else if eqb code (codeOf Open) then Open
+    else if eqb code (codeOf Close) then Close
+    else if eqb code (codeOf ControlAck) then ControlAck
+    else Lacking code
+
+abbrev pub isData : Kind → Bool
+isData Data = true
+isData DataAck = false
+isData Open = false
+isData Close = false
+isData ControlAck = false
+isData (Lacking code) = false
+
+-- the base has it: not Heartbeat, its Ack, Flow Control
+abbrev pub carried : Kind → Bool
+carried Data = true
+carried DataAck = true
+carried Open = true
+carried Close = true
+carried ControlAck = true
+carried (Lacking code) = false
