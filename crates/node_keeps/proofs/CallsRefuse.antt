@@ -208,10 +208,10 @@ module _ (node : Node) (f : Fields) (x : ℕ) (p : List ℕ) (c : Channel) (rank
     where
       go : (small over : Bool) (k : Kind)
           → P
-          (if small then works (refusing c refusal.Small) mem lens out
+          (if small then works (refusing c (refusal.Small (replyLength c k))) mem lens out
           else if over then works (refusing c refusal.Strange) mem lens out
           else arriveAs k node f p c rank mem lens out)
-      go true over k = refuses refusal.Small
+      go true over k = refuses (refusal.Small (replyLength c k))
       go false true k = refuses refusal.Strange
       go false false Data = filed
       go false false DataAck = data-ack

@@ -36,7 +36,7 @@ arriveAs (Lacking code) node f payload c rank mem lens out = works (refusing c r
 -- with what only the channel tells tested first: room for its reply (11), and Data payload over P (3)
 unfoldable pub arriveBy : Node → Fields → ℕ → List ℕ → Step
 arriveBy node f x payload c rank mem lens out =
-    if ltb (length out) (replyLength c (kindOf (f .kind))) then works (refusing c refusal.Small) mem lens out
+    if ltb (length out) (replyLength c (kindOf (f .kind))) then works (refusing c (refusal.Small (replyLength c (kindOf (f .kind))))) mem lens out
     else if unfit c f x then works (refusing c refusal.Strange) mem lens out
     else arriveAs (kindOf (f .kind)) node f payload c rank mem lens out
 

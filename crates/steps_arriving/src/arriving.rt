@@ -84,8 +84,9 @@ fn arrive(
     ensures { λ r. ⌜ works r (now (mem .exit)) (now (lens .exit)) (now (out .exit)) ≡ stepping (arrivalFor node (now (packet .entry))) c d (now (mem .entry)) (now (lens .entry)) (now (out .entry)) ⌝ }
 {
     let kind = kind_of(f.kind);
-    if out.len() < reply_length(c, kind) {
-        return refused(c, Refusal::Small);
+    let wanted = reply_length(c, kind);
+    if out.len() < wanted {
+        return refused(c, Refusal::Small(wanted));
     }
     if is_unfit(c, f, length) {
         return refused(c, Refusal::Strange);
