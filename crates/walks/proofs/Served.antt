@@ -1,4 +1,4 @@
--- What the walks of the calls that serve one record of a table share (`Call.antt`, `Filing.antt`, `Reading.antt`, `Order.antt`).
+-- What the walk of a call that serves one record of a table takes (`Call.antt`), and those of the calls that go over all of them.
 --     Served           their plain types, and the parts of these that the code reads
 --     Tested           the same of a call that is done only where a test holds (`Sweeping.antt`, `Making.antt`)
 --     need, needed     what a step requires: a fact, or nothing where it has no `requires`; and that it is met where the fact holds

@@ -1,5 +1,5 @@
--- What the walks of the calls that survey a table and decide by it share (`Call.antt`, `Filing.antt`, `Reading.antt`, `Order.antt`,
--- `Sweeping.antt`, `Making.antt`): the contract of the survey and its call as one step of a walk, and what the decision says.
+-- What the walks of the calls that survey a table and decide by it share (`Call.antt`, `Sweeping.antt`,
+-- `Making.antt`): the contract of the survey and its call as one step of a walk, and what the decision says.
 --     Survey          the contract of a survey: by the records, lens and what is carried at first, what is carried at last
 --     surveys-shr     it is called; the records and lens are each a `&`, which is passed
 --     surveys-one     the same; the records are a `&mut`, lent for this call and back after it, and lens is a `&`, which is kept too

@@ -6,7 +6,6 @@
 --     Changed      what a call leaves that changes the table alone
 --     serving      the record at the decided index is stepped by F, and stored; where the decision is no index of the table, it has the answer
 --                  and nothing changes
---     ordering     the same of a step by value, which has no slice
 --     saying       what a call leaves, with its answer turned into another value
 --     telling      the same of a call that changes the table alone
 use mathlib.Core.Bool.{Bool, true, false}
@@ -56,13 +55,6 @@ module _ {C N S D : Type 0} (R : Roles C N S D) where
 
   abbrev pub serving : {P : Type 0} → (C → D → P → List ℕ → List ℕ → List ℕ → List ℕ → Worked S) → D → List C → List ℕ → List ℕ → P → List ℕ → List ℕ → Called N C
   serving F d ys m l n x o = servedBy (ltb (R .at d) (length ys)) d ys m l o (F (getD ys (R .at d) (R .blank)) d n m l x o)
-
-  unfoldable pub orderedBy : Bool → D → List C → S → Changed N C
-  orderedBy true d ys w = record { answer = R .said w; table = set ys (R .at d) (R .stored w) }
-  orderedBy false d ys w = record { answer = R .unserved d; table = ys }
-
-  abbrev pub ordering : {P : Type 0} → (C → D → P → S) → D → List C → P → Changed N C
-  ordering F d ys n = orderedBy (ltb (R .at d) (length ys)) d ys (F (getD ys (R .at d) (R .blank)) d n)
 
 -- done where the test holds; where it does not, `bad` is said and nothing changes
 module _ {N C : Type 0} (bad : N) where

@@ -1,8 +1,4 @@
 pub mod Lending
-pub mod LentCall
-pub mod LentOrder
-pub mod LentReading
-pub mod LentFiling
 pub mod LentSweeping
 pub mod LentMaking
 pub mod Door

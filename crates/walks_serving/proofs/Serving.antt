@@ -1,25 +1,20 @@
 -- What a call that serves one record ensures, said by equations of records (`specs/Serving.antt`), in the form that the walks take. The step
 -- makes F, the whole call makes G, which is what all make together (`agree`); begin makes B, survey Sv, and decide Dc.
---     calling, filing, reading     of `Call.antt`, `Filing.antt` and `Reading.antt`. F, G and B have one type: a call that is lent no x or no out
---                                  has [] there, and one that cannot change mem and lens hands them back
---     ordering-by                  of `Order.antt`
+--     calling          of `Call.antt`
 --     true Asks may                what the step requires, and that it may be called; where it has no `requires`,
 --                                  `false (λ c d n m l x o. Unit {0}) (λ ys m l n x o h. tt)`
 -- Assumes nothing.
 use mathlib.Core.Path.{_≡_, refl, sym, ap, subst, _∙_}
 use mathlib.Core.Bool.{Bool, true, false}
-use mathlib.Core.List.{List, []}
+use mathlib.Core.List.{List}
 use Prim.Native.Nat.{ℕ, _<_, _≤_}
 use lib.Dec.{ltb}
 use lib.ListN.{length, getD, set}
 use borrow.Author.Tests.{lt-ltb, le-ltb}
 use denote.RattleType.{RattleType}
-use Rattle.walks.specs.Serving.{Roles, Worked, Called, Changed, works, leaves, changes, servedBy, serving, orderedBy, ordering}
+use Rattle.walks.specs.Serving.{Roles, Worked, Called, works, leaves, servedBy, serving}
 use Rattle.walks.proofs.Served.{Served}
 use Rattle.walks_filing.proofs.Call as Call
-use Rattle.walks_filing.proofs.Filing as Filing
-use Rattle.walks_reading.proofs.Reading as Reading
-use Rattle.walks_reading.proofs.Order as Order
 
 -- ---- the two cases of a call: the decision is an index of the table, or it is none
 module _ {C N S D : Type 0} (R : Roles C N S D) where
@@ -30,14 +25,6 @@ module _ {C N S D : Type 0} (R : Roles C N S D) where
   pub beyond : (d : D) (ys : List C) (m l o : List ℕ) (w : Worked S) → length ys ≤ R .at d → leaves (R .unserved d) ys m l o ≡ servedBy R (ltb (R .at d) (length ys)) d ys m l o w
   unfolding servedBy
   beyond d ys m l o w h = ap (λ (z : Bool). servedBy R z d ys m l o w) (sym (le-ltb (R .at d) (length ys) h))
-
-  pub within-value : (d : D) (ys : List C) (r w : S) → R .at d < length ys → r ≡ w → changes (R .said r) (set ys (R .at d) (R .stored r)) ≡ orderedBy R (ltb (R .at d) (length ys)) d ys w
-  unfolding orderedBy
-  within-value d ys r w h e = ap (λ (z : S). orderedBy R true d ys z) e ∙ ap (λ (z : Bool). orderedBy R z d ys w) (sym (lt-ltb (R .at d) (length ys) h))
-
-  pub beyond-value : (d : D) (ys : List C) (w : S) → length ys ≤ R .at d → changes (R .unserved d) ys ≡ orderedBy R (ltb (R .at d) (length ys)) d ys w
-  unfolding orderedBy
-  beyond-value d ys w h = ap (λ (z : Bool). orderedBy R z d ys w) (sym (le-ltb (R .at d) (length ys) h))
 
 module _ (K : Served) where
   abbrev pub C : Type 0
@@ -86,64 +73,4 @@ module _ (K : Served) where
           may = allowed;
           serves = λ ys m l n x o a v d r m′ l′ o′ ea ev ed h e. within roles d ys m l o r m′ l′ o′ (F (getD ys (K .at .part d) (K .blank)) d n m l x o) h e ∙ together ys m l n x o a v d ea ev ed;
           refuses = λ ys m l n x o a v d ea ev ed h. beyond roles d ys m l o (F (getD ys (K .at .part d) (K .blank)) d n m l x o) h ∙ together ys m l n x o a v d ea ev ed;
-        }
-
-        abbrev pub filing : Filing.Says K P Y
-        filing = record {
-          Begins = λ n x a. a ≡ B n x 0;
-          Surveys = λ ys l a v. v ≡ Sv ys l a;
-          Decides = λ v n m l d. d ≡ Dc v n m l;
-          asks = asks;
-          Asks = λ c d n m l x. Asks c d n m l x [];
-          Steps = λ c d n m l x r m′ l′. works r m′ l′ [] ≡ F c d n m l x [];
-          Calls = λ ys m l n x r zs m′ l′. leaves r zs m′ l′ [] ≡ G ys m l n x [];
-          may = λ ys m l n x. allowed ys m l n x [];
-          serves = λ ys m l n x a v d r m′ l′ ea ev ed h e. within roles d ys m l [] r m′ l′ [] (F (getD ys (K .at .part d) (K .blank)) d n m l x []) h e ∙ together ys m l n x [] a v d ea ev ed;
-          refuses = λ ys m l n x a v d ea ev ed h. beyond roles d ys m l [] (F (getD ys (K .at .part d) (K .blank)) d n m l x []) h ∙ together ys m l n x [] a v d ea ev ed;
-        }
-
-        abbrev pub reading : Reading.Says K P Y
-        reading = record {
-          Begins = λ n k a. a ≡ B n [] k;
-          Surveys = λ ys l a v. v ≡ Sv ys l a;
-          Decides = λ v n m l d. d ≡ Dc v n m l;
-          asks = asks;
-          Asks = λ c d n m l o. Asks c d n m l [] o;
-          Steps = λ c d n m l o r o′. works r m l o′ ≡ F c d n m l [] o;
-          Calls = λ ys m l n o r zs o′. leaves r zs m l o′ ≡ G ys m l n [] o;
-          may = λ ys m l n o. allowed ys m l n [] o;
-          serves = λ ys m l n o a v d r o′ ea ev ed h e. within roles d ys m l o r m l o′ (F (getD ys (K .at .part d) (K .blank)) d n m l [] o) h e ∙ together ys m l n [] o a v d ea ev ed;
-          refuses = λ ys m l n o a v d ea ev ed h. beyond roles d ys m l o (F (getD ys (K .at .part d) (K .blank)) d n m l [] o) h ∙ together ys m l n [] o a v d ea ev ed;
-        }
-
-    -- ---- a step by value
-    module _ (B : P .Denot → Y .Denot) where
-      abbrev pub chosen-value : List C → List ℕ → List ℕ → P .Denot → D
-      chosen-value ys m l n = Dc (Sv ys l (B n)) (length ys) (length m) (length l)
-
-      pub chosen-value-is : (ys : List C) (m l : List ℕ) (n : P .Denot) (a v : Y .Denot) (d : D) → a ≡ B n → v ≡ Sv ys l a → d ≡ Dc v (length ys) (length m) (length l) → d ≡ chosen-value ys m l n
-      chosen-value-is ys m l n a v d ea ev ed = ed ∙ ap (λ (z : Y .Denot). Dc z (length ys) (length m) (length l)) (ev ∙ ap (λ (z : Y .Denot). Sv ys l z) ea)
-
-      module _ (asks : Bool) (Asks : C → D → P .Denot → Type 0)
-          (may : (ys : List C) (m l : List ℕ) (n : P .Denot) → K .at .part (chosen-value ys m l n) < length ys → Asks (getD ys (K .at .part (chosen-value ys m l n)) (K .blank)) (chosen-value ys m l n) n)
-          (F : C → D → P .Denot → S) (G : List C → List ℕ → List ℕ → P .Denot → Changed N C)
-          (agree : (ys : List C) (m l : List ℕ) (n : P .Denot) → ordering roles F (chosen-value ys m l n) ys n ≡ G ys m l n) where
-        pub allowed-value : (ys : List C) (m l : List ℕ) (n : P .Denot) (a v : Y .Denot) (d : D) → a ≡ B n → v ≡ Sv ys l a → d ≡ Dc v (length ys) (length m) (length l) → K .at .part d < length ys → Asks (getD ys (K .at .part d) (K .blank)) d n
-        allowed-value ys m l n a v d ea ev ed = subst (λ (z : D). K .at .part z < length ys → Asks (getD ys (K .at .part z) (K .blank)) z n) (sym (chosen-value-is ys m l n a v d ea ev ed)) (may ys m l n)
-
-        pub together-value : (ys : List C) (m l : List ℕ) (n : P .Denot) (a v : Y .Denot) (d : D) → a ≡ B n → v ≡ Sv ys l a → d ≡ Dc v (length ys) (length m) (length l) → ordering roles F d ys n ≡ G ys m l n
-        together-value ys m l n a v d ea ev ed = ap (λ (z : D). ordering roles F z ys n) (chosen-value-is ys m l n a v d ea ev ed) ∙ agree ys m l n
-
-        abbrev pub ordering-by : Order.Says K P Y
-        ordering-by = record {
-          Begins = λ n a. a ≡ B n;
-          Surveys = λ ys l a v. v ≡ Sv ys l a;
-          Decides = λ v n m l d. d ≡ Dc v n m l;
-          asks = asks;
-          Asks = Asks;
-          Steps = λ c d n r. r ≡ F c d n;
-          Calls = λ ys m l n r zs. changes r zs ≡ G ys m l n;
-          may = allowed-value;
-          serves = λ ys m l n a v d r ea ev ed h e. within-value roles d ys r (F (getD ys (K .at .part d) (K .blank)) d n) h e ∙ together-value ys m l n a v d ea ev ed;
-          refuses = λ ys m l n a v d ea ev ed h. beyond-value roles d ys (F (getD ys (K .at .part d) (K .blank)) d n) h ∙ together-value ys m l n a v d ea ev ed;
         }
