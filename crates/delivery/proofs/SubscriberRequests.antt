@@ -3,11 +3,12 @@
 -- Assumes nothing.
 use mathlib.Core.Path.{_≡_, refl, sym, ap, _∙_, subst}
 use mathlib.Core.Bool.{Bool, true, false, true≢false}
-use mathlib.Core.List.{List, []}
+use mathlib.Core.List.{List}
 use Prim.Native.Nat.{ℕ}
 use native.Mathlib.Omega.{arith}
 use borrow.Author.Tests.{ne-eqb}
 use lib.Dec.{eqb, ltb}
+use lib.ListN.{length}
 use Rattle.laws.proofs.Choice.{chosen, passed-by}
 use Rattle.walks.specs.Serving.{works}
 use Rattle.channel.specs.declared.record.Channel.{Channel}
@@ -24,19 +25,20 @@ use Rattle.table.specs.declared.looking.Look.{Look}
 use Rattle.table.specs.declared.looking.Look.the-variants.{Index, Ready}
 use Rattle.table.specs.Looking.{chosen as choice}
 use Rattle.table.specs.Serving.{recordAt, ownMem, ownLens, Step, serveOne, alone}
-use Rattle.steps.specs.Requests.{openedBy, closedBy, transferFor, reclaimFor}
+use Rattle.steps.specs.Requests.{openedBy, closedBy, transferFor, askedBy, reclaimFor}
 use Rattle.steps_handing.specs.Handing.{nextFor}
-use Rattle.steps.proofs.RequestLaws.{opened-receives, closed-receives}
+use Rattle.steps.proofs.RequestLaws.{opened-receives, closed-receives, asked-receives}
 use Rattle.steps_handing.proofs.HandLaws.{ready-is}
 use Rattle.node_keeps.specs.Keeping.{Given}
 use Rattle.node_keeps.proofs.StepsKeep.{open-keeps, close-keeps, reclaim-keeps, next-keeps}
-use Rattle.node_keeps.proofs.CallsAlone.{shapes, transfer-shapes, alone-called}
+use Rattle.node_keeps.proofs.CallsAlone.{shapes, transfer-shapes}
+use Rattle.node_keeps.proofs.DoorKeeps.{question-keeps}
 use Rattle.node_keeps.proofs.Alone.{Shapes, index-served}
 use Rattle.protocol.specs.Ends.{fresh, rank}
 use Rattle.protocol.specs.Sending.{Sender}
 use Rattle.protocol.specs.Receiving.{Receiver, ReceiverCall, startOf, controlled}
 use Rattle.receiver_means.proofs.Control.{Opens, open-receives}
-use Rattle.delivery.specs.Calls.{End, Kind, opens, closes, transfers, reclaims, hands, Request, calledBy}
+use Rattle.delivery.specs.Calls.{End, Kind, opens, closes, transfers, asks, reclaims, hands, Request, calledBy}
 use Rattle.delivery.specs.History.{subscriber, Event, granted, openings}
 use Rattle.delivery.proofs.Own.{View, Seen, Left, own-cases}
 use Rattle.delivery.proofs.Nodes.{endWith}
@@ -96,16 +98,23 @@ module _ {h s : End} {past : List Event} {x : Sender} {y : Receiver} {t : List C
 
   pub subscriber-closes : Shown closes
   subscriber-closes =
-      subst (Seen (Next w (request closes) copy) i) (alone-called (Index channel) closedBy t mem lens)
-      (unmoved closes (λ a o. quiet w (request closes) copy a o refl refl (λ packet q. absurd (true≢false (sym q))))
-      (Index channel) (alone closedBy) [] (shapes (Index channel) (alone closedBy) [] (close-keeps (Index channel) []))
-      (λ g. ap (λ (z : Stepped). works z m l []) (closed-receives c (not-sending w))))
+      unmoved closes (λ a o. quiet w (request closes) copy a o refl refl (λ packet q. absurd (true≢false (sym q))))
+      (Index channel) (alone closedBy) buffer (shapes (Index channel) (alone closedBy) buffer (close-keeps (Index channel) buffer))
+      (λ g. ap (λ (z : Stepped). works z m l buffer) (closed-receives c (not-sending w)))
 
   pub subscriber-transfers : Shown transfers
   subscriber-transfers =
       unmoved transfers (λ a o. quiet w (request transfers) copy a o refl refl (λ packet q. absurd (true≢false (sym q))))
-      (Index channel) (transferFor octets) [] (transfer-shapes (Index channel) octets [])
-      (λ g. transfer-refused c (choice (Index channel) t .rank) m l [] (not-sending w) octets)
+      (Index channel) (transferFor octets) buffer (transfer-shapes (Index channel) octets buffer)
+      (λ g. transfer-refused c (choice (Index channel) t .rank) m l buffer (not-sending w) octets)
+
+  -- whatever is asked
+  pub subscriber-asks : Shown asks
+  subscriber-asks =
+      unmoved asks (λ a o. quiet w (request asks) copy a o refl refl (λ packet q. absurd (true≢false (sym q))))
+      (Index channel) (alone (askedBy (length octets))) buffer
+      (shapes (Index channel) (alone (askedBy (length octets))) buffer (question-keeps (Index channel) (length octets) buffer))
+      (λ g. ap (λ (z : Stepped). works z m l buffer) (asked-receives c (length octets) (not-sending w)))
 
   pub subscriber-reclaims : Shown reclaims
   subscriber-reclaims =
@@ -135,16 +144,16 @@ module _ {h s : End} {past : List Event} {x : Sender} {y : Receiver} {t : List C
   opens-refused why o =
       opens-quiet (Refused why) o (unanswered subscriber opens i (subscriberEvent (request opens) copy n (Refused why) o) (refused-not-done why))
 
-  opens-done : channel ≡ i → openStep c ≡ doing (enabledOf c noLone) 0 → First (Done 0 0) [] (enabledOf c noLone) m l
+  opens-done : channel ≡ i → openStep c ≡ doing (enabledOf c noLone) 0 → First (Done 0 0) buffer (enabledOf c noLone) m l
   opens-done own e first =
-      subscriber-next h s past x y (w .inv) (w .numbered) (small w) (request opens) copy n (Done 0 0) [] call tt refl
-      (no-reply h s past x y (w .inv) (w .numbered) (small w) (request opens) copy n (Done 0 0) [] call (λ packet q. absurd (true≢false (sym q))) (λ j b. b))
+      subscriber-next h s past x y (w .inv) (w .numbered) (small w) (request opens) copy n (Done 0 0) buffer call tt refl
+      (no-reply h s past x y (w .inv) (w .numbered) (small w) (request opens) copy n (Done 0 0) buffer call (λ packet q. absurd (true≢false (sym q))) (λ j b. b))
       c (enabledOf c noLone) m l (q .related)
       (λ z. counted-same n c (enabledOf c noLone) (λ k. absurd (omega (arith, k))) ∙ w .now .counted (omega (arith, ap rank fresh-yet)) ∙ start (ltb (rank (y .phase)) (rank (q .phase))))
       (λ z. absurd (omega (arith, sym (chosen (granted subscriber opens i event) _ _ done) ∙ z)))
     where
       event : Event
-      event = subscriberEvent (request opens) copy n (Done 0 0) []
+      event = subscriberEvent (request opens) copy n (Done 0 0) buffer
 
       done : granted subscriber opens i event ≡ true
       done = granted-is subscriber opens i event refl own refl
@@ -162,11 +171,11 @@ module _ {h s : End} {past : List Event} {x : Sender} {y : Receiver} {t : List C
       start true = refl
       start false = refl
 
-  opens-own : channel ≡ i → Left First (works (openedBy c) m l [])
+  opens-own : channel ≡ i → Left First (works (openedBy c) m l buffer)
   opens-own own =
-      subst (λ (z : Stepped). Left First (works z m l [])) (sym (opened-receives c (not-sending w)))
-      (open-cases c (λ (z : Stepped). openStep c ≡ z → Left First (works z m l []))
-      (λ e first. opens-refused refusal.State []) (λ e first. opens-refused refusal.Untaken []) (λ e. opens-done own e) refl)
+      subst (λ (z : Stepped). Left First (works z m l buffer)) (sym (opened-receives c (not-sending w)))
+      (open-cases c (λ (z : Stepped). openStep c ≡ z → Left First (works z m l buffer))
+      (λ e first. opens-refused refusal.State buffer) (λ e first. opens-refused refusal.Untaken buffer) (λ e. opens-done own e) refl)
 
   pub subscriber-opens :
       (granted subscriber opens i
@@ -174,10 +183,9 @@ module _ {h s : End} {past : List Event} {x : Sender} {y : Receiver} {t : List C
       → openings subscriber i past ≡ 0)
       → Shown opens
   subscriber-opens =
-      subst (Seen First i) (alone-called (Index channel) openedBy t mem lens)
-      (own-cases (Index channel) (alone openedBy) t mem lens [] (shapes (Index channel) (alone openedBy) [] (open-keeps (Index channel) [])) i (below w) First
-      (λ why first. opens-refused why [])
+      own-cases (Index channel) (alone openedBy) t mem lens buffer (shapes (Index channel) (alone openedBy) buffer (open-keeps (Index channel) buffer)) i (below w) First
+      (λ why first. opens-refused why buffer)
       (λ j there apart at g first.
-      opens-quiet (openedBy (recordAt t j) .answer) []
-      (for-another subscriber opens i (subscriberEvent (request opens) copy n (openedBy (recordAt t j) .answer) []) (other-index channel j i _ _ _ _ apart g)))
-      (λ at g. opens-own (sym (index-served channel i _ _ _ _ g))))
+      opens-quiet (openedBy (recordAt t j) .answer) buffer
+      (for-another subscriber opens i (subscriberEvent (request opens) copy n (openedBy (recordAt t j) .answer) buffer) (other-index channel j i _ _ _ _ apart g)))
+      (λ at g. opens-own (sym (index-served channel i _ _ _ _ g)))
