@@ -21,23 +21,24 @@ use Rattle.channel.specs.Record as state
 use Rattle.channel.specs.Steps.{refusing}
 use Rattle.sender.specs.Directives as sender
 use Rattle.receiver_data.specs.Taking.{takeStep, takeOut}
-use Rattle.table.specs.declared.looking.Look.the-variants.{Index}
+use Rattle.table.specs.declared.looking.Look.{Look}
+use Rattle.table.specs.declared.looking.Look.the-variants.{Index, Nobody}
 use Rattle.table.specs.Serving.{Step, alone, serveOne}
 use Rattle.steps.specs.Requests.{openedBy, closedBy, askedBy, takeFor}
 use Rattle.steps.proofs.RequestLaws.{opened-sends, closed-sends}
-use Rattle.node_calls.specs.declared.request.Request.the-variants.{Open, Close, WouldTransfer, Take}
+use Rattle.node_calls.specs.declared.request.Request.the-variants.{Open, Close, WouldTransfer, Take, Unknown}
 use Rattle.node_calls.specs.Calls.{served}
 use Rattle.node_keeps.proofs.Alone.{Shapes, index-served}
 use Rattle.node_keeps.proofs.StepsKeep.{open-keeps, close-keeps, take-keeps}
 use Rattle.node_keeps.proofs.CallsAlone.{shapes}
-use Rattle.node_keeps.proofs.DoorKeeps.{question-keeps}
+use Rattle.node_keeps.proofs.DoorKeeps.{question-keeps, unknown-keeps}
 use Rattle.protocol.specs.Ends.{rank}
 use Rattle.protocol.specs.Sending.{Sender, SenderCall}
 use Rattle.protocol.specs.Receiving.{Receiver}
 use Rattle.sender_keeps.proofs.Cases.{open-cases}
 use Rattle.sender_keeps.proofs.Refusals.{open-unchanged}
 use Rattle.sender_means.proofs.Controls.{close-sends, open-sends}
-use Rattle.delivery.specs.Calls.{End, Kind, opens, closes, transfers, asks, takes, reclaims}
+use Rattle.delivery.specs.Calls.{End, Kind, opens, closes, transfers, asks, takes, reclaims, strays}
 use Rattle.delivery.specs.History.{host, Event, granted, openings}
 use Rattle.delivery.proofs.Counting.{counted-same}
 use Rattle.delivery.proofs.HostFrame.{hostEvent, host-next}
@@ -161,6 +162,24 @@ module _ {h s : End} {past : List Event} {x : Sender} {y : Receiver} {t : List C
       (shapes (Index i) (alone (askedBy (length u))) b (question-keeps (Index i) (length u) b))
       (λ a o q. ask-quiet copy i u b a o)
       (λ at rank. ask-quiet copy i u b (askedBy (length u) (own k) .answer) b)
+
+  -- ---- and a request that is none
+
+  pub host-strays : (copy i : ℕ) (u b : List ℕ) → Seen (Next k (asking strays i u b) copy) (h .index) (served t mem lens Unknown u b)
+  host-strays copy i u b =
+      own-cases none refuses t mem lens b (shapes none refuses b (unknown-keeps none b)) (h .index) (own-below k) (Next k (asking strays i u b) copy)
+      (λ why. nothing (Refused why) b)
+      (λ j there apart at g. nothing (Refused refusal.NoChannel) b)
+      (λ at g. nothing (Refused refusal.NoChannel) b)
+    where
+      none : Look
+      none = Nobody refusal.NoChannel
+
+      refuses : Step
+      refuses = alone (λ c. refusing c refusal.NoChannel)
+
+      nothing : (a : Answer) (o : List ℕ) → Next k (asking strays i u b) copy a o (own k) (octets k) (lengths k)
+      nothing a o = stays-so k (asking strays i u b) copy a o refl refl refl (λ packet q. absurd (true≢false (sym q)))
 
   -- ---- a sender gives no unit
 

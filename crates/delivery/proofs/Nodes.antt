@@ -20,14 +20,14 @@ use Rattle.table.specs.Serving.{blank, recordAt, ownMem, ownLens}
 use Rattle.table.proofs.SurveyLaws.{each-stands}
 use Rattle.table.proofs.ServeLaws.{lawful-is}
 use Rattle.node_calls.specs.declared.request.Request as door
-use Rattle.node_calls.specs.declared.request.Request.the-variants.{Open, Close, Transfer, WouldTransfer, Take, Reclaim, Arrival, NextPacket}
+use Rattle.node_calls.specs.declared.request.Request.the-variants.{Open, Close, Transfer, WouldTransfer, Take, Reclaim, Arrival, NextPacket, Unknown}
 use Rattle.node_keeps.specs.Keeping.{Wide, SettingsStay, addressesOf, limitsOf}
 use Rattle.node_keeps.proofs.Serving.{octets-inside}
 use Rattle.node_keeps.proofs.CallsKeep.{tick-lawful}
 use Rattle.node_keeps.proofs.Marks.{tick-wide}
 use Rattle.node_keeps.proofs.Settled.{tick-settings-stay}
 use Rattle.node_keeps.proofs.DoorKeeps.{served-lawful, served-wide, served-settings-stay}
-use Rattle.delivery.specs.Calls.{End, Kind, opens, closes, transfers, asks, takes, reclaims, hands, arrives, ticks, Request, atDoor, calledBy}
+use Rattle.delivery.specs.Calls.{End, Kind, opens, closes, transfers, asks, takes, reclaims, hands, arrives, strays, ticks, Request, atDoor, calledBy}
 
 -- the node of the beginning, with what is lent now
 abbrev pub endWith : End → List Channel → List ℕ → List ℕ → ℕ → End
@@ -112,4 +112,5 @@ kept-called e t mem lens n k kind r = go kind
     go reclaims = by-door (Reclaim (r .channel))
     go hands = by-door (NextPacket (e .node))
     go arrives = by-door (Arrival (e .node))
+    go strays = by-door Unknown
     go ticks = done (calledBy ticks (endWith e t mem lens n) r) (tick-lawful t mem lens (k .stands)) (tick-wide t mem lens (k .wide)) (tick-settings-stay t mem lens)

@@ -22,7 +22,7 @@ use Rattle.channel.specs.Steps.{refusing, doing, enabledOf}
 use Rattle.receiver.specs.Receiving.{openStep}
 use Rattle.receiver_keeps.proofs.Cases.{open-cases}
 use Rattle.table.specs.declared.looking.Look.{Look}
-use Rattle.table.specs.declared.looking.Look.the-variants.{Index, Ready}
+use Rattle.table.specs.declared.looking.Look.the-variants.{Index, Ready, Nobody}
 use Rattle.table.specs.Looking.{chosen as choice}
 use Rattle.table.specs.Serving.{recordAt, ownMem, ownLens, Step, serveOne, alone}
 use Rattle.steps.specs.Requests.{openedBy, closedBy, transferFor, askedBy, reclaimFor}
@@ -32,13 +32,13 @@ use Rattle.steps_handing.proofs.HandLaws.{ready-is}
 use Rattle.node_keeps.specs.Keeping.{Given}
 use Rattle.node_keeps.proofs.StepsKeep.{open-keeps, close-keeps, reclaim-keeps, next-keeps}
 use Rattle.node_keeps.proofs.CallsAlone.{shapes, transfer-shapes}
-use Rattle.node_keeps.proofs.DoorKeeps.{question-keeps}
+use Rattle.node_keeps.proofs.DoorKeeps.{question-keeps, unknown-keeps}
 use Rattle.node_keeps.proofs.Alone.{Shapes, index-served}
 use Rattle.protocol.specs.Ends.{fresh, rank}
 use Rattle.protocol.specs.Sending.{Sender}
 use Rattle.protocol.specs.Receiving.{Receiver, ReceiverCall, startOf, controlled}
 use Rattle.receiver_means.proofs.Control.{Opens, open-receives}
-use Rattle.delivery.specs.Calls.{End, Kind, opens, closes, transfers, asks, reclaims, hands, Request, calledBy}
+use Rattle.delivery.specs.Calls.{End, Kind, opens, closes, transfers, asks, reclaims, hands, strays, Request, calledBy}
 use Rattle.delivery.specs.History.{subscriber, Event, granted, openings}
 use Rattle.delivery.proofs.Own.{View, Seen, Left, own-cases}
 use Rattle.delivery.proofs.Nodes.{endWith}
@@ -88,24 +88,24 @@ module _ {h s : End} {past : List Event} {x : Sender} {y : Receiver} {t : List C
 
   unmoved : (kind : Kind) → ((a : Answer) (o : List ℕ) → Next w (request kind) copy a o c m l)
       → (look : Look) (step : Step) (out : List ℕ) → Shapes look step out
-      → (Given look i (choice look t .rank) c m l → step c (choice look t .rank) m l out ≡ works (refusing c refusal.State) m l out)
+      → (why : Refusal) → (Given look i (choice look t .rank) c m l → step c (choice look t .rank) m l out ≡ works (refusing c why) m l out)
       → Seen (Next w (request kind) copy) i (serveOne look step t mem lens out)
-  unmoved kind nothing look step out shape refuses =
+  unmoved kind nothing look step out shape why refuses =
       own-cases look step t mem lens out shape i (below w) (Next w (request kind) copy)
-      (λ why. nothing (Refused why) out)
+      (λ other. nothing (Refused other) out)
       (λ j there apart at g. nothing _ _)
-      (λ at g. subst (Left (Next w (request kind) copy)) (sym (refuses g)) (nothing (Refused refusal.State) out))
+      (λ at g. subst (Left (Next w (request kind) copy)) (sym (refuses g)) (nothing (Refused why) out))
 
   pub subscriber-closes : Shown closes
   subscriber-closes =
       unmoved closes (λ a o. quiet w (request closes) copy a o refl refl (λ packet q. absurd (true≢false (sym q))))
-      (Index channel) (alone closedBy) buffer (shapes (Index channel) (alone closedBy) buffer (close-keeps (Index channel) buffer))
+      (Index channel) (alone closedBy) buffer (shapes (Index channel) (alone closedBy) buffer (close-keeps (Index channel) buffer)) refusal.State
       (λ g. ap (λ (z : Stepped). works z m l buffer) (closed-receives c (not-sending w)))
 
   pub subscriber-transfers : Shown transfers
   subscriber-transfers =
       unmoved transfers (λ a o. quiet w (request transfers) copy a o refl refl (λ packet q. absurd (true≢false (sym q))))
-      (Index channel) (transferFor octets) buffer (transfer-shapes (Index channel) octets buffer)
+      (Index channel) (transferFor octets) buffer (transfer-shapes (Index channel) octets buffer) refusal.State
       (λ g. transfer-refused c (choice (Index channel) t .rank) m l buffer (not-sending w) octets)
 
   -- whatever is asked
@@ -113,21 +113,29 @@ module _ {h s : End} {past : List Event} {x : Sender} {y : Receiver} {t : List C
   subscriber-asks =
       unmoved asks (λ a o. quiet w (request asks) copy a o refl refl (λ packet q. absurd (true≢false (sym q))))
       (Index channel) (alone (askedBy (length octets))) buffer
-      (shapes (Index channel) (alone (askedBy (length octets))) buffer (question-keeps (Index channel) (length octets) buffer))
+      (shapes (Index channel) (alone (askedBy (length octets))) buffer (question-keeps (Index channel) (length octets) buffer)) refusal.State
       (λ g. ap (λ (z : Stepped). works z m l buffer) (asked-receives c (length octets) (not-sending w)))
 
   pub subscriber-reclaims : Shown reclaims
   subscriber-reclaims =
       unmoved reclaims (λ a o. quiet w (request reclaims) copy a o refl refl (λ packet q. absurd (true≢false (sym q))))
-      (Index channel) reclaimFor buffer (shapes (Index channel) reclaimFor buffer (reclaim-keeps (Index channel) buffer))
+      (Index channel) reclaimFor buffer (shapes (Index channel) reclaimFor buffer (reclaim-keeps (Index channel) buffer)) refusal.State
       (λ g. reclaim-refused c (choice (Index channel) t .rank) m l buffer (not-sending w))
 
   -- a receiver hands out nothing
   pub subscriber-hands : Shown hands
   subscriber-hands =
       unmoved hands (λ a o. quiet w (request hands) copy a o refl refl (λ packet q. absurd (true≢false (sym q))))
-      Ready (nextFor (s .node)) buffer (shapes Ready (nextFor (s .node)) buffer (next-keeps (s .node) buffer))
+      Ready (nextFor (s .node)) buffer (shapes Ready (nextFor (s .node)) buffer (next-keeps (s .node) buffer)) refusal.Nothing
       (λ g. absurd (not-sending w (ready-is c (choice Ready t .rank) (g .suits) (g .found) .0)))
+
+  -- a request that is none
+  pub subscriber-strays : Shown strays
+  subscriber-strays =
+      let none = Nobody refusal.NoChannel in
+      let step = alone (λ c. refusing c refusal.NoChannel) in
+      unmoved strays (λ a o. quiet w (request strays) copy a o refl refl (λ packet q. absurd (true≢false (sym q))))
+      none step buffer (shapes none step buffer (unknown-keeps none buffer)) refusal.NoChannel (λ g. refl)
 
   -- ---- the Open directive
 

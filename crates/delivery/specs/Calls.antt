@@ -12,7 +12,7 @@ use Rattle.channel.specs.Record as state
 use Rattle.table.specs.Serving.{recordAt, ownMem, ownLens}
 use Rattle.node_ticks.specs.Ticks.{ticked}
 use Rattle.node_calls.specs.declared.request.Request as door
-use Rattle.node_calls.specs.declared.request.Request.the-variants.{Open, Close, Transfer, WouldTransfer, Take, Reclaim, Arrival, NextPacket}
+use Rattle.node_calls.specs.declared.request.Request.the-variants.{Open, Close, Transfer, WouldTransfer, Take, Reclaim, Arrival, NextPacket, Unknown}
 use Rattle.node_calls.specs.Calls.{served}
 use Rattle.node_keeps.specs.Keeping.{staying}
 use Rattle.protocol.specs.Numbers.{distance}
@@ -28,9 +28,9 @@ pub record End : Type 0 where
   pub index : ℕ
   pub start : ℕ
 
--- The public calls (crate node).
+-- What can be asked of a node (crate node): `strays` is a request that is none.
 pub data Kind : Type 0 where
-  opens closes transfers asks takes reclaims hands arrives ticks : Kind
+  opens closes transfers asks takes reclaims hands arrives strays ticks : Kind
 
 abbrev pub code : Kind → ℕ
 code opens = 0
@@ -42,8 +42,9 @@ code hands = 5
 code arrives = 6
 code ticks = 7
 code asks = 8
+code strays = 9
 
--- Its arguments, as far as it has them: the index of a channel of the table, any of them; the octets of a unit or of a packet; the lent buffer.
+-- Its arguments, as far as it has them: any index of a channel; the octets of a unit or of a packet, or as many as are asked for; the lent buffer.
 pub record Request : Type 0 where
   pub kind : Kind
   pub channel : ℕ
@@ -54,7 +55,7 @@ pub record Request : Type 0 where
 abbrev pub atDoor : End → Request → door.Request → Called Answer Channel
 atDoor e r asked = served (e .table) (e .mem) (e .lens) asked (r .octets) (r .buffer)
 
--- What a call gives. A question is for as many octets as are named; a tick alone does not come by the door.
+-- What a call gives. A tick alone does not come by the door.
 abbrev pub calledBy : Kind → End → Request → Called Answer Channel
 calledBy opens e r = atDoor e r (Open (r .channel))
 calledBy closes e r = atDoor e r (Close (r .channel))
@@ -64,6 +65,7 @@ calledBy takes e r = atDoor e r (Take (r .channel))
 calledBy reclaims e r = atDoor e r (Reclaim (r .channel))
 calledBy hands e r = atDoor e r (NextPacket (e .node))
 calledBy arrives e r = atDoor e r (Arrival (e .node))
+calledBy strays e r = atDoor e r Unknown
 calledBy ticks e r = staying (ticked (e .table) (e .mem) (e .lens)) (e .mem) (e .lens)
 
 abbrev pub called : End → Request → Called Answer Channel

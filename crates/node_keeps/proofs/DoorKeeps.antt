@@ -34,7 +34,7 @@ question-marking : (count : ℕ) (out : List ℕ) → Marking (alone (askedBy co
 unfolding askedBy
 question-marking count out c rank mem lens w = w
 
-unknown-keeps : (look : Look) (out : List ℕ) → Keeps look (alone (λ c. refusing c refusal.NoChannel)) out
+pub unknown-keeps : (look : Look) (out : List ℕ) → Keeps look (alone (λ c. refusing c refusal.NoChannel)) out
 unknown-keeps look out at rank c mem lens g = record { addresses = refl; limits = refl; standing = g .standing; sized = g .sized }
 
 -- ---- the step of each request
