@@ -34,7 +34,8 @@ use Rattle.arriving_look.specs.Finding.{lookOf}
 use Rattle.arriving_data.specs.Data.{unfit}
 use Rattle.steps_arriving.proofs.ArriveLaws.{framed, by-kind}
 use Rattle.arriving_look.proofs.FindLaws.{found-packet}
-use Rattle.node_calls.specs.Calls.{arrived}
+use Rattle.node_calls.specs.declared.request.Request.the-variants.{Arrival}
+use Rattle.node_calls.specs.Calls.{served}
 use Rattle.node_keeps.specs.Keeping.{Given}
 use Rattle.node_keeps.proofs.StepsKeep.{arrival-keeps}
 use Rattle.node_keeps.proofs.CallsAlone.{shapes}
@@ -219,7 +220,7 @@ module _ {h s : End} {past : List Event} {x : Sender} {y : Receiver} {t : List C
       as-kind packet-kind.Close is = absurd (omega (arith, looks packet-kind.Close is))
       as-kind (packet-kind.Lacking code) is = absurd (omega (arith, looks (packet-kind.Lacking code) is))
 
-  pub host-arrives : FairReply → Seen (Next k request copy) (h .index) (arrived t mem lens (h .node) u b)
+  pub host-arrives : FairReply → Seen (Next k request copy) (h .index) (served t mem lens (Arrival (h .node)) u b)
   host-arrives fair =
       own-cases looked (arrivalFor (h .node) u) t mem lens b (shapes looked (arrivalFor (h .node) u) b (arrival-keeps (h .node) u b)) (h .index) (own-below k)
       (Next k request copy)

@@ -14,7 +14,7 @@ use Rattle.node_keeps.specs.Keeping.{staying}
 use Rattle.protocol.specs.Sending.{Sender}
 use Rattle.protocol.specs.Receiving.{Receiver}
 use Rattle.sender_means.proofs.Controls.{tick-sends}
-use Rattle.delivery.specs.Calls.{End, Kind, opens, closes, transfers, takes, reclaims, hands, arrives, ticks, Request, called}
+use Rattle.delivery.specs.Calls.{End, Kind, opens, closes, transfers, asks, takes, reclaims, hands, arrives, strays, ticks, Request, called}
 use Rattle.delivery.specs.History.{host, Event, is, granted, names, IsDataAck, Replied, openings}
 use Rattle.delivery.specs.Delivery.{Fresh, Alike, NotLate}
 use Rattle.delivery.proofs.Nodes.{endWith}
@@ -23,7 +23,7 @@ use Rattle.delivery.proofs.HostFrame.{hostCall, hostEvent, HostNext}
 use Rattle.delivery.proofs.Own.{Seen}
 use Rattle.delivery.proofs.Ticked.{tick-seen}
 use Rattle.delivery.proofs.HostNow.{HostAt, asking, own, octets, lengths, own-below, own-sends, asked, Next, moves-on}
-use Rattle.delivery.proofs.HostRequests.{host-opens, host-closes, host-takes}
+use Rattle.delivery.proofs.HostRequests.{host-opens, host-closes, host-asks, host-strays, host-takes}
 use Rattle.delivery.proofs.HostUnits.{host-transfers, host-reclaims}
 use Rattle.delivery.proofs.HostHanding.{host-hands}
 use Rattle.delivery.proofs.HostArrivals.{host-arrives}
@@ -63,10 +63,12 @@ module _ (h s : End) (fresh-h : Fresh h) (fresh-s : Fresh s) (alike : Alike h s)
   by-kind opens i u b copy fair once = host-opens at copy i u b once
   by-kind closes i u b copy fair once = host-closes at copy i u b
   by-kind transfers i u b copy fair once = host-transfers at copy i u b
+  by-kind asks i u b copy fair once = host-asks at copy i u b
   by-kind takes i u b copy fair once = host-takes at copy i u b
   by-kind reclaims i u b copy fair once = host-reclaims at copy i u b
   by-kind hands i u b copy fair once = host-hands at copy i u b
   by-kind arrives i u b copy fair once = host-arrives at copy i u b (fair refl)
+  by-kind strays i u b copy fair once = host-strays at copy i u b
   by-kind ticks i u b copy fair once = host-ticks at copy i u b
 
   pub host-call : (r : Request) (copy : ℕ) → HostCall r copy

@@ -34,7 +34,8 @@ use Rattle.steps_handing.specs.Handing.{nextFor}
 use Rattle.steps_handing.proofs.HandLaws.{ready-is}
 use Rattle.steps_arriving.specs.Arriving.{payloadIn}
 use Rattle.arriving_look.specs.Finding.{isOurs}
-use Rattle.node_calls.specs.Calls.{handed}
+use Rattle.node_calls.specs.declared.request.Request.the-variants.{NextPacket}
+use Rattle.node_calls.specs.Calls.{served}
 use Rattle.node_keeps.proofs.StepsKeep.{next-keeps}
 use Rattle.node_keeps.proofs.CallsAlone.{shapes}
 use Rattle.protocol.specs.Numbers.{numberAt, distance}
@@ -226,7 +227,7 @@ module _ {h s : End} {past : List Event} {x : Sender} {y : Receiver} {t : List C
           (hand-control z o (subst (λ (r : ℕ). Carries (h .node) (own k) (octets k) (lengths k) r (take z o)) e carries))
       by-rank z o carries false q = hand-data r ready (eqb-false r 0 q) z o carries
 
-  pub host-hands : Seen (Next k request copy) (h .index) (handed t mem lens (h .node) b)
+  pub host-hands : Seen (Next k request copy) (h .index) (served t mem lens (NextPacket (h .node)) u b)
   host-hands =
       own-cases look.Ready (nextFor (h .node)) t mem lens b (shapes look.Ready (nextFor (h .node)) b (next-keeps (h .node) b)) (h .index) (own-below k)
       (Next k request copy)

@@ -2,7 +2,7 @@
 -- Assumes nothing.
 use mathlib.Core.Path.{_≡_, refl, sym, ap, ap₂, _∙_, subst}
 use mathlib.Core.Bool.{Bool, true, false, true≢false, _&&_}
-use mathlib.Core.List.{List, [], _∷_}
+use mathlib.Core.List.{List, _∷_}
 use Prim.Native.Nat.{ℕ, suc}
 use native.Mathlib.Omega.{arith}
 use borrow.Author.Tests.{eqb-false, eq-eqb, ne-eqb}
@@ -21,22 +21,24 @@ use Rattle.channel.specs.Record as state
 use Rattle.channel.specs.Steps.{refusing}
 use Rattle.sender.specs.Directives as sender
 use Rattle.receiver_data.specs.Taking.{takeStep, takeOut}
-use Rattle.table.specs.declared.looking.Look.the-variants.{Index}
+use Rattle.table.specs.declared.looking.Look.{Look}
+use Rattle.table.specs.declared.looking.Look.the-variants.{Index, Nobody}
 use Rattle.table.specs.Serving.{Step, alone, serveOne}
-use Rattle.steps.specs.Requests.{openedBy, closedBy, takeFor}
+use Rattle.steps.specs.Requests.{openedBy, closedBy, askedBy, takeFor}
 use Rattle.steps.proofs.RequestLaws.{opened-sends, closed-sends}
-use Rattle.node_calls.specs.Calls.{opened, closed, taken}
-use Rattle.node_keeps.specs.Keeping.{staying}
+use Rattle.node_calls.specs.declared.request.Request.the-variants.{Open, Close, WouldTransfer, Take, Unknown}
+use Rattle.node_calls.specs.Calls.{served}
 use Rattle.node_keeps.proofs.Alone.{Shapes, index-served}
 use Rattle.node_keeps.proofs.StepsKeep.{open-keeps, close-keeps, take-keeps}
-use Rattle.node_keeps.proofs.CallsAlone.{shapes, alone-called}
+use Rattle.node_keeps.proofs.CallsAlone.{shapes}
+use Rattle.node_keeps.proofs.DoorKeeps.{question-keeps, unknown-keeps}
 use Rattle.protocol.specs.Ends.{rank}
 use Rattle.protocol.specs.Sending.{Sender, SenderCall}
 use Rattle.protocol.specs.Receiving.{Receiver}
 use Rattle.sender_keeps.proofs.Cases.{open-cases}
 use Rattle.sender_keeps.proofs.Refusals.{open-unchanged}
 use Rattle.sender_means.proofs.Controls.{close-sends, open-sends}
-use Rattle.delivery.specs.Calls.{End, Kind, opens, closes, transfers, takes, reclaims}
+use Rattle.delivery.specs.Calls.{End, Kind, opens, closes, transfers, asks, takes, reclaims, strays}
 use Rattle.delivery.specs.History.{host, Event, granted, openings}
 use Rattle.delivery.proofs.Counting.{counted-same}
 use Rattle.delivery.proofs.HostFrame.{hostEvent, host-next}
@@ -121,15 +123,15 @@ module _ {h s : End} {past : List Event} {x : Sender} {y : Receiver} {t : List C
           (λ z. absurd (omega (arith, z, counted)))
 
   pub host-opens : (copy i : ℕ) (u b : List ℕ)
-      → (granted host opens (h .index) (hostEvent (asking opens i u b) copy n (opened t mem lens i .answer) []) ≡ true → openings host (h .index) past ≡ 0)
-      → Seen (Next k (asking opens i u b) copy) (h .index) (staying (opened t mem lens i) mem lens)
+      → (granted host opens (h .index) (hostEvent (asking opens i u b) copy n (served t mem lens (Open i) u b .answer) (served t mem lens (Open i) u b .out)) ≡ true
+      → openings host (h .index) past ≡ 0)
+      → Seen (Next k (asking opens i u b) copy) (h .index) (served t mem lens (Open i) u b)
   host-opens copy i u b =
-      subst (Seen Once (h .index)) (alone-called (Index i) openedBy t mem lens)
-      (by-index k Once i (alone openedBy) [] (shapes (Index i) (alone openedBy) [] (open-keeps (Index i) []))
+      by-index k Once i (alone openedBy) b (shapes (Index i) (alone openedBy) b (open-keeps (Index i) b))
       (λ a o q once. request-quiet k an-opens copy i u b a o q)
       (λ at rank.
-      subst (λ (w : Stepped). Left Once (works w (octets k) (lengths k) [])) (sym (opened-sends (own k) (own-sends k)))
-      (λ once. own-opens copy i u b [] at (λ q. once (ap₂ (λ (p r : Bool). p && r) (eq-eqb i (h .index) at) q)))))
+      subst (λ (w : Stepped). Left Once (works w (octets k) (lengths k) b)) (sym (opened-sends (own k) (own-sends k)))
+      (λ once. own-opens copy i u b b at (λ q. once (ap₂ (λ (p r : Bool). p && r) (eq-eqb i (h .index) at) q))))
     where
       Once : View
       Once a o c m l =
@@ -138,16 +140,46 @@ module _ {h s : End} {past : List Event} {x : Sender} {y : Receiver} {t : List C
 
   -- ---- the Close directive
 
-  pub host-closes : (copy i : ℕ) (u b : List ℕ) → Seen (Next k (asking closes i u b) copy) (h .index) (staying (closed t mem lens i) mem lens)
+  pub host-closes : (copy i : ℕ) (u b : List ℕ) → Seen (Next k (asking closes i u b) copy) (h .index) (served t mem lens (Close i) u b)
   host-closes copy i u b =
       let P = Next k (asking closes i u b) copy in
-      subst (Seen P (h .index)) (alone-called (Index i) closedBy t mem lens)
-      (by-index k P i (alone closedBy) [] (shapes (Index i) (alone closedBy) [] (close-keeps (Index i) []))
+      by-index k P i (alone closedBy) b (shapes (Index i) (alone closedBy) b (close-keeps (Index i) b))
       (request-quiet k a-closes copy i u b)
       (λ at rank.
-      subst (λ (w : Stepped). Left P (works w (octets k) (lengths k) [])) (sym (closed-sends (own k) (own-sends k)))
-      (moves-on k (asking closes i u b) copy (sender.closeStep (own k) .answer) [] refl refl refl refl (sender.closeStep (own k) .channel)
-      (close-sends (own k) (octets k) (lengths k) x (asked k) (own-sends k) (k .now .means)))))
+      subst (λ (w : Stepped). Left P (works w (octets k) (lengths k) b)) (sym (closed-sends (own k) (own-sends k)))
+      (moves-on k (asking closes i u b) copy (sender.closeStep (own k) .answer) b refl refl refl refl (sender.closeStep (own k) .channel)
+      (close-sends (own k) (octets k) (lengths k) x (asked k) (own-sends k) (k .now .means))))
+
+  -- ---- a question, which is in no account
+
+  ask-quiet : (copy i : ℕ) (u b : List ℕ) (a : Answer) (o : List ℕ) → Next k (asking asks i u b) copy a o (own k) (octets k) (lengths k)
+  ask-quiet copy i u b a o = stays-so k (asking asks i u b) copy a o refl refl refl (λ packet q. absurd (true≢false (sym q)))
+
+  pub host-asks : (copy i : ℕ) (u b : List ℕ) → Seen (Next k (asking asks i u b) copy) (h .index) (served t mem lens (WouldTransfer i (length u)) u b)
+  unfolding askedBy
+  host-asks copy i u b =
+      by-index k (Next k (asking asks i u b) copy) i (alone (askedBy (length u))) b
+      (shapes (Index i) (alone (askedBy (length u))) b (question-keeps (Index i) (length u) b))
+      (λ a o q. ask-quiet copy i u b a o)
+      (λ at rank. ask-quiet copy i u b (askedBy (length u) (own k) .answer) b)
+
+  -- ---- and a request that is none
+
+  pub host-strays : (copy i : ℕ) (u b : List ℕ) → Seen (Next k (asking strays i u b) copy) (h .index) (served t mem lens Unknown u b)
+  host-strays copy i u b =
+      own-cases none refuses t mem lens b (shapes none refuses b (unknown-keeps none b)) (h .index) (own-below k) (Next k (asking strays i u b) copy)
+      (λ why. nothing (Refused why) b)
+      (λ j there apart at g. nothing (Refused refusal.NoChannel) b)
+      (λ at g. nothing (Refused refusal.NoChannel) b)
+    where
+      none : Look
+      none = Nobody refusal.NoChannel
+
+      refuses : Step
+      refuses = alone (λ c. refusing c refusal.NoChannel)
+
+      nothing : (a : Answer) (o : List ℕ) → Next k (asking strays i u b) copy a o (own k) (octets k) (lengths k)
+      nothing a o = stays-so k (asking strays i u b) copy a o refl refl refl (λ packet q. absurd (true≢false (sym q)))
 
   -- ---- a sender gives no unit
 
@@ -157,7 +189,7 @@ module _ {h s : End} {past : List Event} {x : Sender} {y : Receiver} {t : List C
       passed-by (eqb (c .addresses .direction) receives) (works (takeStep c l (length o)) m l (takeOut c l m o)) (works (refusing c refusal.State) m l o)
       (ne-eqb (c .addresses .direction) receives (λ q. omega (arith, q, d)))
 
-  pub host-takes : (copy i : ℕ) (u b : List ℕ) → Seen (Next k (asking takes i u b) copy) (h .index) (taken t mem lens i b)
+  pub host-takes : (copy i : ℕ) (u b : List ℕ) → Seen (Next k (asking takes i u b) copy) (h .index) (served t mem lens (Take i) u b)
   host-takes copy i u b =
       let P = Next k (asking takes i u b) copy in
       by-index k P i takeFor b (shapes (Index i) takeFor b (take-keeps (Index i) b))

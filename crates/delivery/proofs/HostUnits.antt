@@ -25,7 +25,8 @@ use Rattle.sender_units.specs.Transfer.{transferStep, transferMem, transferLens
 use Rattle.sender_units.specs.Reclaiming.{unitAt, sizeAt, reclaimStep, reclaimOut}
 use Rattle.table.specs.declared.looking.Look.the-variants.{Index}
 use Rattle.steps.specs.Requests.{transferFor, reclaimFor}
-use Rattle.node_calls.specs.Calls.{transferred, reclaimed}
+use Rattle.node_calls.specs.declared.request.Request.the-variants.{Transfer, Reclaim}
+use Rattle.node_calls.specs.Calls.{served}
 use Rattle.node_keeps.proofs.StepsKeep.{reclaim-keeps}
 use Rattle.node_keeps.proofs.CallsAlone.{shapes, transfer-shapes}
 use Rattle.protocol.specs.Units.{DataUnit, Segment, cut}
@@ -104,12 +105,12 @@ module _ {h s : End} {past : List Event} {x : Sender} {y : Receiver} {t : List C
       chosen (eqb (c .addresses .direction) sends) (works (transferStep c (length u)) (transferMem c u m) (transferLens c u l) o)
       (works (refusing c refusal.State) m l o) (eq-eqb (c .addresses .direction) sends d)
 
-  pub host-transfers : (copy i : ℕ) (u b : List ℕ) → Seen (Next k (asking transfers i u b) copy) (h .index) (transferred t mem lens i u)
+  pub host-transfers : (copy i : ℕ) (u b : List ℕ) → Seen (Next k (asking transfers i u b) copy) (h .index) (served t mem lens (Transfer i) u b)
   host-transfers copy i u b =
       let P = Next k (asking transfers i u b) copy in
-      by-index k P i (transferFor u) [] (transfer-shapes (Index i) u [])
+      by-index k P i (transferFor u) b (transfer-shapes (Index i) u b)
       (request-quiet k a-transfers copy i u b)
-      (λ at rank. subst (Left P) (sym (transfer-here (own k) rank u (octets k) (lengths k) [] (own-sends k))) (own-transfers copy i u b [] at))
+      (λ at rank. subst (Left P) (sym (transfer-here (own k) rank u (octets k) (lengths k) b (own-sends k))) (own-transfers copy i u b b at))
 
 -- ---- a unit is given back
 
@@ -203,7 +204,7 @@ module _ {h s : End} {past : List Event} {x : Sender} {y : Receiver} {t : List C
       chosen (eqb (c .addresses .direction) sends) (works (reclaimStep c l (length o)) m l (reclaimOut c l m o)) (works (refusing c refusal.State) m l o)
       (eq-eqb (c .addresses .direction) sends d)
 
-  pub host-reclaims : (copy i : ℕ) (u b : List ℕ) → Seen (Next k (asking reclaims i u b) copy) (h .index) (reclaimed t mem lens i b)
+  pub host-reclaims : (copy i : ℕ) (u b : List ℕ) → Seen (Next k (asking reclaims i u b) copy) (h .index) (served t mem lens (Reclaim i) u b)
   host-reclaims copy i u b =
       let P = Next k (asking reclaims i u b) copy in
       by-index k P i reclaimFor b (shapes (Index i) reclaimFor b (reclaim-keeps (Index i) b))

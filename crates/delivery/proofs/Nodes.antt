@@ -19,12 +19,15 @@ use Rattle.table.specs.Lent.{areaOf, octetAt, lawful}
 use Rattle.table.specs.Serving.{blank, recordAt, ownMem, ownLens}
 use Rattle.table.proofs.SurveyLaws.{each-stands}
 use Rattle.table.proofs.ServeLaws.{lawful-is}
+use Rattle.node_calls.specs.declared.request.Request as door
+use Rattle.node_calls.specs.declared.request.Request.the-variants.{Open, Close, Transfer, WouldTransfer, Take, Reclaim, Arrival, NextPacket, Unknown}
 use Rattle.node_keeps.specs.Keeping.{Wide, SettingsStay, addressesOf, limitsOf}
 use Rattle.node_keeps.proofs.Serving.{octets-inside}
-use Rattle.node_keeps.proofs.CallsKeep.{arrival-lawful, next-packet-lawful, open-lawful, close-lawful, transfer-lawful, take-lawful, reclaim-lawful, tick-lawful}
-use Rattle.node_keeps.proofs.Marks.{arrival-wide, next-packet-wide, open-wide, close-wide, transfer-wide, take-wide, reclaim-wide, tick-wide}
-use Rattle.node_keeps.proofs.Settled.{arrival-settings-stay, next-packet-settings-stay, open-settings-stay, close-settings-stay, transfer-settings-stay, take-settings-stay, reclaim-settings-stay, tick-settings-stay}
-use Rattle.delivery.specs.Calls.{End, Kind, opens, closes, transfers, takes, reclaims, hands, arrives, ticks, Request, calledBy}
+use Rattle.node_keeps.proofs.CallsKeep.{tick-lawful}
+use Rattle.node_keeps.proofs.Marks.{tick-wide}
+use Rattle.node_keeps.proofs.Settled.{tick-settings-stay}
+use Rattle.node_keeps.proofs.DoorKeeps.{served-lawful, served-wide, served-settings-stay}
+use Rattle.delivery.specs.Calls.{End, Kind, opens, closes, transfers, asks, takes, reclaims, hands, arrives, strays, ticks, Request, atDoor, calledBy}
 
 -- the node of the beginning, with what is lent now
 abbrev pub endWith : End → List Channel → List ℕ → List ℕ → ℕ → End
@@ -95,22 +98,19 @@ kept-called e t mem lens n k kind r = go kind
     done : (g : Called Answer Channel) → lawful (g .table) (g .mem) (g .lens) ≡ true → Wide (g .table) → SettingsStay t (g .table) → KeptBy e g
     done g a b c = record { stands = a; wide = b; settings = stays-on (e .table) t (g .table) (k .settings) c }
 
+    by-door : (asked : door.Request) → KeptBy e (atDoor (endWith e t mem lens n) r asked)
+    by-door asked =
+        done (atDoor (endWith e t mem lens n) r asked) (served-lawful t mem lens asked (r .octets) (r .buffer) (k .wide) (k .stands))
+        (served-wide t mem lens asked (r .octets) (r .buffer) (k .wide)) (served-settings-stay t mem lens asked (r .octets) (r .buffer))
+
     go : (kind : Kind) → KeptBy e (calledBy kind (endWith e t mem lens n) r)
-    go opens = done (calledBy opens (endWith e t mem lens n) r) (open-lawful t mem lens (r .channel) (k .stands)) (open-wide t mem lens (k .wide) (r .channel)) (open-settings-stay t mem lens (r .channel))
-    go closes = done (calledBy closes (endWith e t mem lens n) r) (close-lawful t mem lens (r .channel) (k .stands)) (close-wide t mem lens (k .wide) (r .channel)) (close-settings-stay t mem lens (r .channel))
-    go transfers =
-        done (calledBy transfers (endWith e t mem lens n) r) (transfer-lawful t mem lens (r .channel) (r .octets) (k .wide) (k .stands)) (transfer-wide t mem lens (k .wide) (r .channel) (r .octets))
-        (transfer-settings-stay t mem lens (r .channel) (r .octets))
-    go takes =
-        done (calledBy takes (endWith e t mem lens n) r) (take-lawful t mem lens (r .channel) (r .buffer) (k .stands)) (take-wide t mem lens (k .wide) (r .channel) (r .buffer))
-        (take-settings-stay t mem lens (r .channel) (r .buffer))
-    go reclaims =
-        done (calledBy reclaims (endWith e t mem lens n) r) (reclaim-lawful t mem lens (r .channel) (r .buffer) (k .stands)) (reclaim-wide t mem lens (k .wide) (r .channel) (r .buffer))
-        (reclaim-settings-stay t mem lens (r .channel) (r .buffer))
-    go hands =
-        done (calledBy hands (endWith e t mem lens n) r) (next-packet-lawful t mem lens (e .node) (r .buffer) (k .stands)) (next-packet-wide t mem lens (k .wide) (e .node) (r .buffer))
-        (next-packet-settings-stay t mem lens (e .node) (r .buffer))
-    go arrives =
-        done (calledBy arrives (endWith e t mem lens n) r) (arrival-lawful t mem lens (e .node) (r .octets) (r .buffer) (k .stands)) (arrival-wide t mem lens (k .wide) (e .node) (r .octets) (r .buffer))
-        (arrival-settings-stay t mem lens (e .node) (r .octets) (r .buffer))
+    go opens = by-door (Open (r .channel))
+    go closes = by-door (Close (r .channel))
+    go transfers = by-door (Transfer (r .channel))
+    go asks = by-door (WouldTransfer (r .channel) (length (r .octets)))
+    go takes = by-door (Take (r .channel))
+    go reclaims = by-door (Reclaim (r .channel))
+    go hands = by-door (NextPacket (e .node))
+    go arrives = by-door (Arrival (e .node))
+    go strays = by-door Unknown
     go ticks = done (calledBy ticks (endWith e t mem lens n) r) (tick-lawful t mem lens (k .stands)) (tick-wide t mem lens (k .wide)) (tick-settings-stay t mem lens)

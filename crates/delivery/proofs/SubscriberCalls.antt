@@ -10,14 +10,14 @@ use Rattle.channel.specs.declared.answer.Answer.{Answer}
 use Rattle.table.specs.Serving.{recordAt, ownMem, ownLens}
 use Rattle.protocol.specs.Sending.{Sender}
 use Rattle.protocol.specs.Receiving.{Receiver}
-use Rattle.delivery.specs.Calls.{End, Kind, opens, closes, transfers, takes, reclaims, hands, arrives, ticks, Request, called}
+use Rattle.delivery.specs.Calls.{End, Kind, opens, closes, transfers, asks, takes, reclaims, hands, arrives, strays, ticks, Request, called}
 use Rattle.delivery.specs.History.{subscriber, Event, is, granted, names, IsData, HandedOut, openings}
 use Rattle.delivery.specs.Delivery.{Fresh, Alike, NotLate}
 use Rattle.delivery.proofs.Nodes.{endWith}
 use Rattle.delivery.proofs.Known.{InvOf, Numbered, Subscriber}
 use Rattle.delivery.proofs.SubscriberFrame.{subscriberCall, subscriberEvent, SubscriberNext}
 use Rattle.delivery.proofs.SubscriberEnd.{Stage}
-use Rattle.delivery.proofs.SubscriberRequests.{subscriber-opens, subscriber-closes, subscriber-transfers, subscriber-reclaims, subscriber-hands}
+use Rattle.delivery.proofs.SubscriberRequests.{subscriber-opens, subscriber-closes, subscriber-transfers, subscriber-asks, subscriber-reclaims, subscriber-hands, subscriber-strays}
 use Rattle.delivery.proofs.SubscriberTakes.{subscriber-takes}
 use Rattle.delivery.proofs.SubscriberTicks.{subscriber-ticks}
 use Rattle.delivery.proofs.SubscriberArrivals.{subscriber-arrives}
@@ -59,8 +59,10 @@ module _ (h s : End) (fresh-h : Fresh h) (fresh-s : Fresh s) (alike : Alike h s)
       go opens channel octets buffer arrival opening = subscriber-opens stage channel octets buffer copy opening
       go closes channel octets buffer arrival opening = subscriber-closes stage channel octets buffer copy
       go transfers channel octets buffer arrival opening = subscriber-transfers stage channel octets buffer copy
+      go asks channel octets buffer arrival opening = subscriber-asks stage channel octets buffer copy
       go takes channel octets buffer arrival opening = subscriber-takes stage channel octets buffer copy
       go reclaims channel octets buffer arrival opening = subscriber-reclaims stage channel octets buffer copy
       go hands channel octets buffer arrival opening = subscriber-hands stage channel octets buffer copy
       go arrives channel octets buffer arrival opening = subscriber-arrives stage channel octets buffer copy (arrival refl)
+      go strays channel octets buffer arrival opening = subscriber-strays stage channel octets buffer copy
       go ticks channel octets buffer arrival opening = subscriber-ticks stage channel octets buffer copy

@@ -3,11 +3,12 @@
 -- Assumes nothing.
 use mathlib.Core.Path.{_≡_, refl, sym, ap, _∙_, subst}
 use mathlib.Core.Bool.{Bool, true, false, true≢false}
-use mathlib.Core.List.{List, []}
+use mathlib.Core.List.{List}
 use Prim.Native.Nat.{ℕ}
 use native.Mathlib.Omega.{arith}
 use borrow.Author.Tests.{ne-eqb}
 use lib.Dec.{eqb, ltb}
+use lib.ListN.{length}
 use Rattle.laws.proofs.Choice.{chosen, passed-by}
 use Rattle.walks.specs.Serving.{works}
 use Rattle.channel.specs.declared.record.Channel.{Channel}
@@ -21,22 +22,23 @@ use Rattle.channel.specs.Steps.{refusing, doing, enabledOf}
 use Rattle.receiver.specs.Receiving.{openStep}
 use Rattle.receiver_keeps.proofs.Cases.{open-cases}
 use Rattle.table.specs.declared.looking.Look.{Look}
-use Rattle.table.specs.declared.looking.Look.the-variants.{Index, Ready}
+use Rattle.table.specs.declared.looking.Look.the-variants.{Index, Ready, Nobody}
 use Rattle.table.specs.Looking.{chosen as choice}
 use Rattle.table.specs.Serving.{recordAt, ownMem, ownLens, Step, serveOne, alone}
-use Rattle.steps.specs.Requests.{openedBy, closedBy, transferFor, reclaimFor}
+use Rattle.steps.specs.Requests.{openedBy, closedBy, transferFor, askedBy, reclaimFor}
 use Rattle.steps_handing.specs.Handing.{nextFor}
-use Rattle.steps.proofs.RequestLaws.{opened-receives, closed-receives}
+use Rattle.steps.proofs.RequestLaws.{opened-receives, closed-receives, asked-receives}
 use Rattle.steps_handing.proofs.HandLaws.{ready-is}
 use Rattle.node_keeps.specs.Keeping.{Given}
 use Rattle.node_keeps.proofs.StepsKeep.{open-keeps, close-keeps, reclaim-keeps, next-keeps}
-use Rattle.node_keeps.proofs.CallsAlone.{shapes, transfer-shapes, alone-called}
+use Rattle.node_keeps.proofs.CallsAlone.{shapes, transfer-shapes}
+use Rattle.node_keeps.proofs.DoorKeeps.{question-keeps, unknown-keeps}
 use Rattle.node_keeps.proofs.Alone.{Shapes, index-served}
 use Rattle.protocol.specs.Ends.{fresh, rank}
 use Rattle.protocol.specs.Sending.{Sender}
 use Rattle.protocol.specs.Receiving.{Receiver, ReceiverCall, startOf, controlled}
 use Rattle.receiver_means.proofs.Control.{Opens, open-receives}
-use Rattle.delivery.specs.Calls.{End, Kind, opens, closes, transfers, reclaims, hands, Request, calledBy}
+use Rattle.delivery.specs.Calls.{End, Kind, opens, closes, transfers, asks, reclaims, hands, strays, Request, calledBy}
 use Rattle.delivery.specs.History.{subscriber, Event, granted, openings}
 use Rattle.delivery.proofs.Own.{View, Seen, Left, own-cases}
 use Rattle.delivery.proofs.Nodes.{endWith}
@@ -86,39 +88,54 @@ module _ {h s : End} {past : List Event} {x : Sender} {y : Receiver} {t : List C
 
   unmoved : (kind : Kind) → ((a : Answer) (o : List ℕ) → Next w (request kind) copy a o c m l)
       → (look : Look) (step : Step) (out : List ℕ) → Shapes look step out
-      → (Given look i (choice look t .rank) c m l → step c (choice look t .rank) m l out ≡ works (refusing c refusal.State) m l out)
+      → (why : Refusal) → (Given look i (choice look t .rank) c m l → step c (choice look t .rank) m l out ≡ works (refusing c why) m l out)
       → Seen (Next w (request kind) copy) i (serveOne look step t mem lens out)
-  unmoved kind nothing look step out shape refuses =
+  unmoved kind nothing look step out shape why refuses =
       own-cases look step t mem lens out shape i (below w) (Next w (request kind) copy)
-      (λ why. nothing (Refused why) out)
+      (λ other. nothing (Refused other) out)
       (λ j there apart at g. nothing _ _)
-      (λ at g. subst (Left (Next w (request kind) copy)) (sym (refuses g)) (nothing (Refused refusal.State) out))
+      (λ at g. subst (Left (Next w (request kind) copy)) (sym (refuses g)) (nothing (Refused why) out))
 
   pub subscriber-closes : Shown closes
   subscriber-closes =
-      subst (Seen (Next w (request closes) copy) i) (alone-called (Index channel) closedBy t mem lens)
-      (unmoved closes (λ a o. quiet w (request closes) copy a o refl refl (λ packet q. absurd (true≢false (sym q))))
-      (Index channel) (alone closedBy) [] (shapes (Index channel) (alone closedBy) [] (close-keeps (Index channel) []))
-      (λ g. ap (λ (z : Stepped). works z m l []) (closed-receives c (not-sending w))))
+      unmoved closes (λ a o. quiet w (request closes) copy a o refl refl (λ packet q. absurd (true≢false (sym q))))
+      (Index channel) (alone closedBy) buffer (shapes (Index channel) (alone closedBy) buffer (close-keeps (Index channel) buffer)) refusal.State
+      (λ g. ap (λ (z : Stepped). works z m l buffer) (closed-receives c (not-sending w)))
 
   pub subscriber-transfers : Shown transfers
   subscriber-transfers =
       unmoved transfers (λ a o. quiet w (request transfers) copy a o refl refl (λ packet q. absurd (true≢false (sym q))))
-      (Index channel) (transferFor octets) [] (transfer-shapes (Index channel) octets [])
-      (λ g. transfer-refused c (choice (Index channel) t .rank) m l [] (not-sending w) octets)
+      (Index channel) (transferFor octets) buffer (transfer-shapes (Index channel) octets buffer) refusal.State
+      (λ g. transfer-refused c (choice (Index channel) t .rank) m l buffer (not-sending w) octets)
+
+  -- whatever is asked
+  pub subscriber-asks : Shown asks
+  subscriber-asks =
+      unmoved asks (λ a o. quiet w (request asks) copy a o refl refl (λ packet q. absurd (true≢false (sym q))))
+      (Index channel) (alone (askedBy (length octets))) buffer
+      (shapes (Index channel) (alone (askedBy (length octets))) buffer (question-keeps (Index channel) (length octets) buffer)) refusal.State
+      (λ g. ap (λ (z : Stepped). works z m l buffer) (asked-receives c (length octets) (not-sending w)))
 
   pub subscriber-reclaims : Shown reclaims
   subscriber-reclaims =
       unmoved reclaims (λ a o. quiet w (request reclaims) copy a o refl refl (λ packet q. absurd (true≢false (sym q))))
-      (Index channel) reclaimFor buffer (shapes (Index channel) reclaimFor buffer (reclaim-keeps (Index channel) buffer))
+      (Index channel) reclaimFor buffer (shapes (Index channel) reclaimFor buffer (reclaim-keeps (Index channel) buffer)) refusal.State
       (λ g. reclaim-refused c (choice (Index channel) t .rank) m l buffer (not-sending w))
 
   -- a receiver hands out nothing
   pub subscriber-hands : Shown hands
   subscriber-hands =
       unmoved hands (λ a o. quiet w (request hands) copy a o refl refl (λ packet q. absurd (true≢false (sym q))))
-      Ready (nextFor (s .node)) buffer (shapes Ready (nextFor (s .node)) buffer (next-keeps (s .node) buffer))
+      Ready (nextFor (s .node)) buffer (shapes Ready (nextFor (s .node)) buffer (next-keeps (s .node) buffer)) refusal.Nothing
       (λ g. absurd (not-sending w (ready-is c (choice Ready t .rank) (g .suits) (g .found) .0)))
+
+  -- a request that is none
+  pub subscriber-strays : Shown strays
+  subscriber-strays =
+      let none = Nobody refusal.NoChannel in
+      let step = alone (λ c. refusing c refusal.NoChannel) in
+      unmoved strays (λ a o. quiet w (request strays) copy a o refl refl (λ packet q. absurd (true≢false (sym q))))
+      none step buffer (shapes none step buffer (unknown-keeps none buffer)) refusal.NoChannel (λ g. refl)
 
   -- ---- the Open directive
 
@@ -135,16 +152,16 @@ module _ {h s : End} {past : List Event} {x : Sender} {y : Receiver} {t : List C
   opens-refused why o =
       opens-quiet (Refused why) o (unanswered subscriber opens i (subscriberEvent (request opens) copy n (Refused why) o) (refused-not-done why))
 
-  opens-done : channel ≡ i → openStep c ≡ doing (enabledOf c noLone) 0 → First (Done 0 0) [] (enabledOf c noLone) m l
+  opens-done : channel ≡ i → openStep c ≡ doing (enabledOf c noLone) 0 → First (Done 0 0) buffer (enabledOf c noLone) m l
   opens-done own e first =
-      subscriber-next h s past x y (w .inv) (w .numbered) (small w) (request opens) copy n (Done 0 0) [] call tt refl
-      (no-reply h s past x y (w .inv) (w .numbered) (small w) (request opens) copy n (Done 0 0) [] call (λ packet q. absurd (true≢false (sym q))) (λ j b. b))
+      subscriber-next h s past x y (w .inv) (w .numbered) (small w) (request opens) copy n (Done 0 0) buffer call tt refl
+      (no-reply h s past x y (w .inv) (w .numbered) (small w) (request opens) copy n (Done 0 0) buffer call (λ packet q. absurd (true≢false (sym q))) (λ j b. b))
       c (enabledOf c noLone) m l (q .related)
       (λ z. counted-same n c (enabledOf c noLone) (λ k. absurd (omega (arith, k))) ∙ w .now .counted (omega (arith, ap rank fresh-yet)) ∙ start (ltb (rank (y .phase)) (rank (q .phase))))
       (λ z. absurd (omega (arith, sym (chosen (granted subscriber opens i event) _ _ done) ∙ z)))
     where
       event : Event
-      event = subscriberEvent (request opens) copy n (Done 0 0) []
+      event = subscriberEvent (request opens) copy n (Done 0 0) buffer
 
       done : granted subscriber opens i event ≡ true
       done = granted-is subscriber opens i event refl own refl
@@ -162,11 +179,11 @@ module _ {h s : End} {past : List Event} {x : Sender} {y : Receiver} {t : List C
       start true = refl
       start false = refl
 
-  opens-own : channel ≡ i → Left First (works (openedBy c) m l [])
+  opens-own : channel ≡ i → Left First (works (openedBy c) m l buffer)
   opens-own own =
-      subst (λ (z : Stepped). Left First (works z m l [])) (sym (opened-receives c (not-sending w)))
-      (open-cases c (λ (z : Stepped). openStep c ≡ z → Left First (works z m l []))
-      (λ e first. opens-refused refusal.State []) (λ e first. opens-refused refusal.Untaken []) (λ e. opens-done own e) refl)
+      subst (λ (z : Stepped). Left First (works z m l buffer)) (sym (opened-receives c (not-sending w)))
+      (open-cases c (λ (z : Stepped). openStep c ≡ z → Left First (works z m l buffer))
+      (λ e first. opens-refused refusal.State buffer) (λ e first. opens-refused refusal.Untaken buffer) (λ e. opens-done own e) refl)
 
   pub subscriber-opens :
       (granted subscriber opens i
@@ -174,10 +191,9 @@ module _ {h s : End} {past : List Event} {x : Sender} {y : Receiver} {t : List C
       → openings subscriber i past ≡ 0)
       → Shown opens
   subscriber-opens =
-      subst (Seen First i) (alone-called (Index channel) openedBy t mem lens)
-      (own-cases (Index channel) (alone openedBy) t mem lens [] (shapes (Index channel) (alone openedBy) [] (open-keeps (Index channel) [])) i (below w) First
-      (λ why first. opens-refused why [])
+      own-cases (Index channel) (alone openedBy) t mem lens buffer (shapes (Index channel) (alone openedBy) buffer (open-keeps (Index channel) buffer)) i (below w) First
+      (λ why first. opens-refused why buffer)
       (λ j there apart at g first.
-      opens-quiet (openedBy (recordAt t j) .answer) []
-      (for-another subscriber opens i (subscriberEvent (request opens) copy n (openedBy (recordAt t j) .answer) []) (other-index channel j i _ _ _ _ apart g)))
-      (λ at g. opens-own (sym (index-served channel i _ _ _ _ g))))
+      opens-quiet (openedBy (recordAt t j) .answer) buffer
+      (for-another subscriber opens i (subscriberEvent (request opens) copy n (openedBy (recordAt t j) .answer) buffer) (other-index channel j i _ _ _ _ apart g)))
+      (λ at g. opens-own (sym (index-served channel i _ _ _ _ g)))

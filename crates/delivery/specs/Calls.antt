@@ -2,6 +2,7 @@
 use Prim.Native.Nat.{ℕ, _+_}
 use mathlib.Core.List.{List}
 use lib.Dec.{eqb}
+use lib.ListN.{length}
 use Rattle.laws.specs.Choice.{if_then_else_}
 use Rattle.walks.specs.Serving.{Called}
 use Rattle.channel.specs.declared.record.Node.{Node}
@@ -10,7 +11,9 @@ use Rattle.channel.specs.declared.answer.Answer.{Answer}
 use Rattle.channel.specs.Record as state
 use Rattle.table.specs.Serving.{recordAt, ownMem, ownLens}
 use Rattle.node_ticks.specs.Ticks.{ticked}
-use Rattle.node_calls.specs.Calls.{opened, closed, transferred, taken, reclaimed, handed, arrived}
+use Rattle.node_calls.specs.declared.request.Request as door
+use Rattle.node_calls.specs.declared.request.Request.the-variants.{Open, Close, Transfer, WouldTransfer, Take, Reclaim, Arrival, NextPacket, Unknown}
+use Rattle.node_calls.specs.Calls.{served}
 use Rattle.node_keeps.specs.Keeping.{staying}
 use Rattle.protocol.specs.Numbers.{distance}
 use Rattle.units_held.specs.Held.{unitsHeld}
@@ -25,9 +28,9 @@ pub record End : Type 0 where
   pub index : ℕ
   pub start : ℕ
 
--- The public calls (crate node).
+-- What can be asked of a node (crate node): `strays` is a request that is none.
 pub data Kind : Type 0 where
-  opens closes transfers takes reclaims hands arrives ticks : Kind
+  opens closes transfers asks takes reclaims hands arrives strays ticks : Kind
 
 abbrev pub code : Kind → ℕ
 code opens = 0
@@ -38,23 +41,31 @@ code reclaims = 4
 code hands = 5
 code arrives = 6
 code ticks = 7
+code asks = 8
+code strays = 9
 
--- Its arguments, as far as it has them: the index of a channel of the table, any of them; the octets of a unit or of a packet; the lent buffer.
+-- Its arguments, as far as it has them: any index of a channel; the octets of a unit or of a packet, or as many as are asked for; the lent buffer.
 pub record Request : Type 0 where
   pub kind : Kind
   pub channel : ℕ
   pub octets : List ℕ
   pub buffer : List ℕ
 
--- what a call gives: the functions that the contracts of crate node cite, and nothing else
+-- the node's door, asked this: the definition that its contract cites (crate node), and nothing else
+abbrev pub atDoor : End → Request → door.Request → Called Answer Channel
+atDoor e r asked = served (e .table) (e .mem) (e .lens) asked (r .octets) (r .buffer)
+
+-- What a call gives. A tick alone does not come by the door.
 abbrev pub calledBy : Kind → End → Request → Called Answer Channel
-calledBy opens e r = staying (opened (e .table) (e .mem) (e .lens) (r .channel)) (e .mem) (e .lens)
-calledBy closes e r = staying (closed (e .table) (e .mem) (e .lens) (r .channel)) (e .mem) (e .lens)
-calledBy transfers e r = transferred (e .table) (e .mem) (e .lens) (r .channel) (r .octets)
-calledBy takes e r = taken (e .table) (e .mem) (e .lens) (r .channel) (r .buffer)
-calledBy reclaims e r = reclaimed (e .table) (e .mem) (e .lens) (r .channel) (r .buffer)
-calledBy hands e r = handed (e .table) (e .mem) (e .lens) (e .node) (r .buffer)
-calledBy arrives e r = arrived (e .table) (e .mem) (e .lens) (e .node) (r .octets) (r .buffer)
+calledBy opens e r = atDoor e r (Open (r .channel))
+calledBy closes e r = atDoor e r (Close (r .channel))
+calledBy transfers e r = atDoor e r (Transfer (r .channel))
+calledBy asks e r = atDoor e r (WouldTransfer (r .channel) (length (r .octets)))
+calledBy takes e r = atDoor e r (Take (r .channel))
+calledBy reclaims e r = atDoor e r (Reclaim (r .channel))
+calledBy hands e r = atDoor e r (NextPacket (e .node))
+calledBy arrives e r = atDoor e r (Arrival (e .node))
+calledBy strays e r = atDoor e r Unknown
 calledBy ticks e r = staying (ticked (e .table) (e .mem) (e .lens)) (e .mem) (e .lens)
 
 abbrev pub called : End → Request → Called Answer Channel

@@ -41,7 +41,7 @@ use Rattle.table.specs.Lent.{slotsOf, octetsOf, eachStands, lawful}
 use Rattle.table.specs.Looking.{same, chosenFrom}
 use Rattle.table.specs.Serving.{recordAt, stored, serveOne}
 use Rattle.steps_handing.specs.Handing.{nextFor}
-use Rattle.steps.specs.Requests.{openedBy, closedBy, transferFor, takeFor, reclaimFor}
+use Rattle.steps.specs.Requests.{openedBy, closedBy, transferFor, askedBy, takeFor, reclaimFor}
 use Rattle.steps_ticking.specs.Ticking.{tickedBy}
 use Rattle.steps_arriving.specs.Arriving.{arriveBy, arrivalFor}
 use Rattle.arriving_look.specs.Finding.{isOurs, lookOf}
@@ -164,5 +164,5 @@ afterEnding acc cnt back tak =
 pub the-ending : (past : List Event)
     → endedAs (checked hostEnd stationEnd true (runAt past 255) ending)
     ≡ afterEnding (accepted hostEnd past) (confirmed hostEnd past) (reclaimed hostEnd past) (taken stationEnd past)
-unfolding bodyOf packetOf short damaged kindOf lacking strange writtenOf afterWrite readOf shiftOne shifts octetInto crcFrom crcOf roundOf backOf runOf cleared slotIn laid unitOf endsIn lastEndIn sizeIn octetsIn filedMem filedBy filedLens filedMarks fallen fitWindow fitUnits fitTimers fitLimits fit clash named inRing inFlight sided asking rested marked slotFit slotsFit standing parked openStep closeStep anySpent tickStep reclaimStep reclaimOut wouldTransfer isAccepted transferStep transferMem transferLens controlAckStep isAwaited advanced dataAckStep againIn ready rankOf nextFields nextPayload nextOut handStep handOut r.leaving r.openStep r.openArrives r.closeArrives r.controlStep r.tickStep isHeld sortAt fitting movedBy acceptStep dataStep isFiled dataMem dataLens takeStep takeOut slotsOf octetsOf eachStands lawful same chosenFrom stored serveOne nextFor openedBy closedBy transferFor takeFor reclaimFor tickedBy isOurs lookOf unfit arriveBy arrivalFor anyInactive ticked numberAt distance unitsIn equal handedIn repliedIn fairly packetFor checked
+unfolding bodyOf packetOf short damaged kindOf lacking strange writtenOf afterWrite readOf shiftOne shifts octetInto crcFrom crcOf roundOf backOf runOf cleared slotIn laid unitOf endsIn lastEndIn sizeIn octetsIn filedMem filedBy filedLens filedMarks fallen fitWindow fitUnits fitTimers fitLimits fit clash named inRing inFlight sided asking rested marked slotFit slotsFit standing parked openStep closeStep anySpent tickStep reclaimStep reclaimOut wouldTransfer isAccepted transferStep transferMem transferLens controlAckStep isAwaited advanced dataAckStep againIn ready rankOf nextFields nextPayload nextOut handStep handOut r.leaving r.openStep r.openArrives r.closeArrives r.controlStep r.tickStep isHeld sortAt fitting movedBy acceptStep dataStep isFiled dataMem dataLens takeStep takeOut slotsOf octetsOf eachStands lawful same chosenFrom stored serveOne nextFor openedBy closedBy transferFor askedBy takeFor reclaimFor tickedBy isOurs lookOf unfit arriveBy arrivalFor anyInactive ticked numberAt distance unitsIn equal handedIn repliedIn fairly packetFor checked
 the-ending past = refl

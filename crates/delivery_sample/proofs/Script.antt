@@ -8,7 +8,7 @@ use Rattle.channel.specs.declared.record.Settings.{Settings}
 use Rattle.channel.specs.declared.record.Channel.{Channel}
 use Rattle.channel.specs.declared.record.Timers.{Timers}
 use Rattle.channel.specs.Record.{opened, madeOf, noLone, noMarks, noTimers}
-use Rattle.delivery.specs.Calls.{End, Kind, opens, transfers, takes, reclaims, hands, ticks}
+use Rattle.delivery.specs.Calls.{End, Kind, opens, transfers, asks, takes, reclaims, hands, ticks}
 use Rattle.delivery.specs.History.{host, subscriber, Event}
 use Rattle.delivery.specs.Delivery.{Run, begin}
 use Rattle.delivery_sample.proofs.Deciding.{Move, does, brings, spoils}
@@ -94,11 +94,12 @@ lost i =
     ∷ atStation takes [] room
     ∷ []
 
--- ---- the fan event comes through, and its Acks are lost; one more is accepted; then the station is silent, until the retries are used up
+-- ---- the fan event, asked for first, comes through, and its Acks are lost; one more is accepted; then the station is silent, until the retries are used up
 
 abbrev pub silent : ℕ → List Move
 silent i =
-    atHost transfers (70 ∷ 65 ∷ 78 ∷ []) []
+    atHost asks (70 ∷ 65 ∷ 78 ∷ []) []
+    ∷ atHost transfers (70 ∷ 65 ∷ 78 ∷ []) []
     ∷ atHost hands [] room
     ∷ atHost hands [] room
     ∷ brings subscriber 1 i

@@ -10,3 +10,4 @@ pub mod Alone
 pub mod CallsAlone
 pub mod Marks
 pub mod Settled
+pub mod DoorKeeps

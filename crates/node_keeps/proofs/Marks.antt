@@ -59,13 +59,13 @@ use Rattle.node_keeps.proofs.CallsAlone.{mapped-at}
 
 -- ---- each step of a sender
 
-abbrev Full : Channel → Type 0
+abbrev pub Full : Channel → Type 0
 Full c = length (c .marks) ≡ 128
 
 fresh-full : length noMarks ≡ 128
 fresh-full = refl
 
-abbrev Fills : Stepped → Type 0
+abbrev pub Fills : Stepped → Type 0
 Fills s = Full (s .channel)
 
 module _ (c : Channel) (w : Full c) where
@@ -148,7 +148,7 @@ module _ (c : Channel) (w : Full c) where
 -- ---- each call
 
 -- a step whose record has its marks again
-abbrev Marking : Step → List ℕ → Type 0
+abbrev pub Marking : Step → List ℕ → Type 0
 Marking step out = (c : Channel) (rank : ℕ) (mem lens : List ℕ) → Full c → Fills (step c rank mem lens out .made)
 
 works-full : (b : Bool) (x y : Worked Stepped) → Fills (x .made) → Fills (y .made) → Fills ((if b then x else y) .made)
@@ -169,7 +169,7 @@ stored-wide t i k wide full j less = go (eqb j i) refl
         ∙ full
     go false e = ap (λ (c : Channel). length (c .marks)) (getD-set-other t i j k blank (eqb-false j i e)) ∙ wide j below
 
-serve-wide : (look : Look) (step : Step) (t : List Channel) (mem lens out : List ℕ) → Marking step out → Wide t → Wide (serveOne look step t mem lens out .table)
+pub serve-wide : (look : Look) (step : Step) (t : List Channel) (mem lens out : List ℕ) → Marking step out → Wide t → Wide (serveOne look step t mem lens out .table)
 unfolding stored
 serve-wide look step t mem lens out marking wide =
     serve-cases look step t mem lens out (λ (g : Called Answer Channel). Wide (g .table)) wide wide
@@ -178,32 +178,32 @@ serve-wide look step t mem lens out marking wide =
     stored-wide t i (worked look step t mem lens out .made .channel) wide
     (marking (recordAt t i) (choice look t .rank) (ownMem t i mem) (ownLens t i lens) (wide i below)))
 
-open-marking : (out : List ℕ) → Marking (alone openedBy) out
+pub open-marking : (out : List ℕ) → Marking (alone openedBy) out
 unfolding openedBy
 open-marking out c rank mem lens w =
     either Fills (eqb (c .addresses .direction) sends) _ _ (open-full c w) (open-cases c Fills w w fresh-full)
 
-close-marking : (out : List ℕ) → Marking (alone closedBy) out
+pub close-marking : (out : List ℕ) → Marking (alone closedBy) out
 unfolding closedBy
 close-marking out c rank mem lens w = either Fills (eqb (c .addresses .direction) sends) _ _ (close-full c w) w
 
-transfer-marking : (unit out : List ℕ) → Marking (transferFor unit) out
+pub transfer-marking : (unit out : List ℕ) → Marking (transferFor unit) out
 unfolding transferFor
 transfer-marking unit out c rank mem lens w = works-full (eqb (c .addresses .direction) sends) _ _ (transfer-full c w (length unit)) w
 
-take-marking : (out : List ℕ) → Marking takeFor out
+pub take-marking : (out : List ℕ) → Marking takeFor out
 unfolding takeFor
 take-marking out c rank mem lens w = works-full (eqb (c .addresses .direction) receives) _ _ (take-full c w lens (length out)) w
 
-reclaim-marking : (out : List ℕ) → Marking reclaimFor out
+pub reclaim-marking : (out : List ℕ) → Marking reclaimFor out
 unfolding reclaimFor
 reclaim-marking out c rank mem lens w = works-full (eqb (c .addresses .direction) sends) _ _ (reclaim-full c w lens (length out)) w
 
-next-marking : (node : Node) (out : List ℕ) → Marking (nextFor node) out
+pub next-marking : (node : Node) (out : List ℕ) → Marking (nextFor node) out
 unfolding nextFor
 next-marking node out c rank mem lens w = hand-full c w lens rank (length out)
 
-arrival-marking : (node : Node) (packet out : List ℕ) → Marking (arrivalFor node packet) out
+pub arrival-marking : (node : Node) (packet out : List ℕ) → Marking (arrivalFor node packet) out
 unfolding arrivalFor
 arrival-marking node packet out c rank mem lens w =
     let f = fieldsAt packet in

@@ -41,16 +41,16 @@ use Rattle.node_keeps.proofs.StepsKeep.{open-keeps, close-keeps, take-k
 use Rattle.node_keeps.proofs.CallsKeep.{tick-unlawful-changes-nothing}
 
 -- a step that changes neither
-abbrev Fixing : Look → Step → List ℕ → Type 0
+abbrev pub Fixing : Look → Step → List ℕ → Type 0
 Fixing look step out =
     (at rank : ℕ) (c : Channel) (mem lens : List ℕ)
     → Given look at rank c mem lens
     → (step c rank mem lens out .made .channel .addresses ≡ c .addresses) × (step c rank mem lens out .made .channel .limits ≡ c .limits)
 
-keeps-fixing : (look : Look) (step : Step) (out : List ℕ) → Keeps look step out → Fixing look step out
+pub keeps-fixing : (look : Look) (step : Step) (out : List ℕ) → Keeps look step out → Fixing look step out
 keeps-fixing look step out keeps at rank c mem lens g = let k = keeps at rank c mem lens g in (k .addresses, k .limits)
 
-transfer-fixing : (look : Look) (unit out : List ℕ) → Fixing look (transferFor unit) out
+pub transfer-fixing : (look : Look) (unit out : List ℕ) → Fixing look (transferFor unit) out
 unfolding transferFor
 transfer-fixing look unit out at rank c mem lens g = go (eqb (c .addresses .direction) sends)
   where
