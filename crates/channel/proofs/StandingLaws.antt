@@ -10,8 +10,8 @@ use native.Mathlib.Nat.{not-suc-le-zero, le-of-suc-le-suc, add-zero, zero-add, a
 use borrow.Author.Tests.{lt-ltb, le-leb, ltb-true, leb-true, eqb-true, eqb-false, eq-eqb, ne-eqb}
 use lib.Dec.{eqb}
 use Rattle.channel.specs.Places.{slotOf}
-use Rattle.ring.specs.Ring.{runOf}
-use Rattle.ring.proofs.Laws.{back-lt, run-set, run-is}
+use Rattle.slots.specs.Ring.{runOf}
+use Rattle.slots.proofs.RingLaws.{back-lt, run-set, run-is}
 use Rattle.channel.specs.declared.record.Channel.{Channel}
 use Rattle.channel.specs.Record.{sends, receives, closed, opened, loneNone, heldIn}
 use Rattle.laws.proofs.Choice.{both, either, either-way}

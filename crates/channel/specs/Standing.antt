@@ -6,7 +6,7 @@ use mathlib.Core.List.{List}
 use lib.Dec.{ltb, leb, eqb}
 use lib.ListN.{length, getD}
 use Rattle.laws.specs.Choice.{if_then_else_}
-use Rattle.ring.specs.Ring.{roundOf, backOf, runOf}
+use Rattle.slots.specs.Ring.{roundOf, backOf, runOf}
 use Rattle.slots.specs.Marks.{ends}
 use Rattle.channel.specs.Places.{slotOf}
 use Rattle.channel.specs.declared.record.Limits.{Limits}

@@ -54,7 +54,7 @@ pub fn number(a: Answer) -> u32
     }
 }
 
-pub fn refusal_number(r: Refusal) -> u32
+fn refusal_number(r: Refusal) -> u32
     ensures { λ n. ⌜ n ≡ refusalNumber r ⌝ }
 {
     match r {

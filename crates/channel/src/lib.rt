@@ -1,10 +1,10 @@
-// A channel's record with its nested parts, the settings it is made from, and the answers of its calls (document 01, A channel's record and
-// memory). Settings and the standing condition are definitions here; they are tested in `channel_settings` and
-// `channel_stands`.
+// A channel's record with its nested parts, the settings it is made from and their test, and the answers of its calls (document 01, A channel's
+// record and memory). The standing condition is a definition here; it is tested in `condition`.
 pub mod answer;
 pub mod lone;
 pub mod places;
 pub mod record;
+pub mod settings;
 pub mod step;
 
 pub use answer::Answer;

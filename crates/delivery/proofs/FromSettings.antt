@@ -21,9 +21,9 @@ use Rattle.channel.specs.Settings.{clash}
 use Rattle.channel.specs.Tables.{fitTable}
 use Rattle.channel.proofs.TableLaws.{table-apart}
 use Rattle.table.specs.Serving.{unset, recordAt}
-use Rattle.node_keeps.specs.Keeping.{Wide}
-use Rattle.node_settings.specs.Configuring.{madeTable, settled, configured}
-use Rattle.node_settings.proofs.Promises.{settings-done, settings-lawful, settings-closed}
+use Rattle.keeps.specs.Keeping.{Wide}
+use Rattle.settings.specs.Configuring.{madeTable, settled, configured}
+use Rattle.settings.proofs.Promises.{settings-done, settings-lawful, settings-closed}
 use Rattle.delivery.specs.Delivery.{Fresh}
 use Rattle.delivery.proofs.Packets.{equal-clash}
 

@@ -19,8 +19,8 @@ use Rattle.packet.specs.declared.writing.Written.the-variants as written
 use Rattle.packet.specs.Layout.{payloadAt, wholeLength, fieldsAt}
 use Rattle.packet.specs.Writing.{afterWrite}
 use Rattle.packet.proofs.WriteLaws.{write-done}
-use Rattle.packet_read.proofs.ReadLaws.{accepted}
-use Rattle.packet_read.proofs.RoundTrip.{written-then-read}
+use Rattle.packet.proofs.ReadLaws.{accepted}
+use Rattle.packet.proofs.RoundTrip.{written-then-read}
 use Rattle.walks.specs.Serving.{Worked, works}
 use Rattle.channel.specs.declared.record.Node.{Node}
 use Rattle.channel.specs.declared.record.Channel.{Channel}
@@ -35,8 +35,8 @@ use Rattle.sender_packets.specs.Asked.{Ready, Plain}
 use Rattle.sender_packets.specs.HandingOut.{againAt, controlFields, dataFields, segmentFor, nextFields, nextPayload, nextOut, nextLength, handStep, handOut}
 use Rattle.sender_packets.proofs.HandLaws.{rank-1-is, rank-2-is, control-plain, data-plain}
 use Rattle.sender_packets.proofs.LyingLaws.{lying, segment-sized}
-use Rattle.steps_handing.specs.Handing.{nextFor}
-use Rattle.steps_arriving.specs.Arriving.{payloadIn}
+use Rattle.requests.specs.Handing.{nextFor}
+use Rattle.arrivals.specs.Arriving.{payloadIn}
 
 -- ---- fields
 

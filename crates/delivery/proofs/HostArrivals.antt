@@ -29,26 +29,26 @@ use Rattle.table.specs.declared.looking.Look.{Look}
 use Rattle.table.specs.Looking.{looksFor, same, graded, chosen as choice}
 use Rattle.table.proofs.OneLaws.{kind-finds}
 use Rattle.table.specs.Serving.{recordAt}
-use Rattle.steps_arriving.specs.Arriving.{arriveBy, payloadIn, arrivalFor, Framed}
-use Rattle.arriving_look.specs.Finding.{lookOf}
-use Rattle.arriving_data.specs.Data.{unfit}
-use Rattle.steps_arriving.proofs.ArriveLaws.{framed, by-kind}
-use Rattle.arriving_look.proofs.FindLaws.{found-packet}
-use Rattle.node_calls.specs.declared.request.Request.the-variants.{Arrival}
-use Rattle.node_calls.specs.Calls.{served}
-use Rattle.node_keeps.specs.Keeping.{Given}
-use Rattle.node_keeps.proofs.StepsKeep.{arrival-keeps}
-use Rattle.node_keeps.proofs.CallsAlone.{shapes}
+use Rattle.arrivals.specs.Arriving.{arriveBy, payloadIn, arrivalFor, Framed}
+use Rattle.arrivals.specs.Finding.{lookOf}
+use Rattle.arrivals.specs.Data.{unfit}
+use Rattle.arrivals.proofs.ArriveLaws.{framed, by-kind}
+use Rattle.arrivals.proofs.FindLaws.{found-packet}
+use Rattle.node.specs.declared.request.Request.the-variants.{Arrival}
+use Rattle.node.specs.Calls.{served}
+use Rattle.keeps.specs.Keeping.{Given}
+use Rattle.keeps.proofs.StepsKeep.{arrival-keeps}
+use Rattle.keeps.proofs.CallsAlone.{shapes}
 use Rattle.protocol.specs.Numbers.{numberAt, distance}
 use Rattle.protocol.specs.Ends.{Limits, isOpen}
 use Rattle.protocol.specs.Sending as sending
 use Rattle.protocol.specs.Sending.{Sender, SenderCall, senderStep, acknowledged}
 use Rattle.protocol.specs.Receiving.{Receiver}
 use Rattle.protocol.specs.History as protocol
-use Rattle.sender_keeps.proofs.Cases.{control-ack-cases}
-use Rattle.sender_means.proofs.Sends.{Sends, open-state, state-opened}
-use Rattle.sender_means.proofs.Controls.{control-ack-sends}
-use Rattle.sender_means.proofs.Acks.{ack-sends, ack-near}
+use Rattle.ends.proofs.SenderCases.{control-ack-cases}
+use Rattle.means.proofs.Sends.{Sends, open-state, state-opened}
+use Rattle.means.proofs.SenderControl.{control-ack-sends}
+use Rattle.means.proofs.SenderAcks.{ack-sends, ack-near}
 use Rattle.delivery.specs.Calls.{End, arrives, Request, channelOf}
 use Rattle.delivery.specs.History.{Event, names, IsData, IsDataAck, Replied, confirmed}
 use Rattle.delivery.specs.Delivery.{NotLate}

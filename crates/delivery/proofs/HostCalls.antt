@@ -7,13 +7,13 @@ use Prim.Native.Nat.{ℕ}
 use Rattle.channel.specs.declared.record.Channel.{Channel}
 use Rattle.sender.specs.Ticking.{tickStep}
 use Rattle.table.specs.Serving.{recordAt, ownMem, ownLens}
-use Rattle.steps_ticking.specs.declared.ticking.Ticked.{Ticked}
-use Rattle.steps_ticking.proofs.TickLaws.{tick-sends as ticked-sends}
-use Rattle.node_ticks.specs.Ticks.{ticked}
-use Rattle.node_keeps.specs.Keeping.{staying}
+use Rattle.ticks.specs.declared.ticking.Ticked.{Ticked}
+use Rattle.ticks.proofs.TickLaws.{tick-sends as ticked-sends}
+use Rattle.ticks.specs.Ticks.{ticked}
+use Rattle.keeps.specs.Keeping.{staying}
 use Rattle.protocol.specs.Sending.{Sender}
 use Rattle.protocol.specs.Receiving.{Receiver}
-use Rattle.sender_means.proofs.Controls.{tick-sends}
+use Rattle.means.proofs.SenderControl.{tick-sends}
 use Rattle.delivery.specs.Calls.{End, Kind, opens, closes, transfers, asks, takes, reclaims, hands, arrives, strays, ticks, Request, called}
 use Rattle.delivery.specs.History.{host, Event, is, granted, names, IsDataAck, Replied, openings}
 use Rattle.delivery.specs.Delivery.{Fresh, Alike, NotLate}

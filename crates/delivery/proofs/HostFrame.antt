@@ -9,7 +9,7 @@ use Rattle.laws.specs.Choice.{if_then_else_}
 use Rattle.packet.specs.Layout.{fieldsAt}
 use Rattle.channel.specs.declared.record.Channel.{Channel}
 use Rattle.channel.specs.declared.answer.Answer.{Answer}
-use Rattle.steps_arriving.specs.Arriving.{payloadIn}
+use Rattle.arrivals.specs.Arriving.{payloadIn}
 use Rattle.protocol.specs.Numbers.{numberAt}
 use Rattle.protocol.specs.Units.{DataUnit, Segment}
 use Rattle.protocol.specs.Ends as ends
@@ -18,8 +18,8 @@ use Rattle.protocol.specs.Sending.{Sender, SenderCall, senderStep}
 use Rattle.protocol.specs.Receiving.{Receiver}
 use Rattle.protocol.specs.History as protocol
 use Rattle.protocol.proofs.Invariant.{Inv}
-use Rattle.units_held.specs.Meaning.{carried}
-use Rattle.sender_means.proofs.Sends.{Sends}
+use Rattle.means.specs.Meaning.{carried}
+use Rattle.means.proofs.Sends.{Sends}
 use Rattle.delivery.specs.Calls.{End, hands, Request, countedOn}
 use Rattle.delivery.specs.History.{host, Call, Event, is, written, names, IsData, segmentOf, openings, accepted, confirmed, reclaimed, taken}
 use Rattle.delivery.proofs.Known.{Out, Back, back-later, limits, InvOf, Numbered, inv-links}

@@ -30,23 +30,23 @@ use Rattle.sender_packets.specs.HandingOut.{segmentFor, nextOut}
 use Rattle.table.specs.declared.looking.Look.the-variants as look
 use Rattle.table.specs.Looking.{looksFor, same, chosen as choice}
 use Rattle.table.specs.Serving.{recordAt, ownMem, ownLens}
-use Rattle.steps_handing.specs.Handing.{nextFor}
-use Rattle.steps_handing.proofs.HandLaws.{ready-is}
-use Rattle.steps_arriving.specs.Arriving.{payloadIn}
-use Rattle.arriving_look.specs.Finding.{isOurs}
-use Rattle.node_calls.specs.declared.request.Request.the-variants.{NextPacket}
-use Rattle.node_calls.specs.Calls.{served}
-use Rattle.node_keeps.proofs.StepsKeep.{next-keeps}
-use Rattle.node_keeps.proofs.CallsAlone.{shapes}
+use Rattle.requests.specs.Handing.{nextFor}
+use Rattle.requests.proofs.HandLaws.{ready-is}
+use Rattle.arrivals.specs.Arriving.{payloadIn}
+use Rattle.arrivals.specs.Finding.{isOurs}
+use Rattle.node.specs.declared.request.Request.the-variants.{NextPacket}
+use Rattle.node.specs.Calls.{served}
+use Rattle.keeps.proofs.StepsKeep.{next-keeps}
+use Rattle.keeps.proofs.CallsAlone.{shapes}
 use Rattle.protocol.specs.Numbers.{numberAt, distance}
 use Rattle.protocol.specs.Units.{Segment, blank}
 use Rattle.protocol.specs.Ends.{Limits, rank}
 use Rattle.protocol.specs.Sending.{Sender, SenderCall, mayHandOut, handedOut}
 use Rattle.protocol.specs.Receiving.{Receiver}
 use Rattle.protocol.specs.History as protocol
-use Rattle.units_held.specs.Meaning.{carried}
-use Rattle.sender_means.proofs.Sends.{Sends, state-opened}
-use Rattle.sender_means.proofs.Handing.{DataOut, control-out-sends, data-out-sends}
+use Rattle.means.specs.Meaning.{carried}
+use Rattle.means.proofs.Sends.{Sends, state-opened}
+use Rattle.means.proofs.Handing.{DataOut, control-out-sends, data-out-sends}
 use Rattle.delivery.specs.Calls.{End, hands, Request, channelOf}
 use Rattle.delivery.specs.History.{Event, names, IsData, segmentOf}
 use Rattle.delivery.proofs.Nodes.{own-asked}

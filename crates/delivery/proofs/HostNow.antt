@@ -19,10 +19,10 @@ use Rattle.table.specs.Serving.{recordAt, ownMem, ownLens}
 use Rattle.protocol.specs.Ends.{Limits, Phase, fresh, opened, rank}
 use Rattle.protocol.specs.Sending.{Sender, SenderCall, controlled}
 use Rattle.protocol.specs.Receiving.{Receiver}
-use Rattle.units_held.specs.Meaning.{stateOf, limitsOf}
-use Rattle.sender_means.proofs.Sends.{Sends, state-opened}
-use Rattle.sender_means.proofs.Holding.{phase-cases}
-use Rattle.sender_means.proofs.Controls.{Moves}
+use Rattle.means.specs.Meaning.{stateOf, limitsOf}
+use Rattle.means.proofs.Sends.{Sends, state-opened}
+use Rattle.means.proofs.SenderHeld.{phase-cases}
+use Rattle.means.proofs.SenderControl.{Moves}
 use Rattle.delivery.specs.Calls.{End, Kind, opens, hands, Request, channelOf, countedOn}
 use Rattle.delivery.specs.History.{host, Event, is, granted, written, names, IsData, openings, accepted, confirmed, reclaimed}
 use Rattle.delivery.specs.Delivery.{Fresh, Alike}

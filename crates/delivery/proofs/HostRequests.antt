@@ -24,20 +24,20 @@ use Rattle.receiver_data.specs.Taking.{takeStep, takeOut}
 use Rattle.table.specs.declared.looking.Look.{Look}
 use Rattle.table.specs.declared.looking.Look.the-variants.{Index, Nobody}
 use Rattle.table.specs.Serving.{Step, alone, serveOne}
-use Rattle.steps.specs.Requests.{openedBy, closedBy, askedBy, takeFor}
-use Rattle.steps.proofs.RequestLaws.{opened-sends, closed-sends}
-use Rattle.node_calls.specs.declared.request.Request.the-variants.{Open, Close, WouldTransfer, Take, Unknown}
-use Rattle.node_calls.specs.Calls.{served}
-use Rattle.node_keeps.proofs.Alone.{Shapes, index-served}
-use Rattle.node_keeps.proofs.StepsKeep.{open-keeps, close-keeps, take-keeps}
-use Rattle.node_keeps.proofs.CallsAlone.{shapes}
-use Rattle.node_keeps.proofs.DoorKeeps.{question-keeps, unknown-keeps}
+use Rattle.requests.specs.Requests.{openedBy, closedBy, askedBy, takeFor}
+use Rattle.requests.proofs.RequestLaws.{opened-sends, closed-sends}
+use Rattle.node.specs.declared.request.Request.the-variants.{Open, Close, WouldTransfer, Take, Unknown}
+use Rattle.node.specs.Calls.{served}
+use Rattle.keeps.proofs.Alone.{Shapes, index-served}
+use Rattle.keeps.proofs.StepsKeep.{open-keeps, close-keeps, take-keeps}
+use Rattle.keeps.proofs.CallsAlone.{shapes}
+use Rattle.keeps.proofs.DoorKeeps.{question-keeps, unknown-keeps}
 use Rattle.protocol.specs.Ends.{rank}
 use Rattle.protocol.specs.Sending.{Sender, SenderCall}
 use Rattle.protocol.specs.Receiving.{Receiver}
-use Rattle.sender_keeps.proofs.Cases.{open-cases}
-use Rattle.sender_keeps.proofs.Refusals.{open-unchanged}
-use Rattle.sender_means.proofs.Controls.{close-sends, open-sends}
+use Rattle.ends.proofs.SenderCases.{open-cases}
+use Rattle.ends.proofs.SenderRefusals.{open-unchanged}
+use Rattle.means.proofs.SenderControl.{close-sends, open-sends}
 use Rattle.delivery.specs.Calls.{End, Kind, opens, closes, transfers, asks, takes, reclaims, strays}
 use Rattle.delivery.specs.History.{host, Event, granted, openings}
 use Rattle.delivery.proofs.Counting.{counted-same}

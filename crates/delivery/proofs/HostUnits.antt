@@ -24,22 +24,22 @@ use Rattle.channel.specs.Steps.{refusing}
 use Rattle.sender_units.specs.Transfer.{transferStep, transferMem, transferLens}
 use Rattle.sender_units.specs.Reclaiming.{unitAt, sizeAt, reclaimStep, reclaimOut}
 use Rattle.table.specs.declared.looking.Look.the-variants.{Index}
-use Rattle.steps.specs.Requests.{transferFor, reclaimFor}
-use Rattle.node_calls.specs.declared.request.Request.the-variants.{Transfer, Reclaim}
-use Rattle.node_calls.specs.Calls.{served}
-use Rattle.node_keeps.proofs.StepsKeep.{reclaim-keeps}
-use Rattle.node_keeps.proofs.CallsAlone.{shapes, transfer-shapes}
+use Rattle.requests.specs.Requests.{transferFor, reclaimFor}
+use Rattle.node.specs.declared.request.Request.the-variants.{Transfer, Reclaim}
+use Rattle.node.specs.Calls.{served}
+use Rattle.keeps.proofs.StepsKeep.{reclaim-keeps}
+use Rattle.keeps.proofs.CallsAlone.{shapes, transfer-shapes}
 use Rattle.protocol.specs.Units.{DataUnit, Segment, cut}
 use Rattle.protocol.specs.Ends as ends
 use Rattle.protocol.specs.Ends.{Limits, Phase, fresh, enabled, rank, isOpen}
 use Rattle.protocol.specs.Sending as sending
 use Rattle.protocol.specs.Sending.{Sender, SenderCall, senderStep}
 use Rattle.protocol.specs.Receiving.{Receiver}
-use Rattle.sender_keeps.proofs.Cases.{reclaim-out-cases}
-use Rattle.sender_keeps.proofs.Refusals.{reclaim-unchanged}
-use Rattle.sender_means.proofs.Sends.{Sends}
-use Rattle.sender_means.proofs.Transfers.{transfer-sends}
-use Rattle.sender_means.proofs.Reclaims.{reclaim-sends}
+use Rattle.ends.proofs.SenderCases.{reclaim-out-cases}
+use Rattle.ends.proofs.SenderRefusals.{reclaim-unchanged}
+use Rattle.means.proofs.Sends.{Sends}
+use Rattle.means.proofs.Transfers.{transfer-sends}
+use Rattle.means.proofs.Reclaims.{reclaim-sends}
 use Rattle.delivery.specs.Calls.{End, transfers, reclaims}
 use Rattle.delivery.specs.History as history
 use Rattle.delivery.specs.History.{Event, accepted}

@@ -9,16 +9,16 @@ use Prim.Native.Nat.{ℕ, _≤_}
 use Rattle.packet.specs.Layout.{fieldsAt}
 use Rattle.channel.specs.declared.record.Channel.{Channel}
 use Rattle.table.specs.Serving.{recordAt, ownMem, ownLens}
-use Rattle.steps_arriving.specs.Arriving.{payloadIn}
+use Rattle.arrivals.specs.Arriving.{payloadIn}
 use Rattle.protocol.specs.Numbers.{numberAt}
 use Rattle.protocol.specs.Units.{DataUnit, Segment}
 use Rattle.protocol.specs.Ends.{Limits, fresh, rank}
 use Rattle.protocol.specs.Sending.{Sender}
 use Rattle.protocol.specs.Receiving.{Receiver, startOf}
 use Rattle.protocol.proofs.Invariant.{Inv}
-use Rattle.units_held.specs.Meaning.{limitsOf, carried}
-use Rattle.sender_means.proofs.Sends.{Sends}
-use Rattle.receiver_means.proofs.Receives.{Receives}
+use Rattle.means.specs.Meaning.{limitsOf, carried}
+use Rattle.means.proofs.Sends.{Sends}
+use Rattle.means.proofs.Receives.{Receives}
 use Rattle.delivery.specs.Calls.{End, channelOf}
 use Rattle.delivery.specs.History.{host, subscriber, Event, names, IsData, IsDataAck, HandedOut, Replied, openings, accepted, confirmed, reclaimed, taken}
 use Rattle.delivery.proofs.Nodes.{Kept}

@@ -19,14 +19,14 @@ use Rattle.table.specs.Lent.{areaOf, octetAt, lawful}
 use Rattle.table.specs.Serving.{blank, recordAt, ownMem, ownLens}
 use Rattle.table.proofs.SurveyLaws.{each-stands}
 use Rattle.table.proofs.ServeLaws.{lawful-is}
-use Rattle.node_calls.specs.declared.request.Request as door
-use Rattle.node_calls.specs.declared.request.Request.the-variants.{Open, Close, Transfer, WouldTransfer, Take, Reclaim, Arrival, NextPacket, Unknown}
-use Rattle.node_keeps.specs.Keeping.{Wide, SettingsStay, addressesOf, limitsOf}
-use Rattle.node_keeps.proofs.Serving.{octets-inside}
-use Rattle.node_keeps.proofs.CallsKeep.{tick-lawful}
-use Rattle.node_keeps.proofs.Marks.{tick-wide}
-use Rattle.node_keeps.proofs.Settled.{tick-settings-stay}
-use Rattle.node_keeps.proofs.DoorKeeps.{served-lawful, served-wide, served-settings-stay}
+use Rattle.node.specs.declared.request.Request as door
+use Rattle.node.specs.declared.request.Request.the-variants.{Open, Close, Transfer, WouldTransfer, Take, Reclaim, Arrival, NextPacket, Unknown}
+use Rattle.keeps.specs.Keeping.{Wide, SettingsStay, addressesOf, limitsOf}
+use Rattle.keeps.proofs.Serving.{octets-inside}
+use Rattle.keeps.proofs.CallsKeep.{tick-lawful}
+use Rattle.keeps.proofs.Marks.{tick-wide}
+use Rattle.keeps.proofs.Settled.{tick-settings-stay}
+use Rattle.keeps.proofs.DoorKeeps.{served-lawful, served-wide, served-settings-stay}
 use Rattle.delivery.specs.Calls.{End, Kind, opens, closes, transfers, asks, takes, reclaims, hands, arrives, strays, ticks, Request, atDoor, calledBy}
 
 -- the node of the beginning, with what is lent now

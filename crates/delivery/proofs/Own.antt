@@ -19,9 +19,9 @@ use Rattle.table.specs.declared.looking.Look.{Look}
 use Rattle.table.specs.Looking.{missing, chosen as choice}
 use Rattle.table.specs.Serving.{recordAt, ownMem, ownLens, Step, stored, serveOne}
 use Rattle.table.proofs.ServeLaws.{Lawful}
-use Rattle.node_keeps.specs.Keeping.{Given}
-use Rattle.node_keeps.proofs.Serving.{serve-cases}
-use Rattle.node_keeps.proofs.Alone.{Shaped, Shapes, stored-others, stored-record, stored-mem, stored-lens}
+use Rattle.keeps.specs.Keeping.{Given}
+use Rattle.keeps.proofs.Serving.{serve-cases}
+use Rattle.keeps.proofs.Alone.{Shaped, Shapes, stored-others, stored-record, stored-mem, stored-lens}
 
 -- an answer, a buffer, and a channel with its octets and lengths
 abbrev pub View : Type 1

@@ -12,10 +12,10 @@ use Rattle.packet.specs.Kinds.{kindOf}
 use Rattle.packet.specs.declared.fields.Fields.{Fields}
 use Rattle.packet.specs.Layout.{fieldsAt, lengthAt, payloadAt}
 use Rattle.packet.specs.Tests.{short, damaged, lacking, strange}
-use Rattle.packet_read.specs.declared.reading.Read.{Read}
-use Rattle.packet_read.specs.declared.reading.Read.the-variants.{Found, Short, Damaged, Strange, Lacking}
-use Rattle.packet_read.specs.Reading.{readOf}
-use Rattle.packet_read.proofs.ReadLaws.{read-found}
+use Rattle.packet.specs.declared.reading.Read.{Read}
+use Rattle.packet.specs.declared.reading.Read.the-variants.{Found, Short, Damaged, Strange, Lacking}
+use Rattle.packet.specs.Reading.{readOf}
+use Rattle.packet.proofs.ReadLaws.{read-found}
 use Rattle.channel.specs.declared.record.Node.{Node}
 use Rattle.channel.specs.declared.record.Addresses.{Addresses}
 use Rattle.channel.specs.declared.answer.Answer.the-variants.{Refused}
@@ -24,8 +24,8 @@ use Rattle.channel.specs.declared.answer.Refusal.the-variants as refusal
 use Rattle.channel.specs.Answers.{numberOf}
 use Rattle.channel.specs.Settings.{clash}
 use Rattle.table.specs.Looking.{looksFor, same}
-use Rattle.arriving_look.specs.Finding.{isOurs}
-use Rattle.arriving_look.proofs.FindLaws.{Read-well}
+use Rattle.arrivals.specs.Finding.{isOurs}
+use Rattle.arrivals.proofs.FindLaws.{Read-well}
 use Rattle.delivery.specs.Calls.{End, channelOf}
 use Rattle.delivery.specs.History.{namesBy, names}
 

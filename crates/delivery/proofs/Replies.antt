@@ -18,10 +18,10 @@ use Rattle.packet.specs.Layout.{packetOf, payloadAt, fieldsAt, lengthAt}
 use Rattle.packet.specs.Tests.{lacking, strange, flagsWhole}
 use Rattle.packet.specs.Writing.{afterWrite}
 use Rattle.packet.proofs.WriteLaws.{write-done}
-use Rattle.packet_read.specs.declared.reading.Read.the-variants.{Found}
-use Rattle.packet_read.specs.Reading.{readOf}
-use Rattle.packet_read.proofs.ReadLaws.{accepted}
-use Rattle.packet_read.proofs.RoundTrip.{written-then-read}
+use Rattle.packet.specs.declared.reading.Read.the-variants.{Found}
+use Rattle.packet.specs.Reading.{readOf}
+use Rattle.packet.proofs.ReadLaws.{accepted}
+use Rattle.packet.proofs.RoundTrip.{written-then-read}
 use Rattle.walks.specs.Serving.{Worked, works}
 use Rattle.channel.specs.declared.record.Node.{Node}
 use Rattle.channel.specs.declared.record.Addresses.{Addresses}
@@ -37,16 +37,16 @@ use Rattle.channel.specs.Lone.{isOut}
 use Rattle.sender_acks.specs.Acks.{controlAcked, controlAckStep, awayOf, isAwaited, recorded, confirmedAt, advanced, dataAckStep}
 use Rattle.receiver.specs.Receiving.{ackLength, ackKind, controlStep}
 use Rattle.receiver_data.specs.Data.{dataStep}
-use Rattle.receiver_keeps.proofs.Cases.{control-cases, data-cases, accept-cases}
+use Rattle.ends.proofs.ReceiverCases.{control-cases, data-cases, accept-cases}
 use Rattle.table.specs.Looking.{same, graded}
-use Rattle.steps_arriving.specs.Arriving.{arriveAs, arriveBy, payloadIn, arrivalFor, Framed}
-use Rattle.arriving_look.specs.Finding.{isOurs, lookOf}
-use Rattle.arriving_data.specs.Data.{unfit}
-use Rattle.arriving_reply.specs.Replying.{repliedBy, replying}
-use Rattle.steps_arriving.proofs.ArriveLaws.{framed, by-unfit, by-kind}
+use Rattle.arrivals.specs.Arriving.{arriveAs, arriveBy, payloadIn, arrivalFor, Framed}
+use Rattle.arrivals.specs.Finding.{isOurs, lookOf}
+use Rattle.arrivals.specs.Data.{unfit}
+use Rattle.arrivals.specs.Replying.{repliedBy, replying}
+use Rattle.arrivals.proofs.ArriveLaws.{framed, by-unfit, by-kind}
 use Rattle.table.proofs.OneLaws.{kind-finds}
-use Rattle.arriving_look.proofs.FindLaws.{found-packet}
-use Rattle.node_keeps.specs.Keeping.{Given}
+use Rattle.arrivals.proofs.FindLaws.{found-packet}
+use Rattle.keeps.specs.Keeping.{Given}
 
 -- ---- a receiver's steps: with 0 and 15 they have an Ack's octets written
 

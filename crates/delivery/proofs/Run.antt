@@ -11,11 +11,11 @@ use Rattle.protocol.specs.Units.{DataUnit}
 use Rattle.protocol.specs.Sending.{Sender, freshSender, held}
 use Rattle.protocol.specs.Receiving.{Receiver, freshReceiver, waiting}
 use Rattle.protocol.proofs.Delivered.{starts, Accounts, told}
-use Rattle.units_held.specs.Held.{unitsHeld}
-use Rattle.sender_means.proofs.Sends.{fresh-sends}
-use Rattle.sender_means.proofs.Holding.{sends-held}
-use Rattle.receiver_means.proofs.Receives.{fresh-receives}
-use Rattle.receiver_means.proofs.Held.{receives-held}
+use Rattle.means.specs.Held.{unitsHeld}
+use Rattle.means.proofs.Sends.{fresh-sends}
+use Rattle.means.proofs.SenderHeld.{sends-held}
+use Rattle.means.proofs.Receives.{fresh-receives}
+use Rattle.means.proofs.ReceiverHeld.{receives-held}
 use Rattle.delivery.specs.Calls.{End, channelOf}
 use Rattle.delivery.specs.History.{Event, accepted, confirmed, reclaimed, taken}
 use Rattle.delivery.specs.Delivery.{Fresh, Alike, Run, Delivered}

@@ -32,19 +32,19 @@ use Rattle.table.specs.declared.looking.Look.{Look}
 use Rattle.table.specs.Looking.{same, chosen as choice}
 use Rattle.table.proofs.OneLaws.{kind-finds}
 use Rattle.table.specs.Serving.{recordAt, ownMem, ownLens}
-use Rattle.steps_arriving.specs.Arriving.{arriveAs, arriveBy, payloadIn, arrivalFor, Framed}
-use Rattle.arriving_look.specs.Finding.{isOurs, lookOf}
-use Rattle.arriving_data.specs.Data.{unfit}
-use Rattle.arriving_reply.specs.Replying.{repliedBy, replying}
-use Rattle.steps_arriving.proofs.ArriveLaws.{by-unfit, by-kind}
-use Rattle.arriving_look.proofs.FindLaws.{found-packet}
-use Rattle.arriving_data.proofs.DataLaws.{fit-payload}
-use Rattle.node_keeps.specs.Keeping.{Given}
-use Rattle.node_keeps.proofs.StepsKeep.{arrival-keeps}
-use Rattle.node_keeps.proofs.CallsAlone.{shapes}
+use Rattle.arrivals.specs.Arriving.{arriveAs, arriveBy, payloadIn, arrivalFor, Framed}
+use Rattle.arrivals.specs.Finding.{isOurs, lookOf}
+use Rattle.arrivals.specs.Data.{unfit}
+use Rattle.arrivals.specs.Replying.{repliedBy, replying}
+use Rattle.arrivals.proofs.ArriveLaws.{by-unfit, by-kind}
+use Rattle.arrivals.proofs.FindLaws.{found-packet}
+use Rattle.arrivals.proofs.DataLaws.{fit-payload}
+use Rattle.keeps.specs.Keeping.{Given}
+use Rattle.keeps.proofs.StepsKeep.{arrival-keeps}
+use Rattle.keeps.proofs.CallsAlone.{shapes}
 use Rattle.protocol.specs.Sending.{Sender}
 use Rattle.protocol.specs.Receiving.{Receiver}
-use Rattle.receiver_means.proofs.Control.{control-receives}
+use Rattle.means.proofs.ReceiverControl.{control-receives}
 use Rattle.delivery.specs.Calls.{End, arrives, Request, channelOf, calledBy}
 use Rattle.delivery.specs.History.{Event, names, IsData, HandedOut}
 use Rattle.delivery.specs.Delivery.{NotLate}

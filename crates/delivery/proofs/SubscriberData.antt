@@ -16,7 +16,7 @@ use Rattle.packet.specs.Kinds.{kindOf}
 use Rattle.packet.proofs.KindLaws.{kind-back}
 use Rattle.packet.specs.declared.fields.Fields.{Fields}
 use Rattle.packet.specs.Layout.{fieldsAt}
-use Rattle.packet_read.specs.declared.reading.Read.{Read}
+use Rattle.packet.specs.declared.reading.Read.{Read}
 use Rattle.walks.specs.Serving.{works}
 use Rattle.channel.specs.declared.record.Addresses.{Addresses}
 use Rattle.channel.specs.declared.record.Channel.{Channel}
@@ -31,8 +31,8 @@ use Rattle.receiver.specs.Receiving.{ackLength}
 use Rattle.receiver_data.specs.Data.{dataStep, dataMem, dataLens}
 use Rattle.receiver_data.proofs.DataLaws.{data-state, state-mem, state-lens}
 use Rattle.table.specs.Serving.{recordAt, ownMem, ownLens}
-use Rattle.steps_arriving.specs.Arriving.{payloadIn}
-use Rattle.arriving_reply.specs.Replying.{repliedBy}
+use Rattle.arrivals.specs.Arriving.{payloadIn}
+use Rattle.arrivals.specs.Replying.{repliedBy}
 use Rattle.protocol.specs.Numbers.{numberAt, distance}
 use Rattle.protocol.specs.Units.{Segment}
 use Rattle.protocol.specs.Ends as ends
@@ -41,10 +41,10 @@ use Rattle.protocol.specs.Sending.{Sender}
 use Rattle.protocol.specs.Receiving as receiver
 use Rattle.protocol.specs.Receiving.{Receiver, ReceiverCall, startOf, moved, receiverStep}
 use Rattle.protocol.specs.History as protocol
-use Rattle.units_held.specs.Meaning.{carried}
-use Rattle.receiver_means.proofs.Receives.{Receives}
-use Rattle.receiver_means.proofs.Data.{data-receives}
-use Rattle.receiver_means.proofs.Near.{data-near}
+use Rattle.means.specs.Meaning.{carried}
+use Rattle.means.proofs.Receives.{Receives}
+use Rattle.means.proofs.ReceiverData.{data-receives}
+use Rattle.means.proofs.Near.{data-near}
 use Rattle.delivery.specs.Calls.{End, arrives, Request, channelOf}
 use Rattle.delivery.specs.History.{Event, namesBy, names, HandedOut}
 use Rattle.delivery.specs.Delivery.{NotLate}

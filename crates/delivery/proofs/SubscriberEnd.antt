@@ -21,9 +21,9 @@ use Rattle.table.specs.Serving.{recordAt, ownMem, ownLens}
 use Rattle.protocol.specs.Ends.{Limits, Phase, fresh, enabled, opened, closing, shut, rank}
 use Rattle.protocol.specs.Sending.{Sender}
 use Rattle.protocol.specs.Receiving.{Receiver, ReceiverCall, startOf, controlled}
-use Rattle.units_held.specs.Meaning.{stateOf, limitsOf}
-use Rattle.receiver_means.proofs.Receives.{Receives}
-use Rattle.receiver_means.proofs.Control.{Moves}
+use Rattle.means.specs.Meaning.{stateOf, limitsOf}
+use Rattle.means.proofs.Receives.{Receives}
+use Rattle.means.proofs.ReceiverControl.{Moves}
 use Rattle.delivery.specs.Calls.{End, Kind, opens, takes, arrives, Request, channelOf, countedOn}
 use Rattle.delivery.specs.History.{Side, subscriber, Event, is, granted, written, names, IsDataAck, openings, taken}
 use Rattle.delivery.specs.Delivery.{Fresh, Alike}

@@ -17,7 +17,7 @@ use Rattle.protocol.specs.Sending.{Sender}
 use Rattle.protocol.specs.Receiving.{Receiver, ReceiverCall, receiverStep, startOf}
 use Rattle.protocol.specs.History as protocol
 use Rattle.protocol.proofs.Invariant.{Inv}
-use Rattle.receiver_means.proofs.Receives.{Receives}
+use Rattle.means.proofs.Receives.{Receives}
 use Rattle.delivery.specs.Calls.{End, arrives, Request, countedOn}
 use Rattle.delivery.specs.History.{subscriber, Call, Event, is, written, names, IsDataAck, openings, accepted, confirmed, reclaimed, taken}
 use Rattle.delivery.proofs.Known.{Out, Back, back-later, limits, InvOf, Numbered, inv-links}

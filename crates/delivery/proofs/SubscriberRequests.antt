@@ -20,24 +20,24 @@ use Rattle.channel.specs.declared.step.Stepped.{Stepped}
 use Rattle.channel.specs.Record.{sends, noLone}
 use Rattle.channel.specs.Steps.{refusing, doing, enabledOf}
 use Rattle.receiver.specs.Receiving.{openStep}
-use Rattle.receiver_keeps.proofs.Cases.{open-cases}
+use Rattle.ends.proofs.ReceiverCases.{open-cases}
 use Rattle.table.specs.declared.looking.Look.{Look}
 use Rattle.table.specs.declared.looking.Look.the-variants.{Index, Ready, Nobody}
 use Rattle.table.specs.Looking.{chosen as choice}
 use Rattle.table.specs.Serving.{recordAt, ownMem, ownLens, Step, serveOne, alone}
-use Rattle.steps.specs.Requests.{openedBy, closedBy, transferFor, askedBy, reclaimFor}
-use Rattle.steps_handing.specs.Handing.{nextFor}
-use Rattle.steps.proofs.RequestLaws.{opened-receives, closed-receives, asked-receives}
-use Rattle.steps_handing.proofs.HandLaws.{ready-is}
-use Rattle.node_keeps.specs.Keeping.{Given}
-use Rattle.node_keeps.proofs.StepsKeep.{open-keeps, close-keeps, reclaim-keeps, next-keeps}
-use Rattle.node_keeps.proofs.CallsAlone.{shapes, transfer-shapes}
-use Rattle.node_keeps.proofs.DoorKeeps.{question-keeps, unknown-keeps}
-use Rattle.node_keeps.proofs.Alone.{Shapes, index-served}
+use Rattle.requests.specs.Requests.{openedBy, closedBy, transferFor, askedBy, reclaimFor}
+use Rattle.requests.specs.Handing.{nextFor}
+use Rattle.requests.proofs.RequestLaws.{opened-receives, closed-receives, asked-receives}
+use Rattle.requests.proofs.HandLaws.{ready-is}
+use Rattle.keeps.specs.Keeping.{Given}
+use Rattle.keeps.proofs.StepsKeep.{open-keeps, close-keeps, reclaim-keeps, next-keeps}
+use Rattle.keeps.proofs.CallsAlone.{shapes, transfer-shapes}
+use Rattle.keeps.proofs.DoorKeeps.{question-keeps, unknown-keeps}
+use Rattle.keeps.proofs.Alone.{Shapes, index-served}
 use Rattle.protocol.specs.Ends.{fresh, rank}
 use Rattle.protocol.specs.Sending.{Sender}
 use Rattle.protocol.specs.Receiving.{Receiver, ReceiverCall, startOf, controlled}
-use Rattle.receiver_means.proofs.Control.{Opens, open-receives}
+use Rattle.means.proofs.ReceiverControl.{Opens, open-receives}
 use Rattle.delivery.specs.Calls.{End, Kind, opens, closes, transfers, asks, reclaims, hands, strays, Request, calledBy}
 use Rattle.delivery.specs.History.{subscriber, Event, granted, openings}
 use Rattle.delivery.proofs.Own.{View, Seen, Left, own-cases}

@@ -11,7 +11,7 @@ use lib.ListN.{length, take}
 use Rattle.laws.proofs.Choice.{chosen}
 use Rattle.slots.specs.Slots.{laid}
 use Rattle.channel.specs.Places.{slotOf}
-use Rattle.slots.proofs.Laws.{laid-here}
+use Rattle.slots.proofs.SlotLaws.{laid-here}
 use Rattle.store.specs.Store.{octetsIn}
 use Rattle.walks.specs.Serving.{works}
 use Rattle.channel.specs.declared.record.Channel.{Channel}
@@ -29,10 +29,10 @@ use Rattle.receiver_data.proofs.TakeLaws.{take-nothing, take-small, take-done, 
 use Rattle.table.specs.declared.looking.Look.the-variants.{Index}
 use Rattle.table.specs.Looking.{chosen as choice}
 use Rattle.table.specs.Serving.{recordAt, ownMem, ownLens}
-use Rattle.steps.specs.Requests.{takeFor}
-use Rattle.node_keeps.proofs.StepsKeep.{take-keeps}
-use Rattle.node_keeps.proofs.CallsAlone.{shapes}
-use Rattle.node_keeps.proofs.Alone.{index-served}
+use Rattle.requests.specs.Requests.{takeFor}
+use Rattle.keeps.proofs.StepsKeep.{take-keeps}
+use Rattle.keeps.proofs.CallsAlone.{shapes}
+use Rattle.keeps.proofs.Alone.{index-served}
 use Rattle.protocol.specs.Ends as ends
 use Rattle.protocol.specs.Ends.{rank}
 use Rattle.protocol.specs.Units.{DataUnit}
@@ -40,8 +40,8 @@ use Rattle.protocol.specs.Sending.{Sender}
 use Rattle.protocol.specs.Receiving as receiver
 use Rattle.protocol.specs.Receiving.{Receiver, ReceiverCall, startOf, waiting, receiverStep}
 use Rattle.protocol.specs.History as protocol
-use Rattle.receiver_means.proofs.Receives.{Receives}
-use Rattle.receiver_means.proofs.Taking.{take-receives}
+use Rattle.means.proofs.Receives.{Receives}
+use Rattle.means.proofs.Taking.{take-receives}
 use Rattle.delivery.specs.Calls.{End, takes, Request, calledBy}
 use Rattle.delivery.specs.History.{subscriber, Event, granted, written, taken}
 use Rattle.delivery.proofs.Own.{Seen, Left, own-cases}

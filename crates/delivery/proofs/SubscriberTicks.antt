@@ -7,12 +7,12 @@ use Prim.Native.Nat.{ℕ}
 use Rattle.channel.specs.declared.record.Channel.{Channel}
 use Rattle.receiver.specs.Receiving.{tickStep}
 use Rattle.table.specs.Serving.{recordAt, ownMem, ownLens}
-use Rattle.steps_ticking.specs.declared.ticking.Ticked.{Ticked}
-use Rattle.steps_ticking.proofs.TickLaws as steps
-use Rattle.node_ticks.specs.Ticks.{ticked}
+use Rattle.ticks.specs.declared.ticking.Ticked.{Ticked}
+use Rattle.ticks.proofs.TickLaws as steps
+use Rattle.ticks.specs.Ticks.{ticked}
 use Rattle.protocol.specs.Sending.{Sender}
 use Rattle.protocol.specs.Receiving.{Receiver}
-use Rattle.receiver_means.proofs.Control.{tick-receives}
+use Rattle.means.proofs.ReceiverControl.{tick-receives}
 use Rattle.delivery.specs.Calls.{End, ticks, Request, calledBy}
 use Rattle.delivery.specs.History.{Event}
 use Rattle.delivery.proofs.Own.{Seen}

@@ -9,10 +9,10 @@ use Rattle.channel.specs.declared.record.Limits.{Limits}
 use Rattle.channel.specs.declared.record.Channel.{Channel}
 use Rattle.table.specs.Lent.{areaOf, partOf, slotsOf, octetsOf, lawful}
 use Rattle.table.specs.Serving.{recordAt, ownMem, ownLens}
-use Rattle.node_ticks.specs.Ticks.{ticked, tickOf}
-use Rattle.node_keeps.specs.Keeping.{SettingsStay, limitsOf, staying}
-use Rattle.node_keeps.proofs.CallsAlone.{tick-alone}
-use Rattle.node_keeps.proofs.Settled.{tick-settings-stay}
+use Rattle.ticks.specs.Ticks.{ticked, tickOf}
+use Rattle.keeps.specs.Keeping.{SettingsStay, limitsOf, staying}
+use Rattle.keeps.proofs.CallsAlone.{tick-alone}
+use Rattle.keeps.proofs.Settled.{tick-settings-stay}
 use Rattle.delivery.proofs.Own.{View, Seen}
 use Rattle.delivery.proofs.Nodes.{same-at}
 

@@ -10,13 +10,13 @@ use Rattle.channel.specs.declared.record.Channel.{Channel}
 use Rattle.channel.specs.declared.answer.Answer.{Answer}
 use Rattle.channel.specs.Record as state
 use Rattle.table.specs.Serving.{recordAt, ownMem, ownLens}
-use Rattle.node_ticks.specs.Ticks.{ticked}
-use Rattle.node_calls.specs.declared.request.Request as door
-use Rattle.node_calls.specs.declared.request.Request.the-variants.{Open, Close, Transfer, WouldTransfer, Take, Reclaim, Arrival, NextPacket, Unknown}
-use Rattle.node_calls.specs.Calls.{served}
-use Rattle.node_keeps.specs.Keeping.{staying}
+use Rattle.ticks.specs.Ticks.{ticked}
+use Rattle.node.specs.declared.request.Request as door
+use Rattle.node.specs.declared.request.Request.the-variants.{Open, Close, Transfer, WouldTransfer, Take, Reclaim, Arrival, NextPacket, Unknown}
+use Rattle.node.specs.Calls.{served}
+use Rattle.keeps.specs.Keeping.{staying}
 use Rattle.protocol.specs.Numbers.{distance}
-use Rattle.units_held.specs.Held.{unitsHeld}
+use Rattle.means.specs.Held.{unitsHeld}
 
 -- The node's own settings, the lent table, memory and lengths, and the index of the channel that is watched. `start`: how many segments its
 -- window has passed in this opening.

@@ -16,8 +16,8 @@ use Rattle.channel.specs.Record.{sends, receives, closed, heldIn}
 use Rattle.channel.specs.Settings.{clash}
 use Rattle.table.specs.Lent.{lawful}
 use Rattle.table.specs.Serving.{recordAt}
-use Rattle.node_keeps.specs.Keeping.{Wide}
-use Rattle.units_held.specs.Meaning.{limitsOf}
+use Rattle.keeps.specs.Keeping.{Wide}
+use Rattle.means.specs.Meaning.{limitsOf}
 use Rattle.delivery.specs.Calls.{End, opens, arrives, called, channelOf, unitsOf, afterCall}
 use Rattle.delivery.specs.History.{Side, host, subscriber, Call, Event, is, granted, names, IsData, IsDataAck, HandedOut, Replied, openings, accepted, confirmed, reclaimed, taken}
 

@@ -10,15 +10,15 @@ use Rattle.laws.specs.Choice.{if_then_else_}
 use Rattle.packet.specs.declared.kinds.Kind.the-variants.{Data, DataAck}
 use Rattle.packet.specs.Kinds.{kindOf}
 use Rattle.packet.specs.Layout.{fieldsAt}
-use Rattle.packet_read.specs.declared.reading.Read.{Read}
-use Rattle.packet_read.specs.declared.reading.Read.the-variants.{Found, Short, Damaged, Strange, Lacking}
-use Rattle.packet_read.specs.Reading.{readOf}
+use Rattle.packet.specs.declared.reading.Read.{Read}
+use Rattle.packet.specs.declared.reading.Read.the-variants.{Found, Short, Damaged, Strange, Lacking}
+use Rattle.packet.specs.Reading.{readOf}
 use Rattle.channel.specs.declared.record.Node.{Node}
 use Rattle.channel.specs.declared.record.Addresses.{Addresses}
 use Rattle.channel.specs.declared.answer.Answer.{Answer}
 use Rattle.channel.specs.Answers.{numberOf, lengthOf, confirmedOf}
 use Rattle.table.specs.Looking.{same}
-use Rattle.arriving_look.specs.Finding.{isOurs}
+use Rattle.arrivals.specs.Finding.{isOurs}
 use Rattle.protocol.specs.Numbers.{numberAt, distance}
 use Rattle.delivery.specs.Calls.{End, Kind, opens, transfers, takes, reclaims, hands, arrives, code, Request, channelOf}
 

@@ -12,9 +12,9 @@ use Rattle.packet.specs.Kinds.{kindOf}
 use Rattle.packet.specs.Layout.{bodyOf, packetOf}
 use Rattle.packet.specs.Tests.{short, damaged, lacking, strange}
 use Rattle.packet.specs.Writing.{writtenOf, afterWrite}
-use Rattle.packet_read.specs.Reading.{readOf}
+use Rattle.packet.specs.Reading.{readOf}
 use Rattle.crc.specs.Crc.{shiftOne, shifts, octetInto, crcFrom, crcOf}
-use Rattle.ring.specs.Ring.{roundOf, backOf, runOf, cleared}
+use Rattle.slots.specs.Ring.{roundOf, backOf, runOf, cleared}
 use Rattle.slots.specs.Slots.{laid}
 use Rattle.channel.specs.Places.{slotIn}
 use Rattle.store.specs.Store.{unitOf, endsIn, lastEndIn, sizeIn, octetsIn, filedMem, filedBy, filedLens, filedMarks}
@@ -33,22 +33,22 @@ use Rattle.sender_units.specs.Transfer.{wouldTransfer, isAccepted, transferStep
 use Rattle.sender_acks.specs.Acks.{controlAckStep, isAwaited, advanced, dataAckStep}
 use Rattle.sender_packets.specs.HandingOut.{againIn, ready, rankOf, nextFields, nextPayload, nextOut, handStep, handOut}
 use Rattle.receiver.specs.Receiving as r
-use Rattle.receiver_sorting.specs.Sorting.{isHeld, sortAt}
-use Rattle.receiver_window.specs.Moving.{fitting, movedBy}
+use Rattle.receiver_data.specs.Sorting.{isHeld, sortAt}
+use Rattle.receiver_data.specs.Moving.{fitting, movedBy}
 use Rattle.receiver_data.specs.Data.{acceptStep, dataStep, isFiled, dataMem, dataLens}
 use Rattle.receiver_data.specs.Taking.{takeStep, takeOut}
 use Rattle.table.specs.Lent.{slotsOf, octetsOf, eachStands, lawful}
 use Rattle.table.specs.Looking.{same, chosenFrom}
 use Rattle.table.specs.Serving.{recordAt, stored, serveOne}
-use Rattle.steps_handing.specs.Handing.{nextFor}
-use Rattle.steps.specs.Requests.{openedBy, closedBy, transferFor, askedBy, takeFor, reclaimFor}
-use Rattle.steps_ticking.specs.Ticking.{tickedBy}
-use Rattle.steps_arriving.specs.Arriving.{arriveBy, arrivalFor}
-use Rattle.arriving_look.specs.Finding.{isOurs, lookOf}
-use Rattle.arriving_data.specs.Data.{unfit}
-use Rattle.node_ticks.specs.Ticks.{anyInactive, ticked}
+use Rattle.requests.specs.Handing.{nextFor}
+use Rattle.requests.specs.Requests.{openedBy, closedBy, transferFor, askedBy, takeFor, reclaimFor}
+use Rattle.ticks.specs.Ticking.{tickedBy}
+use Rattle.arrivals.specs.Arriving.{arriveBy, arrivalFor}
+use Rattle.arrivals.specs.Finding.{isOurs, lookOf}
+use Rattle.arrivals.specs.Data.{unfit}
+use Rattle.ticks.specs.Ticks.{anyInactive, ticked}
 use Rattle.protocol.specs.Numbers.{numberAt, distance}
-use Rattle.units_held.specs.Held.{unitsIn}
+use Rattle.means.specs.Held.{unitsIn}
 use Rattle.delivery.specs.Calls.{End, Kind, opens, transfers, takes, reclaims, hands, arrives, ticks, unitsOf}
 use Rattle.delivery.specs.History.{Side, host, subscriber, Call, Event, accepted, confirmed, reclaimed, taken}
 use Rattle.delivery.specs.Delivery.{Fresh, Alike, Run, begin, run, AllFair, Delivered}

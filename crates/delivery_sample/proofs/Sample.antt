@@ -8,7 +8,7 @@ use mathlib.Core.List.{List, [], _∷_, _++_}
 use Prim.Native.Nat.{ℕ, _+_, _<_}
 use native.Mathlib.Omega.{arith}
 use lib.ListN.{length, drop}
-use Rattle.ring.specs.Ring.{roundOf, backOf, runOf}
+use Rattle.slots.specs.Ring.{roundOf, backOf, runOf}
 use Rattle.channel.specs.Places.{slotIn}
 use Rattle.channel.specs.Settings.{fitWindow, fitUnits, fitTimers, fitLimits}
 use Rattle.channel.specs.Standing.{named, inRing, inFlight, sided, asking, rested, marked, slotFit, slotsFit, standing}

@@ -15,9 +15,9 @@ use Rattle.channel.specs.declared.record.Node.{Node}
 use Rattle.channel.specs.declared.record.Channel.{Channel}
 use Rattle.table.specs.declared.deciding.Told.{Told}
 use Rattle.table.specs.Serving.{toldOf}
-use Rattle.node_ticks.specs.Ticks.{ticked, tickIndex}
-use Rattle.node_calls.specs.declared.request.Request.{Request}
-use Rattle.node_calls.specs.declared.request.Request.the-variants.{Open, Close, Transfer, Take, Reclaim, Arrival, NextPacket, Unknown}
+use Rattle.ticks.specs.Ticks.{ticked, tickIndex}
+use Rattle.node.specs.declared.request.Request.{Request}
+use Rattle.node.specs.declared.request.Request.the-variants.{Open, Close, Transfer, Take, Reclaim, Arrival, NextPacket, Unknown}
 use Rattle.engine.specs.Asking.{indexedBy, requestOf, octetsFrom}
 use Rattle.engine.specs.Records.{ticking, serving, replayed}
 

@@ -8,8 +8,8 @@ use Rattle.channel.proofs.record.Channel as C
 use Rattle.channel.proofs.record.Channel.Laws as C′
 use Rattle.walks.proofs.Tab.{struct-elem}
 use Rattle.walks.proofs.Plain.{Kind}
-use Rattle.walks_held.proofs.Held.{Held, vals-through, lies-through}
-use Rattle.node_survey.proofs.Types.{channel, told}
+use Rattle.walks_lending.proofs.Held.{Held, vals-through, lies-through}
+use Rattle.table.proofs.Types.{channel, told}
 use Rattle.engine.proofs.held.Kept as P
 use Rattle.engine.proofs.held.Kept.Laws as P′
 

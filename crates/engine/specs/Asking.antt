@@ -6,8 +6,8 @@ use lib.Dec.{eqb}
 use lib.ListN.{length, getD}
 use Rattle.laws.specs.Choice.{if_then_else_}
 use Rattle.channel.specs.declared.record.Node.{Node}
-use Rattle.node_calls.specs.declared.request.Request.{Request}
-use Rattle.node_calls.specs.declared.request.Request.the-variants.{Open, Close, Transfer, Take, Reclaim, Arrival, NextPacket, Unknown}
+use Rattle.node.specs.declared.request.Request.{Request}
+use Rattle.node.specs.declared.request.Request.the-variants.{Open, Close, Transfer, Take, Reclaim, Arrival, NextPacket, Unknown}
 
 unfoldable pub indexedBy : ℕ → ℕ → Request
 indexedBy kind index =

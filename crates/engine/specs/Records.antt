@@ -11,9 +11,9 @@ use Rattle.channel.specs.declared.record.Channel.{Channel}
 use Rattle.channel.specs.Record.{sends, receives}
 use Rattle.table.specs.declared.deciding.Told.{Told}
 use Rattle.table.specs.Serving.{toldOf}
-use Rattle.node_ticks.specs.Ticks.{ticked, tickIndex}
-use Rattle.node_calls.specs.declared.request.Request.{Request}
-use Rattle.node_calls.specs.Calls.{served, servedIndex}
+use Rattle.ticks.specs.Ticks.{ticked, tickIndex}
+use Rattle.node.specs.declared.request.Request.{Request}
+use Rattle.node.specs.Calls.{served, servedIndex}
 use Rattle.engine.specs.Asking.{requestOf, octetsFrom}
 
 -- the node's tick, and its one door, each with the index that is told

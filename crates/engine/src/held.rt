@@ -1,13 +1,13 @@
 // Two channels held by value, lent to a call and given back.
 use channel::Channel;
+use node::Request;
 use node::door::serve;
-use node_calls::Request;
-use node_ticks::ticks::tick;
 use table::Told;
+use ticks::ticking::tick;
 ghost use mathlib.Core.Path.{_≡_};
 ghost use Rattle.walks.specs.Serving.{leaves, changes, telling};
 ghost use Rattle.table.specs.Serving.{toldOf};
-ghost use Rattle.node_ticks.specs.Ticks.{ticked, tickIndex};
+ghost use Rattle.ticks.specs.Ticks.{ticked, tickIndex};
 ghost use Rattle.engine.specs.Records.{serving};
 
 // What a call told, and the channels after it.

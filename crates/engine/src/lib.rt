@@ -4,8 +4,8 @@ pub mod held;
 pub mod reading;
 pub mod records;
 pub mod request;
-pub mod settings;
+pub mod tables;
 
 pub use held::Kept;
 pub use records::step;
-pub use settings::table_of;
+pub use tables::table_of;

@@ -1,6 +1,6 @@
 // What a record of a trace asks of the node, by its kind and its body.
 use channel::Node;
-use node_calls::Request;
+use node::Request;
 ghost use mathlib.Core.Path.{_≡_};
 ghost use Rattle.engine.specs.Asking.{indexedBy, requestOf, octetsFrom};
 

@@ -1,8 +1,8 @@
 // The request of each exported call.
 use channel::Node;
-use node_calls::Request;
+use node::Request;
 ghost use mathlib.Core.Path.{_≡_};
-ghost use Rattle.node_calls.specs.declared.request.Request.the-variants as request;
+ghost use Rattle.node.specs.declared.request.Request.the-variants as request;
 
 pub fn open_asked(index: usize) -> Request
     ensures { λ r. ⌜ r ≡ request.Open index ⌝ }

@@ -1,5 +1,7 @@
 // Every call of the node for C: the table, the memory, the lengths and the buffers are lent as they are, and the answer comes as numbers. Each is a
 // thin call of the node's door; what a call does not have, it lends empty.
+use crate::answers::Said;
+use crate::answers::said_of;
 use crate::asking::arrival_asked;
 use crate::asking::close_asked;
 use crate::asking::next_asked;
@@ -11,20 +13,18 @@ use crate::asking::would_asked;
 use channel::Channel;
 use channel::Node;
 use channel::Settings;
-use host_answers::calls::Said;
-use host_answers::calls::said_of;
 use node::door::serve;
-use node_settings::settings;
-use node_ticks::ticks::tick;
+use settings::settings;
+use ticks::ticking::tick;
 ghost use mathlib.Core.Path.{_≡_};
 ghost use mathlib.Core.List.{[]};
 ghost use lib.ListN.{length};
 ghost use Rattle.walks.specs.Serving.{leaves, changes};
-ghost use Rattle.node_calls.specs.declared.request.Request.the-variants as request;
-ghost use Rattle.node_calls.specs.Calls.{servedIndex, opened, closed, transferred, wouldAnswer, taken, reclaimed, handed, arrived};
-ghost use Rattle.node_ticks.specs.Ticks.{ticked, tickIndex};
-ghost use Rattle.node_settings.specs.Configuring.{configured};
-ghost use Rattle.host_answers.specs.Said.{saidAt, toldAt};
+ghost use Rattle.node.specs.declared.request.Request.the-variants as request;
+ghost use Rattle.node.specs.Calls.{servedIndex, opened, closed, transferred, wouldAnswer, taken, reclaimed, handed, arrived};
+ghost use Rattle.ticks.specs.Ticks.{ticked, tickIndex};
+ghost use Rattle.settings.specs.Configuring.{configured};
+ghost use Rattle.host.specs.Said.{saidAt, toldAt};
 
 // A table made afresh.
 #[no_mangle]

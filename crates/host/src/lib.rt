@@ -1,18 +1,20 @@
 // The library for C and Rust: each call under the prefix peat_, over numbers, lent slices and #[repr(C)] structs. None has a `requires`.
+pub mod answers;
 pub mod asking;
 pub mod calls;
+pub mod packets;
 
-use host_answers::packets::Reading;
-use host_answers::packets::Writing;
-use host_answers::packets::reading_of;
-use host_answers::packets::writing_of;
+use crate::packets::Reading;
+use crate::packets::Writing;
+use crate::packets::reading_of;
+use crate::packets::writing_of;
 use packet::Fields;
 ghost use mathlib.Core.Path.{_≡_};
 ghost use lib.ListN.{length};
 ghost use Rattle.crc.specs.Crc.{crcOf};
-ghost use Rattle.packet_read.specs.Reading.{readOf};
+ghost use Rattle.packet.specs.Reading.{readOf};
 ghost use Rattle.packet.specs.Writing.{writtenOf, afterWrite};
-ghost use Rattle.host_answers.specs.Packet.{readingOf, writingOf};
+ghost use Rattle.host.specs.Packet.{readingOf, writingOf};
 
 // The check sum of so many octets.
 #[no_mangle]
@@ -27,7 +29,7 @@ pub extern "C" fn peat_crc(octets: &[u8]) -> u16
 pub extern "C" fn peat_read_packet(packet: &[u8]) -> Reading
     ensures { λ r. ⌜ r ≡ readingOf (readOf (now (packet .entry))) ⌝ }
 {
-    reading_of(packet_read::read_packet(packet))
+    reading_of(packet::read_packet(packet))
 }
 
 // Writes a packet alone: 0, 3, 4 or 11.

@@ -13,7 +13,7 @@ use Rattle.table.specs.declared.deciding.Decision.{Decision}
 use Rattle.table.specs.Serving.{Step, alone}
 use Rattle.table.specs.Surveying.{stepping}
 use Rattle.table.proofs.Parts.{quiet}
-use Rattle.steps.specs.Requests.{transferFor}
+use Rattle.requests.specs.Requests.{transferFor}
 
 module _ (c : Channel) (d : Decision) (mem lens out : List ℕ) where
   -- one step for another that is equal

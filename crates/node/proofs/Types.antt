@@ -1,6 +1,6 @@
 -- The type of requests, as the walks take it.
-use Rattle.node_calls.proofs.request.Request as Q
-use Rattle.node_calls.proofs.request.Request.Laws as Q′
+use Rattle.node.proofs.request.Request as Q
+use Rattle.node.proofs.request.Request.Laws as Q′
 use Rattle.walks.proofs.Tab.{enum-elem}
 use Rattle.walks.proofs.Plain.{Kind}
 

@@ -1,31 +1,31 @@
 // The one door: whatever is asked of one channel goes through it.
+use crate::request::Request;
+use crate::request::look_in;
+use arrivals::arriving::arrive_step;
 use channel::Channel;
 use channel::Refusal;
 use channel::Stepped;
 use channel::step::refused;
-use node_calls::Request;
-use node_calls::request::look_in;
-use node_survey::surveying::survey;
-use steps::requests::ask_step;
-use steps::requests::close_step;
-use steps::requests::open_step;
-use steps::requests::reclaim_step;
-use steps::requests::take_step;
-use steps::requests::transfer_step;
-use steps_arriving::arriving::arrive_step;
-use steps_handing::handing::next_step;
+use requests::handing::next_step;
+use requests::steps::ask_step;
+use requests::steps::close_step;
+use requests::steps::open_step;
+use requests::steps::reclaim_step;
+use requests::steps::take_step;
+use requests::steps::transfer_step;
 use table::Decision;
 use table::Placed;
 use table::Survey;
 use table::Told;
-use table_decision::deciding::decide;
-use table_survey::surveying::begin;
+use table::beginning::survey;
+use table::deciding::decide;
+use table::surveying::begin;
 ghost use mathlib.Core.Path.{_≡_};
 ghost use lib.ListN.{length};
 ghost use Rattle.walks.specs.Serving.{works, leaves, saying};
 ghost use Rattle.table.specs.Serving.{toldOf};
 ghost use Rattle.table.specs.Surveying.{begun, stepping, placed, Served};
-ghost use Rattle.node_calls.specs.Calls.{lookIn, stepFor, served, servedIndex};
+ghost use Rattle.node.specs.Calls.{lookIn, stepFor, served, servedIndex};
 
 // A packet is read before the table is surveyed; what that says counts after the test for 13.
 fn serve_begin(n: Request, x: &[u8], room: usize) -> Survey

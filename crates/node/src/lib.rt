@@ -1,9 +1,10 @@
 // The node: one door for every call that serves one channel, over a lent table of at most 16 records, one lent memory and one lent slice of lengths. It
 // surveys the table, copies the record that the request is for out, steps it by value, and stores it back. Settings and ticks go over the whole table.
 pub mod door;
+pub mod request;
 
 pub use door::serve;
-pub use node_calls::Request;
-pub use node_settings::settings;
-pub use node_ticks::ticks::tick;
+pub use request::Request;
+pub use settings::settings;
 pub use table::Told;
+pub use ticks::ticking::tick;

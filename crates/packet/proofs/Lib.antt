@@ -1,3 +1,5 @@
 pub mod KindLaws
 pub mod Tests
 pub mod WriteLaws
+pub mod ReadLaws
+pub mod RoundTrip

@@ -2,3 +2,5 @@ pub mod Kinds
 pub mod Layout
 pub mod Tests
 pub mod Writing
+pub mod Reading
+pub mod RoundTrip

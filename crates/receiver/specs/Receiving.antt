@@ -4,7 +4,7 @@ use mathlib.Core.Bool.{Bool, not}
 use mathlib.Core.List.{List}
 use lib.Dec.{leb, eqb}
 use Rattle.laws.specs.Choice.{if_then_else_}
-use Rattle.ring.specs.Ring.{backOf, cleared}
+use Rattle.slots.specs.Ring.{backOf, cleared}
 use Rattle.packet.specs.declared.kinds.Kind.{Kind}
 use Rattle.packet.specs.declared.kinds.Kind.the-variants.{DataAck, ControlAck}
 use Rattle.packet.specs.Layout.{least}

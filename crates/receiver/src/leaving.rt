@@ -4,6 +4,7 @@ use channel::Channel;
 use channel::Stepped;
 use channel::record::CLOSED;
 use packet::fields::LEAST;
+use slots::ring;
 ghost use mathlib.Core.Path.{_≡_};
 ghost use Rattle.channel.specs.Steps.{repeating, failing};
 ghost use Rattle.channel.specs.Asked.{Ringed};
@@ -34,7 +35,7 @@ pub fn leave(c: Channel, state: u8, ticks: u16) -> Channel
 }
 
 // Inactive: CLOSED, and the record says why.
-pub fn shut(c: Channel, why: u8) -> Channel
+fn shut(c: Channel, why: u8) -> Channel
     requires { ⌜ Ringed (c .limits) (c .window) ⌝ }
     ensures { λ r. ⌜ r ≡ shutFor c why ⌝ }
 {

@@ -14,15 +14,15 @@ use Rattle.channel.specs.declared.record.Channel.{Channel}
 use Rattle.channel.specs.declared.answer.Refusal.the-variants as refusal
 use Rattle.channel.specs.Record.{opened, brokenFlags, withWindow}
 use Rattle.channel.specs.Steps.{refusing, doing, failing}
-use Rattle.receiver_sorting.specs.declared.sorting.Sort.{Sort}
-use Rattle.receiver_sorting.specs.declared.sorting.Sort.the-variants.{New}
-use Rattle.receiver_window.specs.declared.moving.Moved.{Moved}
-use Rattle.receiver_sorting.specs.Sorting.{placeAt}
-use Rattle.receiver_window.specs.Moving.{movedOf}
+use Rattle.receiver_data.specs.declared.sorting.Sort.{Sort}
+use Rattle.receiver_data.specs.declared.sorting.Sort.the-variants.{New}
+use Rattle.receiver_data.specs.declared.moving.Moved.{Moved}
+use Rattle.receiver_data.specs.Sorting.{placeAt}
+use Rattle.receiver_data.specs.Moving.{movedOf}
 use Rattle.receiver.specs.Receiving.{ackLength, shutFor}
 use Rattle.receiver_data.specs.Data.{settled, marking, acceptStep, dataBy, awayOf, sortOf, dataStep, filesBy, memBy, lensBy, isFiled, dataMem, dataLens}
 use Rattle.channel.specs.Asked.{Ringed}
-use Rattle.receiver_window.proofs.MoveLaws.{move-ringed}
+use Rattle.receiver_data.proofs.MoveLaws.{move-ringed}
 
 -- ---- a new segment: marked, the start moved, and then one of two answers
 

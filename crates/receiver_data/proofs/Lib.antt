@@ -1,2 +1,4 @@
+pub mod SortLaws
+pub mod MoveLaws
 pub mod DataLaws
 pub mod TakeLaws

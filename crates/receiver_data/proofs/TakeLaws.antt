@@ -10,8 +10,8 @@ use borrow.Author.Tests.{lt-ltb, le-ltb, eq-eqb, ne-eqb, leb-true, eqb-true}
 use lib.Dec.{ltb, leb, eqb}
 use lib.ListN.{length, getD}
 use Rattle.laws.specs.Choice.{if_then_else_}
-use Rattle.ring.specs.Ring.{roundOf}
-use Rattle.ring.proofs.Laws.{back-lt, round-lt}
+use Rattle.slots.specs.Ring.{roundOf}
+use Rattle.slots.proofs.RingLaws.{back-lt, round-lt}
 use Rattle.slots.specs.Marks.{ends}
 use Rattle.slots.specs.Slots.{laid}
 use Rattle.channel.specs.Places.{slotOf}

@@ -13,11 +13,11 @@ use Rattle.channel.specs.declared.step.Stepped.{Stepped}
 use Rattle.channel.specs.declared.answer.Refusal.the-variants as refusal
 use Rattle.channel.specs.Record.{opened, dataNumber, brokenFlags, withAccepted, withWindow, withMarks}
 use Rattle.channel.specs.Steps.{refusing, doing, repeating, failing}
-use Rattle.receiver_sorting.specs.declared.sorting.Sort.{Sort}
-use Rattle.receiver_sorting.specs.declared.sorting.Sort.the-variants.{New, Held, Behind, Other}
-use Rattle.receiver_window.specs.declared.moving.Moved.{Moved}
-use Rattle.receiver_sorting.specs.Sorting.{distance, placeAt, noRoom, sortAt}
-use Rattle.receiver_window.specs.Moving.{movedOf}
+use Rattle.receiver_data.specs.declared.sorting.Sort.{Sort}
+use Rattle.receiver_data.specs.declared.sorting.Sort.the-variants.{New, Held, Behind, Other}
+use Rattle.receiver_data.specs.declared.moving.Moved.{Moved}
+use Rattle.receiver_data.specs.Sorting.{distance, placeAt, noRoom, sortAt}
+use Rattle.receiver_data.specs.Moving.{movedOf}
 use Rattle.receiver.specs.Receiving.{ackLength, shutFor}
 
 -- the new segment is filed at a place, and the start moves; at a break the channel is inactive and no ack is sent

@@ -1,2 +1,4 @@
+pub mod Sorting
+pub mod Moving
 pub mod Data
 pub mod Taking

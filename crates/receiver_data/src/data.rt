@@ -1,4 +1,8 @@
 // Data packets: sorted by their number, filed where they are new, and the start moved.
+use crate::moving::move_start;
+use crate::sorting::Sort;
+use crate::sorting::away;
+use crate::sorting::sort_at;
 use channel::Channel;
 use channel::Refusal;
 use channel::Stepped;
@@ -11,16 +15,13 @@ use channel::step::refused;
 use receiver::leaving::ACK;
 use receiver::leaving::failed;
 use receiver::leaving::repeated;
-use receiver_sorting::Sort;
-use receiver_sorting::away;
-use receiver_sorting::sort_at;
-use receiver_window::move_start;
+use slots::ring;
 ghost use mathlib.Core.Path.{_≡_};
 ghost use Prim.Native.Nat.{_<_};
 ghost use Rattle.channel.specs.Asked.{Ringed};
 ghost use Rattle.receiver.specs.Asked.{DataAsked};
 ghost use Rattle.receiver_data.specs.Data.{marking, acceptStep, dataBy, memBy, lensBy, dataStep, dataMem, dataLens};
-ghost use Rattle.receiver_sorting.specs.declared.sorting.Sort.the-variants as sort;
+ghost use Rattle.receiver_data.specs.declared.sorting.Sort.the-variants as sort;
 
 // The place is marked with the segment's flags, and Data was accepted in this opening.
 fn mark(c: Channel, place: usize, flags: u8) -> Channel

@@ -4,6 +4,7 @@ use channel::Refusal;
 use channel::Stepped;
 use channel::step::done;
 use channel::step::refused;
+use slots::ring;
 ghost use mathlib.Core.Path.{_≡_};
 ghost use Prim.Native.Nat.{_≤_};
 ghost use lib.ListN.{length};

@@ -7,7 +7,7 @@ use engine::reading::feed;
 use engine::reading::is_cut;
 use engine::reading::room;
 use engine::records::step;
-use engine::settings::table_of;
+use engine::tables::table_of;
 use libc::STDIN_FILENO;
 use libc::STDOUT_FILENO;
 ghost use mathlib.Core.Path.{_≡_};

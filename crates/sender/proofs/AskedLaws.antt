@@ -9,13 +9,13 @@ use borrow.Author.Tests.{ne-eqb, leb-true, eqb-true, ltb-false}
 use lib.Dec.{ltb, leb, eqb}
 use lib.ListN.{getD}
 use Rattle.laws.specs.Choice.{if_then_else_}
-use Rattle.ring.specs.Ring.{roundOf}
+use Rattle.slots.specs.Ring.{roundOf}
 use Rattle.channel.specs.declared.record.Window.{Window}
 use Rattle.channel.specs.declared.record.Channel.{Channel}
 use Rattle.channel.specs.Record.{sends}
 use Rattle.channel.specs.Standing.{oldestOf, slotFit, Standing}
 use Rattle.sender.specs.Directives.{placeAt}
-use Rattle.ring.proofs.Laws.{round-lt, round-add, back-lt, back-forth}
+use Rattle.slots.proofs.RingLaws.{round-lt, round-add, back-lt, back-forth}
 use Rattle.channel.specs.Places.{slotOf}
 use Rattle.slots.specs.Marks.{ends}
 use Rattle.channel.proofs.StandingLaws.{counted-is, ringed}

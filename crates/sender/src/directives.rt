@@ -11,6 +11,7 @@ use channel::record::OPEN;
 use channel::step::done;
 use channel::step::enabled;
 use channel::step::refused;
+use slots::ring;
 ghost use mathlib.Core.Path.{_≡_};
 ghost use Rattle.channel.specs.Record.{noLone};
 ghost use Rattle.channel.specs.Lone.{readyLone};

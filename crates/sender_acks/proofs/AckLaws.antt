@@ -9,7 +9,7 @@ use lib.Dec.{ltb, eqb}
 use lib.ListN.{getD}
 use Rattle.laws.specs.Choice.{if_then_else_}
 use Rattle.laws.proofs.Choice.{chosen, passed-by}
-use Rattle.ring.specs.Ring.{roundOf, runOf, cleared}
+use Rattle.slots.specs.Ring.{roundOf, runOf, cleared}
 use Rattle.store.specs.Store.{endsIn, lastEndIn}
 use Rattle.channel.specs.declared.record.Window.{Window}
 use Rattle.channel.specs.declared.record.Channel.{Channel}

@@ -5,7 +5,7 @@ use mathlib.Core.List.{List}
 use lib.Dec.{ltb, eqb}
 use lib.ListN.{getD, set}
 use Rattle.laws.specs.Choice.{if_then_else_}
-use Rattle.ring.specs.Ring.{runOf, cleared}
+use Rattle.slots.specs.Ring.{runOf, cleared}
 use Rattle.store.specs.Store.{endsIn, lastEndIn}
 use Rattle.channel.specs.declared.record.Window.{Window}
 use Rattle.channel.specs.declared.record.Channel.{Channel}

@@ -1,4 +1,5 @@
-// Acks at a transmit end: of its Control packets; and which Data is awaited (document 01, Sending). Data Acks are taken in `sender_data_acks`.
+// Acks at a transmit end: of its Control packets; and of Data, where the start moves on and units are confirmed (document 01, Sending).
 pub mod acks;
 
 pub use acks::control_ack_step;
+pub use acks::data_ack_step;

@@ -17,7 +17,7 @@ use Rattle.channel.specs.Asked.{Asked}
 use Rattle.sender.specs.Directives.{placeAt}
 use Rattle.sender_packets.specs.HandingOut.{dataFields, sentStep, sentOut}
 use native.Mathlib.Nat.{pos-of-ne-zero, mul-le-mul-right}
-use Rattle.slots.proofs.Laws.{slot-in}
+use Rattle.slots.proofs.SlotLaws.{slot-in}
 use Rattle.channel.proofs.PlaceLaws.{slot-bound}
 use Rattle.store.proofs.Laws.{segment-length}
 use Rattle.sender_packets.proofs.HandLaws.{data-plain}

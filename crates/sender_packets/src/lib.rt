@@ -1,4 +1,5 @@
-// The packets of a transmit end: which is next, and of what rank (document 01, Sending). `sender_handing` hands it out.
+// The packets of a transmit end: which is next, of what rank, and its hand-out (document 01, Sending).
 pub mod handing;
 
+pub use handing::hand_step;
 pub use handing::rank_of;

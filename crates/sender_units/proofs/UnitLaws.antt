@@ -10,7 +10,7 @@ use lib.Dec.{ltb, eqb}
 use lib.ListN.{length}
 use Rattle.laws.specs.Choice.{if_then_else_}
 use Rattle.laws.proofs.Choice.{chosen, passed-by}
-use Rattle.ring.specs.Ring.{cleared}
+use Rattle.slots.specs.Ring.{cleared}
 use Rattle.slots.specs.Slots.{laid}
 use Rattle.channel.specs.Places.{slotOf}
 use Rattle.slots.specs.Units.{segmentsOf}

@@ -7,6 +7,7 @@ use channel::answer::number;
 use channel::record::OPEN;
 use channel::step::done;
 use channel::step::unchanged;
+use slots::ring;
 ghost use mathlib.Core.Path.{_≡_};
 ghost use lib.ListN.{length};
 ghost use Rattle.channel.specs.Asked.{Ringed, Asked};

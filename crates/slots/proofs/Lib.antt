@@ -1,2 +1,3 @@
-pub mod Laws
+pub mod RingLaws
+pub mod SlotLaws
 pub mod Units

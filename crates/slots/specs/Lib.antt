@@ -1,3 +1,4 @@
+pub mod Ring
 pub mod Marks
 pub mod Slots
 pub mod Units

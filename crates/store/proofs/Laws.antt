@@ -12,13 +12,13 @@ use lib.Dec.{eqb, ltb}
 use lib.ListN.{length, getD, set, take, drop, length-append, length-drop, length-set}
 use lib.Seq.{length-take-le, take-all, getD-set-same, getD-set-other}
 use Rattle.laws.specs.Choice.{if_then_else_}
-use Rattle.ring.specs.Ring.{roundOf}
-use Rattle.ring.proofs.Laws.{round-out, round-lt, round-add, round-apart, first-place, next-place}
+use Rattle.slots.specs.Ring.{roundOf}
+use Rattle.slots.proofs.RingLaws.{round-out, round-lt, round-add, round-apart, first-place, next-place}
 use Rattle.slots.specs.Marks.{markOf, ends}
 use Rattle.slots.specs.Slots.{Sized, Slotted, laid, segmentIn}
 use Rattle.slots.specs.Units.{segmentsOf, segmentOf, flagsOf, joined}
-use Rattle.slots.proofs.Laws.{slot-in, laid-length, laid-on, laid-none, filed-same, filed-other}
-use Rattle.slots.proofs.Laws as one
+use Rattle.slots.proofs.SlotLaws.{slot-in, laid-length, laid-on, laid-none, filed-same, filed-other}
+use Rattle.slots.proofs.SlotLaws as one
 use Rattle.slots.proofs.Units.{fits, rejoined}
 use Rattle.store.specs.Store.{unitOf, endsIn, lastWith, lastEndIn, EachFits, sizeIn, octetsIn, filedMem, filedBy, filedLens, filedMarks}
 

@@ -5,7 +5,7 @@ use mathlib.Core.Bool.{Bool}
 use mathlib.Core.List.{List, [], _++_}
 use lib.ListN.{length, getD, set}
 use Rattle.laws.specs.Choice.{if_then_else_}
-use Rattle.ring.specs.Ring.{roundOf}
+use Rattle.slots.specs.Ring.{roundOf}
 use Rattle.slots.specs.Marks.{markOf, ends}
 use Rattle.slots.specs.Slots.{laid, segmentIn}
 use Rattle.slots.specs.Units.{segmentOf, flagsOf}

@@ -1,6 +1,7 @@
 // A unit is cut into segments, and each is filed in a slot, from a place on.
 use channel::Limits;
 use channel::places::slot_of;
+use slots::ring;
 ghost use mathlib.Core.Path.{_≡_};
 ghost use Prim.Native.Nat.{_+_, _-_, _<_, _≤_};
 ghost use lib.ListN.{length};

@@ -1,6 +1,7 @@
 // The octets of the n segments from a place on: how many, and one after another.
 use channel::Limits;
 use channel::places::slot_of;
+use slots::ring;
 ghost use mathlib.Core.Path.{_≡_};
 ghost use Prim.Native.Nat.{_<_, _≤_};
 ghost use lib.ListN.{length};

@@ -1,4 +1,5 @@
 // Where units end among the n segments from a place on, by their marks.
+use slots::ring;
 ghost use mathlib.Core.Path.{_≡_};
 ghost use Prim.Native.Nat.{_<_, _≤_};
 ghost use Rattle.laws.specs.Choice.{if_then_else_};

@@ -1,8 +1,14 @@
-// What a survey decides (crate `table_decision`): the record that is served, or the refusal; and what a call tells.
+// What a survey decides: the record that is served, or the refusal.
 use crate::looking::Look;
+use crate::looking::UNFIT;
 use crate::surveying::Spot;
+use crate::surveying::Survey;
 use channel::Answer;
 use channel::Channel;
+use channel::Refusal;
+ghost use mathlib.Core.Path.{_≡_};
+ghost use Rattle.table.specs.Looking.{missing};
+ghost use Rattle.table.specs.Surveying.{isSound, refusedBy, servedBy, decided, judged};
 
 // What a call answers, and the index of the channel that it served; as many as the table has records where it served none.
 pub struct Told {
@@ -28,4 +34,94 @@ pub struct Decision {
 pub struct Verdict {
     pub ok: bool,
     pub told: Told,
+}
+
+// The table has 1 record at least, all stand, and the lent lengths and memory are theirs to the last.
+fn is_sound(v: Survey, n: usize, m: usize, l: usize) -> bool
+    ensures { λ r. ⌜ r ≡ isSound v n m l ⌝ }
+{
+    if n < 1 {
+        return false;
+    }
+    if !v.sound {
+        return false;
+    }
+    if v.slots != l {
+        return false;
+    }
+    v.octets == m
+}
+
+// The refusal where no record suits.
+fn refusal(look: Look) -> Refusal
+    ensures { λ r. ⌜ r ≡ missing look ⌝ }
+{
+    match look {
+        Look::Index(_) => Refusal::NoChannel,
+        Look::Packet {
+            fields: _,
+            length: _,
+        } => Refusal::NoChannel,
+        Look::Ready => Refusal::Nothing,
+        Look::Nobody(why) => why,
+    }
+}
+
+fn refuse(v: Survey, n: usize, why: Refusal) -> Decision
+    ensures { λ r. ⌜ r ≡ refusedBy v n why ⌝ }
+{
+    let look = v.look;
+    let spot = v.spot;
+    Decision {
+        at: n,
+        told: Told {
+            answer: Answer::Refused(why),
+            index: n,
+        },
+        look,
+        spot,
+    }
+}
+
+fn serve(v: Survey) -> Decision
+    ensures { λ r. ⌜ r ≡ servedBy v ⌝ }
+{
+    let look = v.look;
+    let spot = v.spot;
+    Decision {
+        at: v.spot.at,
+        told: Told {
+            answer: Answer::Refused(Refusal::NoChannel),
+            index: v.spot.at,
+        },
+        look,
+        spot,
+    }
+}
+
+// Of a table of n records with m octets and l lengths: 13 before anything else.
+pub fn decide(v: Survey, n: usize, m: usize, l: usize) -> Decision
+    ensures { λ r. ⌜ r ≡ decided v n m l ⌝ }
+{
+    if !is_sound(v, n, m, l) {
+        return refuse(v, n, Refusal::Settings);
+    }
+    if v.spot.rank < UNFIT {
+        return serve(v);
+    }
+    let look = v.look;
+    let why = refusal(look);
+    refuse(v, n, why)
+}
+
+pub fn judge(v: Survey, n: usize, m: usize, l: usize) -> Verdict
+    ensures { λ r. ⌜ r ≡ judged v n m l ⌝ }
+{
+    Verdict {
+        ok: is_sound(v, n, m, l),
+        told: Told {
+            answer: Answer::Refused(Refusal::Settings),
+            index: n,
+        },
+    }
 }

@@ -1,5 +1,6 @@
-// The lent table of records: which record is looked for, and where its own part of the lent memory lies (document 01, A channel's record and
-// memory, Answer numbers 13 and 14, and the order of packets). The crates `table_survey` and `table_decision` find it.
+// The lent table of records: the survey that every call begins with, which tests each record with its own lengths and finds the one that suits
+// best, and what it decides (document 01, A channel's record and memory, Answer numbers 13 and 14, and the order of packets).
+pub mod beginning;
 pub mod deciding;
 pub mod looking;
 pub mod surveying;
@@ -9,5 +10,4 @@ pub use deciding::Placed;
 pub use deciding::Told;
 pub use deciding::Verdict;
 pub use looking::Look;
-pub use surveying::Spot;
 pub use surveying::Survey;

@@ -41,7 +41,7 @@ fn looks_for(kind: Kind) -> u8
 }
 
 // The packet is for the channel with these addresses.
-pub fn is_same(a: Addresses, f: Fields) -> bool
+fn is_same(a: Addresses, f: Fields) -> bool
     ensures { λ r. ⌜ r ≡ same a f ⌝ }
 {
     if a.channel != f.channel {

@@ -6,7 +6,7 @@ mod numbers;
 mod show;
 
 use packet::Fields;
-use packet_read::Read;
+use packet::Read;
 use show::say;
 use show::say_number;
 use show::say_octet;
@@ -104,8 +104,8 @@ fn call_it_fan_4(out: &mut [u8]) {
 // The first n octets, read.
 fn say_read(octets: &[u8], n: usize) {
     if n <= octets.len() {
-        let found = packet_read::read_packet(&octets[..n]);
-        say_number(packet_read::read_number(found) as u64);
+        let found = packet::read_packet(&octets[..n]);
+        say_number(packet::read_number(found) as u64);
         say_found(found);
     }
 }

@@ -7,10 +7,7 @@
 --     calls-by      its call: the arguments are plain data of their kinds (`Lie`), and what is asked holds; the result is plain data of its kind,
 --                   and what is ensured holds. The operands are found behind the item that stands for what is passed, whatever that is
 -- Assumes nothing: `Given`, the laws of a model, is an argument.
-use Rattle.walks.proofs.Walk.{Bool, false, List, [], _∷_, URA, Val, ent, emp, Heap, Env, Atoms, Given, Item, runs, ‵, raw, _$_, _∵_, !, qed, use0, move, drop, join, frame, done}
-use Rattle.walks.proofs.Walk.{Is, owns, plain, nothing, heard, tripleOf, Contract, Triple, yes}
-use Rattle.walks.proofs.Walk.{Name, Body, seq, call}
-use Rattle.walks.proofs.Walk.{fact, RattleType, Clauses, Ended, closing}
+use Rattle.walks.proofs.Walk.{Bool, false, List, [], _∷_, URA, Val, ent, emp, Heap, Env, Atoms, Given, Item, runs, ‵, raw, _$_, _∵_, !, qed, use0, move, drop, join, frame, done, Is, owns, plain, nothing, heard, tripleOf, Contract, Triple, yes, Name, Body, seq, call, fact, RattleType, Clauses, Ended, closing}
 use types.Kit.{lands, Post, Seq}
 use types.Run.{Opds}
 use prog.Wp.{Calls, Loops}

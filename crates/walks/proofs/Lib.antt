@@ -6,3 +6,5 @@ pub mod Lend
 pub mod Guard
 pub mod ByValue
 pub mod Surveyed
+pub mod Call
+pub mod Serving

@@ -8,10 +8,7 @@
 --                     has its contract and its call
 -- In these steps the operands are found behind the items that stand for what is passed and lent then, whatever these are.
 -- Assumes nothing: `Given`, the laws of a model, is an argument.
-use Rattle.walks.proofs.Walk.{List, [], _∷_, ℕ, length, URA, named, w64, ent, emp, Lft, GName, Share, ftrue, flft, Heap, Env, Atoms, Given, Item, runs, ‵, raw, _⊛_, ⋆, _$_, _∵_, !, qed, use1, move, drop, group, split, join, fjoin, frame, done}
-use Rattle.walks.proofs.Walk.{Is, u16, sliceVal, plain, shrSliceOf, nothing, owned, heard, tripleOf, Contract, Triple, yes}
-use Rattle.walks.proofs.Walk.{Name, Body, seq, call}
-use Rattle.walks.proofs.Walk.{id⊢, fact, RattleType, now, shr-slice-copy, Clauses, Ended, closing}
+use Rattle.walks.proofs.Walk.{List, [], _∷_, ℕ, length, URA, named, w64, ent, emp, Lft, GName, Share, ftrue, flft, Heap, Env, Atoms, Given, Item, runs, ‵, raw, _⊛_, ⋆, _$_, _∵_, !, qed, use1, move, drop, group, split, join, fjoin, frame, done, Is, u16, sliceVal, plain, shrSliceOf, nothing, owned, heard, tripleOf, Contract, Triple, yes, Name, Body, seq, call, id⊢, fact, RattleType, now, shr-slice-copy, Clauses, Ended, closing}
 use types.Kit.{lands, Post, Seq}
 use types.Run.{Opds}
 use prog.Wp.{Calls, Loops}

@@ -16,12 +16,7 @@
 --                  tables, and that f meets its contract
 -- The invariant: after i turns the first i of t are fresh (`tab i`).
 -- Assumes nothing.
-use Rattle.walks.proofs.Walk.{_≡_, refl, sym, ap, _∙_, List, [], _∷_, ℕ, zero, suc, _+_, _*_, _^_, _<_, _≤_, arith, T, ltb, ltb→lt, nltb→le, lit<, length, getD, set, URA, fullShare, named, imm, mut, w64, Ty, tyPtr, tyInt, tyBool, tyRef, Val, vint}
-use Rattle.walks.proofs.Walk.{SProp, ent, Lft, GName, Share, Fml, ftrue, fat, froom, fdies, flft, Heap, Env, WpFn, Wp, Tables, Atoms, afterBlock, afterSeq, afterTurn, atReturn}
-use Rattle.walks.proofs.Walk.{Given, Item, Sq, runs, anyQ, atRet, ‵, _⊛_, ⋆, _$_, _∵_, !, qed, by, move, keep, drop, split, join, rewrite, fsplit, fjoin, suffices, frame, done, look, look-raw, store, store-raw, init, forget, stop, hop, from, load, lit, of-opd, bin, and-then, no-more, assigns, assigns-last, first, blocks, loops, again, Below, exec, land, returns, enter, alloc1, alloc0, params1, pass1, pass0, free0}
-use Rattle.walks.proofs.Walk.{fmOf, owns, Is, pointee, uint-makes, usize, sliceVal, sliceTy, MutSlice, ShrSlice, Room, slice-vals, mut-slice-tells, shr-slice-tells, finally, plain, shrSliceOf, nothing, owned, onEntry, Triple, says, needs, Stays, stay-dropped, gave-slice, walkOf, goes-dropped, goes-gave-slice, ends-at, yes}
-use Rattle.walks.proofs.Walk.{Fn, Name, Body, local, valueLocal, place, field, deref, copy, int, rvOpd, op2, lt, mul, add, offset, unsigned, seq, assign, block, loop, skip, exit, cond, call, return}
-use Rattle.walks.proofs.Walk.{fact, RattleType, mem, now, mutSliceOf, Clauses, Ended, closing, Meets}
+use Rattle.walks.proofs.Walk.{_≡_, refl, sym, ap, _∙_, List, [], _∷_, ℕ, zero, suc, _+_, _*_, _^_, _<_, _≤_, arith, T, ltb, ltb→lt, nltb→le, lit<, length, getD, set, URA, fullShare, named, imm, mut, w64, Ty, tyPtr, tyInt, tyBool, tyRef, Val, vint, SProp, ent, Lft, GName, Share, Fml, ftrue, fat, froom, fdies, flft, Heap, Env, WpFn, Wp, Tables, Atoms, afterBlock, afterSeq, afterTurn, atReturn, Given, Item, Sq, runs, anyQ, atRet, ‵, _⊛_, ⋆, _$_, _∵_, !, qed, by, move, keep, drop, split, join, rewrite, fsplit, fjoin, suffices, frame, done, look, look-raw, store, store-raw, init, forget, stop, hop, from, load, lit, of-opd, bin, and-then, no-more, assigns, assigns-last, first, blocks, loops, again, Below, exec, land, returns, enter, alloc1, alloc0, params1, pass1, pass0, free0, fmOf, owns, Is, pointee, uint-makes, usize, sliceVal, sliceTy, MutSlice, ShrSlice, Room, slice-vals, mut-slice-tells, shr-slice-tells, finally, plain, shrSliceOf, nothing, owned, onEntry, Triple, says, needs, Stays, stay-dropped, gave-slice, walkOf, goes-dropped, goes-gave-slice, ends-at, yes, Fn, Name, Body, local, valueLocal, place, field, deref, copy, int, rvOpd, op2, lt, mul, add, offset, unsigned, seq, assign, block, loop, skip, exit, cond, call, return, fact, RattleType, mem, now, mutSliceOf, Clauses, Ended, closing, Meets}
 use mathlib.Core.Path.{subst}
 use mathlib.Core.List.{map}
 use native.Mathlib.Nat.{not-suc-le-zero, le-of-suc-le-suc}

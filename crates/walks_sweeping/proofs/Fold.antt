@@ -21,12 +21,7 @@
 --                  and f; then the model, the tables, and that each of the two meets its contract
 -- The invariant: after i turns what is carried is `acc i`, over the first n.
 -- Assumes nothing.
-use Rattle.walks.proofs.Walk.{_≡_, refl, sym, ap, _∙_, List, [], _∷_, ℕ, zero, suc, _+_, _*_, _^_, _<_, _≤_, arith, T, ltb, ltb→lt, nltb→le, lit<, length, getD, URA, fullShare, named, imm, w64, Ty, tyPtr, tyInt, tyBool, tyRef, Val, vint}
-use Rattle.walks.proofs.Walk.{SProp, ent, emp, via, fst∗, Lft, GName, Share, Fml, ftrue, fat, froom, fdies, flft, Heap, Env, WpFn, Wp, Tables, Atoms, afterBlock, afterSeq, afterTurn, atReturn}
-use Rattle.walks.proofs.Walk.{Given, Item, Sq, runs, anyQ, atRet, ‵, raw, _⊛_, ⋆, _$_, _∵_, !, qed, by, use1, move, keep, drop, split, join, rewrite, fsplit, fjoin, suffices, frame, done, look, look-raw, store, init, forget, stop, hop, from, load, lit, of-opd, bin, and-then, no-more, assigns-last, first, blocks, loops, again, Below, exec, land, returns, enter, alloc1, alloc0, params1, pass1, pass0, free0}
-use Rattle.walks.proofs.Walk.{fmOf, owns, Is, pointee, uint-makes, usize, sliceVal, sliceTy, ShrSlice, Room, slice-vals, shr-slice-tells, plain, shrSliceOf, nothing, owned, heard, onEntry, tripleOf, Contract, Triple, says, Stays, stay-dropped, walkOf, goes-dropped, ends-at, yes}
-use Rattle.walks.proofs.Walk.{Fn, Name, Body, local, valueLocal, place, field, deref, copy, int, rvOpd, op2, lt, mul, add, offset, unsigned, seq, assign, block, loop, skip, exit, cond, call, return}
-use Rattle.walks.proofs.Walk.{sep, id⊢, sem, use2, fact, RattleType, mem, now, shr-slice-copy, Clauses, Ended, closing, Meets}
+use Rattle.walks.proofs.Walk.{_≡_, refl, sym, ap, _∙_, List, [], _∷_, ℕ, zero, suc, _+_, _*_, _^_, _<_, _≤_, arith, T, ltb, ltb→lt, nltb→le, lit<, length, getD, URA, fullShare, named, imm, w64, Ty, tyPtr, tyInt, tyBool, tyRef, Val, vint, SProp, ent, emp, via, fst∗, Lft, GName, Share, Fml, ftrue, fat, froom, fdies, flft, Heap, Env, WpFn, Wp, Tables, Atoms, afterBlock, afterSeq, afterTurn, atReturn, Given, Item, Sq, runs, anyQ, atRet, ‵, raw, _⊛_, ⋆, _$_, _∵_, !, qed, by, use1, move, keep, drop, split, join, rewrite, fsplit, fjoin, suffices, frame, done, look, look-raw, store, init, forget, stop, hop, from, load, lit, of-opd, bin, and-then, no-more, assigns-last, first, blocks, loops, again, Below, exec, land, returns, enter, alloc1, alloc0, params1, pass1, pass0, free0, fmOf, owns, Is, pointee, uint-makes, usize, sliceVal, sliceTy, ShrSlice, Room, slice-vals, shr-slice-tells, plain, shrSliceOf, nothing, owned, heard, onEntry, tripleOf, Contract, Triple, says, Stays, stay-dropped, walkOf, goes-dropped, ends-at, yes, Fn, Name, Body, local, valueLocal, place, field, deref, copy, int, rvOpd, op2, lt, mul, add, offset, unsigned, seq, assign, block, loop, skip, exit, cond, call, return, sep, id⊢, sem, use2, fact, RattleType, mem, now, shr-slice-copy, Clauses, Ended, closing, Meets}
 use mathlib.Core.Path.{subst}
 use lib.ListN.{take}
 use lib.Seq.{length-take-le, getD-take}

@@ -19,12 +19,7 @@
 --                    makes it of equations), the names of begin, survey, judge, fill and conclude; then the model, the tables, and that each of
 --                    them meets its contract
 -- Assumes nothing.
-use Rattle.walks.proofs.Walk.{_≡_, refl, Bool, true, false, List, [], _∷_, ℕ, length, URA, fullShare, named, imm, mut, w8, w16, w64, Ty, tyInt, tyBool, tyRef, Val}
-use Rattle.walks.proofs.Walk.{SProp, ent, emp, via, fst∗, Lft, GName, Share, Fml, ftrue, flft, Heap, WpFn, Tables, Atoms}
-use Rattle.walks.proofs.Walk.{Given, ‵, raw, _⊛_, ⋆, _$_, _∵_, !, qed, by, use0, use1, move, keep, drop, group, split, join, fsplit, fjoin, feqL, suffices, frame, done, agg, whole, sub, look-in, look, init, stop, hop, fld, from, addr, of-opd, and-then, no-more, first, branches, land, returns, enter, alloc1, alloc0, params1, pass1, pass0, free0}
-use Rattle.walks.proofs.Walk.{fmOf, owns, Is, pointee, u8, u16, usize, sliceVal, sliceTy, MutSlice, ShrSlice, Room, slice-vals, mut-slice-tells, shr-slice-tells, finally, plain, shrSliceOf, nothing, owned, heard, onEntry, tripleOf, Contract, Triple, says, Stays, stay-dropped, gave-slice, walkOf, goes-dropped, goes-gave-slice, ends-at, yes}
-use Rattle.walks.proofs.Walk.{Fn, Name, Body, erased, local, valueLocal, place, field, deref, copy, rvOpd, addrOf, aggregate, seq, assign, cond, call, return}
-use Rattle.walks.proofs.Walk.{id⊢, fact, RattleType, now, mutSliceOf, shr-slice-copy, Clauses, Ended, closing, Meets}
+use Rattle.walks.proofs.Walk.{_≡_, refl, Bool, true, false, List, [], _∷_, ℕ, length, URA, fullShare, named, imm, mut, w8, w16, w64, Ty, tyInt, tyBool, tyRef, Val, SProp, ent, emp, via, fst∗, Lft, GName, Share, Fml, ftrue, flft, Heap, WpFn, Tables, Atoms, Given, ‵, raw, _⊛_, ⋆, _$_, _∵_, !, qed, by, use0, use1, move, keep, drop, group, split, join, fsplit, fjoin, feqL, suffices, frame, done, agg, whole, sub, look-in, look, init, stop, hop, fld, from, addr, of-opd, and-then, no-more, first, branches, land, returns, enter, alloc1, alloc0, params1, pass1, pass0, free0, fmOf, owns, Is, pointee, u8, u16, usize, sliceVal, sliceTy, MutSlice, ShrSlice, Room, slice-vals, mut-slice-tells, shr-slice-tells, finally, plain, shrSliceOf, nothing, owned, heard, onEntry, tripleOf, Contract, Triple, says, Stays, stay-dropped, gave-slice, walkOf, goes-dropped, goes-gave-slice, ends-at, yes, Fn, Name, Body, erased, local, valueLocal, place, field, deref, copy, rvOpd, addrOf, aggregate, seq, assign, cond, call, return, id⊢, fact, RattleType, now, mutSliceOf, shr-slice-copy, Clauses, Ended, closing, Meets}
 use Rattle.walks.proofs.Tab.{uint-elem, xs-at, mut-at, shr-at, loc, fld-at, sets, gives-up, frees0, frees1, assigns-out, calls-plain, meets-by}
 use Rattle.walks.proofs.Lend.{lends-on, comes-on}
 use Rattle.walks.proofs.Guard.{held, failed}

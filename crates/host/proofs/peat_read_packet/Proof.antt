@@ -1,14 +1,14 @@
 -- `host::peat_read_packet` meets its contract: what `read_packet` promises, as C sees it.
 -- Assumes nothing.
 use mathlib.Core.Path.{_≡_, sym, ap, _∙_}
-use Rattle.host_answers.specs.Packet.{readingOf}
+use Rattle.host.specs.Packet.{readingOf}
 use borrow.Author.Needs.{needs}
 use Rattle.host.proofs.peat_read_packet.Statement.{statement}
 use Rattle.host.proofs.peat_read_packet.Tie as tie
 use Rattle.host.proofs.peat_read_packet.Reads as reads
 use Rattle.host.proofs.peat_read_packet.Lts as lts
-use Rattle.host_answers.proofs.packets.reading_of.Reads as reading-of-reads
-use Rattle.packet_read.proofs.read_packet.Reads as read-packet-reads
+use Rattle.host.proofs.packets.reading_of.Reads as reading-of-reads
+use Rattle.packet.proofs.read_packet.Reads as read-packet-reads
 
 read-packet-requires : tie.Need-read-packet-requires
 read-packet-requires c κs = search needs

@@ -1,13 +1,13 @@
 -- `host::peat_write_packet` meets its contract: what `write_packet` promises, as C sees it.
 -- Assumes nothing.
 use mathlib.Core.Path.{_≡_, sym, ap, _∙_}
-use Rattle.host_answers.specs.Packet.{writingOf}
+use Rattle.host.specs.Packet.{writingOf}
 use borrow.Author.Needs.{needs}
 use Rattle.host.proofs.peat_write_packet.Statement.{statement}
 use Rattle.host.proofs.peat_write_packet.Tie as tie
 use Rattle.host.proofs.peat_write_packet.Reads as reads
 use Rattle.host.proofs.peat_write_packet.Lts as lts
-use Rattle.host_answers.proofs.packets.writing_of.Reads as writing-of-reads
+use Rattle.host.proofs.packets.writing_of.Reads as writing-of-reads
 use Rattle.packet.proofs.write_packet.Reads as write-packet-reads
 
 write-packet-requires : tie.Need-write-packet-requires

@@ -8,8 +8,8 @@ use Rattle.vectors.proofs.say_read.Statement.{statement}
 use Rattle.vectors.proofs.say_read.Tie as tie
 use Rattle.vectors.proofs.say_read.Reads as reads
 use Rattle.vectors.proofs.say_read.Lts as lts
-use Rattle.packet_read.proofs.read_number.Reads as read-number-reads
-use Rattle.packet_read.proofs.read_packet.Reads as read-packet-reads
+use Rattle.packet.proofs.read_number.Reads as read-number-reads
+use Rattle.packet.proofs.read_packet.Reads as read-packet-reads
 use Rattle.vectors.proofs.say_found.Reads as say-found-reads
 use Rattle.vectors.proofs.show.say_number.Reads as say-number-reads
 

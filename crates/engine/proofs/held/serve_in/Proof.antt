@@ -1,7 +1,7 @@
 -- `engine::held::serve_in` meets its contract: an instance of the walk of `HeldCall.antt`.
 -- Assumes nothing.
 use Rattle.walks.proofs.Walk.{refl, true, false, _≡_, givenOf, tables, tablesOf, tripleOf, entered, cited, w64}
-use Rattle.walks_held.proofs.HeldCall.{held-call-meets}
+use Rattle.walks_lending.proofs.HeldCall.{held-call-meets}
 use Rattle.walks.specs.Serving.{leaves}
 use Rattle.engine.specs.Records.{serving}
 use Rattle.node.proofs.Types.{request}

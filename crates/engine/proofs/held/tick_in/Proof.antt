@@ -1,14 +1,14 @@
 -- `engine::held::tick_in` meets its contract: an instance of the walk of `HeldSweeping.antt`.
 -- Assumes nothing.
 use Rattle.walks.proofs.Walk.{refl, true, false, _≡_, givenOf, tables, tablesOf, tripleOf, entered, cited, w64}
-use Rattle.walks_held.proofs.HeldSweeping.{held-sweeping-meets}
+use Rattle.walks_lending.proofs.HeldSweeping.{held-sweeping-meets}
 use Rattle.walks.specs.Serving.{changes, telling}
 use Rattle.table.specs.Serving.{toldOf}
-use Rattle.node_ticks.specs.Ticks.{ticked, tickIndex}
+use Rattle.ticks.specs.Ticks.{ticked, tickIndex}
 use Rattle.engine.proofs.Types.{held}
-use Rattle.node_ticks.proofs.ticks.tick as tick
-use Rattle.node_ticks.proofs.ticks.tick.Symbol as tick-def
-use Rattle.node_ticks.proofs.ticks.tick.Met as tick-thm
+use Rattle.ticks.proofs.ticking.tick as tick
+use Rattle.ticks.proofs.ticking.tick.Symbol as tick-def
+use Rattle.ticks.proofs.ticking.tick.Met as tick-thm
 use Rattle.engine.proofs.held.tick_in.Key.{name as #engine·held·tick-in}
 use Rattle.engine.proofs.held.tick_in as this
 use Rattle.engine.proofs.held.tick_in.Statement as stated
@@ -21,4 +21,4 @@ tick-in-spec 𝓤 H 𝓜 𝓖 𝓡 =
     (tables 𝓤 H 𝓜 𝓡 code.env .C) (tables 𝓤 H 𝓜 𝓡 code.env .Λ) #engine·held·tick-in code.function (code.unfolded 𝓤 H 𝓜 𝓡)
     (held-sweeping-meets held (λ ys m l r zs. changes r zs ≡ telling (toldOf (tickIndex ys m l)) (ticked ys m l))
     tick-def.name 𝓤 H (𝓖 .A) (givenOf 𝓤 H 𝓜 𝓖) (tablesOf 𝓤 H 𝓜 (tables 𝓤 H 𝓜 𝓡 code.env))
-    (cited 𝓤 H (tripleOf 𝓤 H (𝓖 .A) tick.signature (tick.spec 𝓤 H (𝓖 .A) (𝓜 .mem) (𝓡 .run))) 𝓜 𝓡 code.env tick-def.name tick-def.routine code.calls-node-ticks·ticks·tick (tick-thm.met 𝓤 H 𝓜 𝓖 𝓡)))
+    (cited 𝓤 H (tripleOf 𝓤 H (𝓖 .A) tick.signature (tick.spec 𝓤 H (𝓖 .A) (𝓜 .mem) (𝓡 .run))) 𝓜 𝓡 code.env tick-def.name tick-def.routine code.calls-ticks·ticking·tick (tick-thm.met 𝓤 H 𝓜 𝓖 𝓡)))

@@ -6,7 +6,7 @@ use Prim.Native.Nat.{ℕ, _-_}
 use native.Mathlib.Omega.{arith}
 use lib.ListN.{length, take, drop}
 use Rattle.laws.proofs.Lists.{tail-part}
-use Rattle.node_calls.specs.declared.request.Request.{Request}
+use Rattle.node.specs.declared.request.Request.{Request}
 use Rattle.engine.specs.Asking.{octetsFrom}
 use Rattle.engine.specs.Records.{serving}
 use Rattle.engine.proofs.RecordLaws.{from-inside, replays-tick, replays-other}

@@ -5,22 +5,22 @@ use Rattle.walks.proofs.Plain.{of}
 use lib.ListN.{length}
 use Rattle.walks.specs.Serving.{saying}
 use Rattle.table.specs.Serving.{toldOf}
-use Rattle.walks_filing.proofs.Call.{call-meets}
-use Rattle.walks_serving.proofs.Serving.{calling}
+use Rattle.walks.proofs.Call.{call-meets}
+use Rattle.walks.proofs.Serving.{calling}
 use Rattle.table.specs.Surveying.{begun, surveyed, decided, stepping, placed, Served}
 use Rattle.table.proofs.ServeLaws.{may-serve, look-stays, agreed-told}
-use Rattle.node_survey.proofs.Types.{served, carried}
-use Rattle.node_calls.specs.Calls.{lookIn, stepFor, served as wanted, servedIndex}
+use Rattle.table.proofs.Types.{served, carried}
+use Rattle.node.specs.Calls.{lookIn, stepFor, served as wanted, servedIndex}
 use Rattle.node.proofs.Types.{request}
 use Rattle.node.proofs.door.serve_begin as serve-begin
 use Rattle.node.proofs.door.serve_begin.Symbol as serve-begin-def
 use Rattle.node.proofs.door.serve_begin.Met as serve-begin-thm
-use Rattle.node_survey.proofs.surveying.survey as survey
-use Rattle.node_survey.proofs.surveying.survey.Symbol as survey-def
-use Rattle.node_survey.proofs.surveying.survey.Met as survey-thm
-use Rattle.table_decision.proofs.deciding.decide as decide
-use Rattle.table_decision.proofs.deciding.decide.Symbol as decide-def
-use Rattle.table_decision.proofs.deciding.decide.Met as decide-thm
+use Rattle.table.proofs.beginning.survey as survey
+use Rattle.table.proofs.beginning.survey.Symbol as survey-def
+use Rattle.table.proofs.beginning.survey.Met as survey-thm
+use Rattle.table.proofs.deciding.decide as decide
+use Rattle.table.proofs.deciding.decide.Symbol as decide-def
+use Rattle.table.proofs.deciding.decide.Met as decide-thm
 use Rattle.node.proofs.door.serve_step as serve-step
 use Rattle.node.proofs.door.serve_step.Symbol as serve-step-def
 use Rattle.node.proofs.door.serve_step.Met as serve-step-thm
@@ -38,6 +38,6 @@ serve-spec 𝓤 H 𝓜 𝓖 𝓡 =
     (calling served (of request) (of carried) surveyed decided (λ n x k. begun (lookIn n x k)) true (λ c d n m l x o. (Served c d m l) × (d .look ≡ lookIn n x (length o))) (λ ys m l n x o h. (may-serve (lookIn n x (length o)) ys m l h, look-stays (lookIn n x (length o)) ys m l h)) (λ c d n m l x o. placed d (stepping (stepFor n x) c d m l o)) (λ ys m l n x o. saying (toldOf (servedIndex ys m l n x o)) (wanted ys m l n x o)) (λ ys m l n x o. agreed-told (lookIn n x (length o)) ys m l (stepFor n x) o))
     serve-begin-def.name survey-def.name decide-def.name serve-step-def.name 𝓤 H (𝓖 .A) (givenOf 𝓤 H 𝓜 𝓖) (tablesOf 𝓤 H 𝓜 (tables 𝓤 H 𝓜 𝓡 code.env))
     (cited 𝓤 H (tripleOf 𝓤 H (𝓖 .A) serve-begin.signature (serve-begin.spec 𝓤 H (𝓖 .A) (𝓜 .mem) (𝓡 .run))) 𝓜 𝓡 code.env serve-begin-def.name serve-begin-def.routine code.calls-node·door·serve-begin (serve-begin-thm.met 𝓤 H 𝓜 𝓖 𝓡))
-    (cited 𝓤 H (tripleOf 𝓤 H (𝓖 .A) survey.signature (survey.spec 𝓤 H (𝓖 .A) (𝓜 .mem) (𝓡 .run))) 𝓜 𝓡 code.env survey-def.name survey-def.routine code.calls-node-survey·surveying·survey (survey-thm.met 𝓤 H 𝓜 𝓖 𝓡))
-    (cited 𝓤 H (tripleOf 𝓤 H (𝓖 .A) decide.signature (decide.spec 𝓤 H (𝓖 .A) (𝓜 .mem) (𝓡 .run))) 𝓜 𝓡 code.env decide-def.name decide-def.routine code.calls-table-decision·deciding·decide (decide-thm.met 𝓤 H 𝓜 𝓖 𝓡))
+    (cited 𝓤 H (tripleOf 𝓤 H (𝓖 .A) survey.signature (survey.spec 𝓤 H (𝓖 .A) (𝓜 .mem) (𝓡 .run))) 𝓜 𝓡 code.env survey-def.name survey-def.routine code.calls-table·beginning·survey (survey-thm.met 𝓤 H 𝓜 𝓖 𝓡))
+    (cited 𝓤 H (tripleOf 𝓤 H (𝓖 .A) decide.signature (decide.spec 𝓤 H (𝓖 .A) (𝓜 .mem) (𝓡 .run))) 𝓜 𝓡 code.env decide-def.name decide-def.routine code.calls-table·deciding·decide (decide-thm.met 𝓤 H 𝓜 𝓖 𝓡))
     (cited 𝓤 H (tripleOf 𝓤 H (𝓖 .A) serve-step.signature (serve-step.spec 𝓤 H (𝓖 .A) (𝓜 .mem) (𝓡 .run))) 𝓜 𝓡 code.env serve-step-def.name serve-step-def.routine code.calls-node·door·serve-step (serve-step-thm.met 𝓤 H 𝓜 𝓖 𝓡)))

@@ -8,8 +8,8 @@ use Rattle.node.proofs.door.serve_begin.Statement.{statement}
 use Rattle.node.proofs.door.serve_begin.Tie as tie
 use Rattle.node.proofs.door.serve_begin.Reads as reads
 use Rattle.node.proofs.door.serve_begin.Lts as lts
-use Rattle.node_calls.proofs.request.look_in.Reads as look-in-reads
-use Rattle.table_survey.proofs.surveying.begin.Reads as begin-reads
+use Rattle.node.proofs.request.look_in.Reads as look-in-reads
+use Rattle.table.proofs.surveying.begin.Reads as begin-reads
 
 look-in-requires : tie.Need-look-in-requires
 look-in-requires c κs = search needs

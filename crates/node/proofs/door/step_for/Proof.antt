@@ -7,11 +7,11 @@ use Rattle.channel.specs.declared.record.Channel.{Channel}
 use Rattle.channel.specs.Steps.{refusing}
 use Rattle.channel.proofs.StandingLaws.{ringed}
 use Rattle.table.specs.Serving.{alone}
-use Rattle.steps.specs.Requests.{openedBy, closedBy, transferFor, askedBy, takeFor, reclaimFor}
-use Rattle.steps_handing.specs.Handing.{nextFor}
-use Rattle.steps_arriving.specs.Arriving.{arrivalFor}
-use Rattle.node_calls.specs.declared.request.Request.{Request}
-use Rattle.node_calls.specs.Calls.{lookIn, stepFor}
+use Rattle.requests.specs.Requests.{openedBy, closedBy, transferFor, askedBy, takeFor, reclaimFor}
+use Rattle.requests.specs.Handing.{nextFor}
+use Rattle.arrivals.specs.Arriving.{arrivalFor}
+use Rattle.node.specs.declared.request.Request.{Request}
+use Rattle.node.specs.Calls.{lookIn, stepFor}
 use Rattle.node.proofs.StepLaws.{likewise, by-value, with-buffer}
 use borrow.Author.Needs.{needs}
 use Rattle.node.proofs.door.step_for.Statement.{statement}
@@ -19,14 +19,14 @@ use Rattle.node.proofs.door.step_for.Tie as tie
 use Rattle.node.proofs.door.step_for.Reads as reads
 use Rattle.node.proofs.door.step_for.Lts as lts
 use Rattle.channel.proofs.step.refused.Reads as refused-reads
-use Rattle.steps.proofs.requests.ask_step.Reads as ask-step-reads
-use Rattle.steps.proofs.requests.close_step.Reads as close-step-reads
-use Rattle.steps.proofs.requests.open_step.Reads as open-step-reads
-use Rattle.steps.proofs.requests.reclaim_step.Reads as reclaim-step-reads
-use Rattle.steps.proofs.requests.take_step.Reads as take-step-reads
-use Rattle.steps.proofs.requests.transfer_step.Reads as transfer-step-reads
-use Rattle.steps_arriving.proofs.arriving.arrive_step.Reads as arrive-step-reads
-use Rattle.steps_handing.proofs.handing.next_step.Reads as next-step-reads
+use Rattle.requests.proofs.steps.ask_step.Reads as ask-step-reads
+use Rattle.requests.proofs.steps.close_step.Reads as close-step-reads
+use Rattle.requests.proofs.steps.open_step.Reads as open-step-reads
+use Rattle.requests.proofs.steps.reclaim_step.Reads as reclaim-step-reads
+use Rattle.requests.proofs.steps.take_step.Reads as take-step-reads
+use Rattle.requests.proofs.steps.transfer_step.Reads as transfer-step-reads
+use Rattle.arrivals.proofs.arriving.arrive_step.Reads as arrive-step-reads
+use Rattle.requests.proofs.handing.next_step.Reads as next-step-reads
 
 enum-told : tie.Need-enum-told
 enum-told c = search needs

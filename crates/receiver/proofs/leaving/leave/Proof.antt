@@ -1,14 +1,14 @@
 -- `receiver::leaving::leave` meets its contract: the ring gives the place and the marks.
 -- Assumes nothing.
-use Rattle.ring.proofs.Laws.{back-lt}
+use Rattle.slots.proofs.RingLaws.{back-lt}
 use Rattle.receiver.specs.Receiving.{leaving}
 use borrow.Author.Needs.{needs}
 use Rattle.receiver.proofs.leaving.leave.Statement.{statement}
 use Rattle.receiver.proofs.leaving.leave.Tie as tie
 use Rattle.receiver.proofs.leaving.leave.Reads as reads
 use Rattle.receiver.proofs.leaving.leave.Lts as lts
-use Rattle.ring.proofs.back.Reads as back-reads
-use Rattle.ring.proofs.clear.Reads as clear-reads
+use Rattle.slots.proofs.ring.back.Reads as back-reads
+use Rattle.slots.proofs.ring.clear.Reads as clear-reads
 
 sub-kept : tie.Need-sub-kept
 sub-kept c = search needs

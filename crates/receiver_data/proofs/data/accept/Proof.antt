@@ -1,8 +1,7 @@
--- `receiver::data::accept` meets its contract: a law of `acceptStep` for each case.
+-- `receiver_data::data::accept` meets its contract: a law of `acceptStep` for each case.
 -- Assumes nothing.
 use mathlib.Core.Path.{sym, _∙_}
-use Rattle.receiver_data.proofs.DataLaws.{marked-ringed}
-use Rattle.receiver_data.proofs.DataLaws.{accept-breaks, accept-done}
+use Rattle.receiver_data.proofs.DataLaws.{marked-ringed, accept-breaks, accept-done}
 use borrow.Author.Needs.{needs}
 use Rattle.receiver_data.proofs.data.accept.Statement.{statement}
 use Rattle.receiver_data.proofs.data.accept.Tie as tie
@@ -11,7 +10,7 @@ use Rattle.receiver_data.proofs.data.accept.Lts as lts
 use Rattle.channel.proofs.step.done.Reads as done-reads
 use Rattle.receiver_data.proofs.data.mark.Reads as mark-reads
 use Rattle.receiver.proofs.leaving.failed.Reads as failed-reads
-use Rattle.receiver_window.proofs.move_start.Reads as move-start-reads
+use Rattle.receiver_data.proofs.moving.move_start.Reads as move-start-reads
 
 mark-requires : tie.Need-mark-requires
 mark-requires c κs = search needs

@@ -1,11 +1,11 @@
--- `receiver::data::data_step` meets its contract: a law of `dataStep` for each sort.
+-- `receiver_data::data::data_step` meets its contract: a law of `dataStep` for each sort.
 -- Assumes nothing.
 use mathlib.Core.Path.{sym, ap, _∙_}
 use Prim.Native.Nat.{ℕ}
 use native.Mathlib.Omega.{arith}
 use Rattle.channel.proofs.StandingLaws.{ringed}
-use Rattle.receiver_sorting.specs.declared.sorting.Sort.the-variants.{New, Held, Behind, Other}
-use Rattle.receiver_sorting.specs.Sorting.{sortAt}
+use Rattle.receiver_data.specs.declared.sorting.Sort.the-variants.{New, Held, Behind, Other}
+use Rattle.receiver_data.specs.Sorting.{sortAt}
 use Rattle.receiver_data.specs.Data.{dataBy, memBy, lensBy}
 use Rattle.receiver_data.proofs.DataLaws.{data-state, state-mem, state-lens, data-by, mem-by, lens-by}
 use borrow.Author.Needs.{needs}
@@ -17,8 +17,8 @@ use Rattle.channel.proofs.step.refused.Reads as refused-reads
 use Rattle.receiver_data.proofs.data.take_new.Reads as take-new-reads
 use Rattle.receiver.proofs.leaving.failed.Reads as failed-reads
 use Rattle.receiver.proofs.leaving.repeated.Reads as repeated-reads
-use Rattle.receiver_sorting.proofs.away.Reads as away-reads
-use Rattle.receiver_sorting.proofs.sort_at.Reads as sort-at-reads
+use Rattle.receiver_data.proofs.sorting.away.Reads as away-reads
+use Rattle.receiver_data.proofs.sorting.sort_at.Reads as sort-at-reads
 
 refused-requires : tie.Need-refused-requires
 refused-requires c κs = search needs

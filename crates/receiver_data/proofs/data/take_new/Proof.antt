@@ -1,10 +1,10 @@
--- `receiver::data::take_new` meets its contract: refused for want of room, or filed and accepted.
+-- `receiver_data::data::take_new` meets its contract: refused for want of room, or filed and accepted.
 -- Assumes nothing.
 use mathlib.Core.Path.{sym, ap, _∙_}
 use Prim.Native.Nat.{ℕ, _+_, _*_, _<_}
 use native.Mathlib.Omega.{arith}
 use lib.ListN.{length, set}
-use Rattle.ring.proofs.Laws.{round-lt}
+use Rattle.slots.proofs.RingLaws.{round-lt}
 use Rattle.slots.specs.Slots.{laid}
 use Rattle.channel.specs.Places.{slotOf}
 use Rattle.channel.proofs.PlaceLaws.{slot-bound}
@@ -18,7 +18,7 @@ use Rattle.receiver_data.proofs.data.take_new.Reads as reads
 use Rattle.receiver_data.proofs.data.take_new.Lts as lts
 use Rattle.channel.proofs.step.refused.Reads as refused-reads
 use Rattle.receiver_data.proofs.data.accept.Reads as accept-reads
-use Rattle.ring.proofs.round.Reads as round-reads
+use Rattle.slots.proofs.ring.round.Reads as round-reads
 use Rattle.slots.proofs.file_segment.Reads as file-segment-reads
 use Rattle.channel.proofs.places.slot_of.Reads as slot-of-reads
 

@@ -1,12 +1,12 @@
--- `receiver::taking::drop_oldest` meets its contract: the ring clears the marks.
+-- `receiver_data::taking::drop_oldest` meets its contract: the ring clears the marks.
 -- Assumes nothing.
-use Rattle.ring.proofs.Laws.{back-lt}
+use Rattle.slots.proofs.RingLaws.{back-lt}
 use borrow.Author.Needs.{needs}
 use Rattle.receiver_data.proofs.taking.drop_oldest.Statement.{statement}
 use Rattle.receiver_data.proofs.taking.drop_oldest.Tie as tie
 use Rattle.receiver_data.proofs.taking.drop_oldest.Reads as reads
 use Rattle.receiver_data.proofs.taking.drop_oldest.Lts as lts
-use Rattle.ring.proofs.clear.Reads as clear-reads
+use Rattle.slots.proofs.ring.clear.Reads as clear-reads
 
 clear-requires : tie.Need-clear-requires
 clear-requires c κs = let a = c .before .args .c in let p = c .before .pre in rw (p .2) (back-lt (a .limits .slots) (a .window .place) (a .window .behind) (p .0 .place), p .0 .most)

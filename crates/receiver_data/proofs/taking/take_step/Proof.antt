@@ -1,10 +1,10 @@
--- `receiver::taking::take_step` meets its contract: a law of `takeStep` and of `takeOut` for each case.
+-- `receiver_data::taking::take_step` meets its contract: a law of `takeStep` and of `takeOut` for each case.
 -- Assumes nothing.
 use mathlib.Core.Path.{sym, ap, ap₂, _∙_}
 use Prim.Native.Nat.{ℕ, _≤_, _<_}
 use native.Mathlib.Omega.{arith}
 use lib.ListN.{length}
-use Rattle.ring.proofs.Laws.{back-lt}
+use Rattle.slots.proofs.RingLaws.{back-lt}
 use Rattle.slots.specs.Slots.{laid}
 use Rattle.store.specs.Store.{unitOf}
 use Rattle.channel.specs.declared.record.Channel.{Channel}
@@ -21,7 +21,7 @@ use Rattle.receiver_data.proofs.taking.take_step.Lts as lts
 use Rattle.channel.proofs.step.done.Reads as done-reads
 use Rattle.channel.proofs.step.refused.Reads as refused-reads
 use Rattle.receiver_data.proofs.taking.drop_oldest.Reads as drop-oldest-reads
-use Rattle.ring.proofs.back.Reads as back-reads
+use Rattle.slots.proofs.ring.back.Reads as back-reads
 use Rattle.store.proofs.gather.Reads as gather-reads
 use Rattle.store.proofs.size_in.Reads as size-in-reads
 use Rattle.store.proofs.unit_of.Reads as unit-of-reads

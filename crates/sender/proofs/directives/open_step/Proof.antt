@@ -2,8 +2,7 @@
 -- Assumes nothing.
 use mathlib.Core.Path.{sym, ap, _∙_}
 use Rattle.channel.specs.declared.record.Channel.{Channel}
-use Rattle.channel.specs.Steps.{doing}
-use Rattle.channel.specs.Steps.{enabledOf}
+use Rattle.channel.specs.Steps.{doing, enabledOf}
 use Rattle.sender.proofs.StepLaws.{open-state, open-untaken, open-done}
 use borrow.Author.Needs.{needs}
 use Rattle.sender.proofs.directives.open_step.Statement.{statement}

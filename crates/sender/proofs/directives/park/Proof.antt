@@ -6,7 +6,7 @@ use Rattle.sender.proofs.directives.park.Statement.{statement}
 use Rattle.sender.proofs.directives.park.Tie as tie
 use Rattle.sender.proofs.directives.park.Reads as reads
 use Rattle.sender.proofs.directives.park.Lts as lts
-use Rattle.ring.proofs.back.Reads as back-reads
+use Rattle.slots.proofs.ring.back.Reads as back-reads
 
 back-requires : tie.Need-back-requires
 back-requires c κs = search needs

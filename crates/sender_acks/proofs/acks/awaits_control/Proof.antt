@@ -1,4 +1,4 @@
--- `sender::acks::awaits_control` meets its contract: each test settles a clause.
+-- `sender_acks::acks::awaits_control` meets its contract: each test settles a clause.
 -- Assumes nothing.
 use Rattle.laws.proofs.Settle.{settle}
 use Rattle.sender_acks.proofs.acks.awaits_control.Statement.{statement}

@@ -1,4 +1,4 @@
--- `sender::acks::control_ack_step` meets its contract: a law of `controlAckStep` for each case.
+-- `sender_acks::acks::control_ack_step` meets its contract: a law of `controlAckStep` for each case.
 -- Assumes nothing.
 use mathlib.Core.Path.{sym, ap, _∙_}
 use Rattle.channel.specs.declared.record.Channel.{Channel}

@@ -1,9 +1,8 @@
--- `sender::acks::control_acked` meets its contract: a law of `controlAcked` for each case.
+-- `sender_acks::acks::control_acked` meets its contract: a law of `controlAcked` for each case.
 -- Assumes nothing.
 use mathlib.Core.Path.{sym, ap, _∙_}
-use Rattle.channel.specs.Record.{closed, opened, closing}
+use Rattle.channel.specs.Record.{closed, opened, closing, withState, withControl}
 use Rattle.channel.specs.declared.record.Lone.{Lone}
-use Rattle.channel.specs.Record.{withState, withControl}
 use Rattle.sender.specs.Directives.{parked}
 use Rattle.sender_acks.proofs.AckLaws.{acked-closing, acked-kept, acked-open}
 use borrow.Author.Needs.{needs}

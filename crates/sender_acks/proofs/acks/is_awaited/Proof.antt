@@ -1,18 +1,18 @@
--- `sender::acks::is_awaited` meets its contract: a law of `isAwaited` for each case.
+-- `sender_acks::acks::is_awaited` meets its contract: a law of `isAwaited` for each case.
 -- Assumes nothing.
 use mathlib.Core.Path.{sym, ap, _∙_}
 use Prim.Native.Nat.{ℕ, _+_, _-_}
 use native.Mathlib.Omega.{arith}
 use lib.Dec.{eqb}
 use lib.ListN.{getD}
-use Rattle.ring.proofs.Laws.{round-lt}
+use Rattle.slots.proofs.RingLaws.{round-lt}
 use Rattle.sender_acks.proofs.AckLaws.{not-sent, sent-awaited}
 use borrow.Author.Needs.{needs}
 use Rattle.sender_acks.proofs.acks.is_awaited.Statement.{statement}
 use Rattle.sender_acks.proofs.acks.is_awaited.Tie as tie
 use Rattle.sender_acks.proofs.acks.is_awaited.Reads as reads
 use Rattle.sender_acks.proofs.acks.is_awaited.Lts as lts
-use Rattle.ring.proofs.round.Reads as round-reads
+use Rattle.slots.proofs.ring.round.Reads as round-reads
 
 returns : tie.Need-returns
 returns c = sym (not-sent (c .before .before .args .c) (c .before .before .args .d) (c .if1 .taken))

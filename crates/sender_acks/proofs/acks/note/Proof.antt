@@ -1,4 +1,4 @@
--- `sender::acks::note` meets its contract: the place is the segment's.
+-- `sender_acks::acks::note` meets its contract: the place is the segment's.
 -- Assumes nothing.
 use borrow.Author.Needs.{needs}
 use Rattle.sender_acks.proofs.acks.note.Statement.{statement}

@@ -1,4 +1,4 @@
--- `sender::handing::again_in` meets its contract: the invariant: what was passed and what is left to pass make the whole.
+-- `sender_packets::handing::again_in` meets its contract: the invariant: what was passed and what is left to pass make the whole.
 -- Assumes nothing.
 use mathlib.Core.Path.{_≡_, sym, ap, _∙_}
 use Prim.Native.Nat.{ℕ, _+_, _-_, _≤_, _<_}
@@ -7,14 +7,14 @@ use mathlib.Core.Bool.{_&&_, true, false}
 use native.Mathlib.Nat.{zero-add}
 use lib.Dec.{eqb}
 use lib.ListN.{getD}
-use Rattle.ring.proofs.Laws.{round-lt}
+use Rattle.slots.proofs.RingLaws.{round-lt}
 use Rattle.sender_packets.specs.HandingOut.{againIn}
 use Rattle.sender_packets.proofs.HandLaws.{again-stop, again-more, again-none}
 use Rattle.sender_packets.proofs.handing.again_in.Statement.{statement}
 use Rattle.sender_packets.proofs.handing.again_in.Tie as tie
 use Rattle.sender_packets.proofs.handing.again_in.Reads as reads
 use Rattle.sender_packets.proofs.handing.again_in.Lts as lts
-use Rattle.ring.proofs.round.Reads as round-reads
+use Rattle.slots.proofs.ring.round.Reads as round-reads
 use Rattle.sender_packets.proofs.handing.is_again.Reads as is-again-reads
 
 abbrev Inv-loop : tie.InvT-loop

@@ -1,10 +1,10 @@
--- `sender::handing::again_out` meets its contract: the calls give the place and the timers.
+-- `sender_packets::handing::again_out` meets its contract: the calls give the place and the timers.
 -- Assumes nothing.
 use mathlib.Core.Path.{_≡_, ap, ap₂, _∙_}
 use Prim.Native.Nat.{ℕ, _+_, _-_}
 use native.Mathlib.Omega.{arith}
 use lib.ListN.{getD}
-use Rattle.ring.proofs.Laws.{round-lt}
+use Rattle.slots.proofs.RingLaws.{round-lt}
 use Rattle.sender.specs.Directives.{placeAt}
 use Rattle.sender_packets.specs.HandingOut.{againAt, timedAt}
 use borrow.Author.Needs.{needs}
@@ -12,7 +12,7 @@ use Rattle.sender_packets.proofs.handing.again_out.Statement.{statement
 use Rattle.sender_packets.proofs.handing.again_out.Tie as tie
 use Rattle.sender_packets.proofs.handing.again_out.Reads as reads
 use Rattle.sender_packets.proofs.handing.again_out.Lts as lts
-use Rattle.ring.proofs.round.Reads as round-reads
+use Rattle.slots.proofs.ring.round.Reads as round-reads
 use Rattle.sender_packets.proofs.handing.start_timer.Reads as start-timer-reads
 use Rattle.sender.proofs.ticking.lower.Reads as lower-reads
 

@@ -1,4 +1,4 @@
--- `sender::handing::control_out` meets its contract: the packet handed out is the control packet.
+-- `sender_packets::handing::control_out` meets its contract: the packet handed out is the control packet.
 -- Assumes nothing.
 use borrow.Author.Needs.{needs}
 use Rattle.sender_packets.proofs.handing.control_out.Statement.{statement}

@@ -1,4 +1,4 @@
--- `sender::handing::is_control_ready` meets its contract: the state settles whether the packet is looked at.
+-- `sender_packets::handing::is_control_ready` meets its contract: the state settles whether the packet is looked at.
 -- Assumes nothing.
 use mathlib.Core.Path.{sym, _∙_}
 use Rattle.sender_packets.proofs.HandLaws.{control-enabled, control-closing, control-other}

@@ -1,4 +1,4 @@
--- `sender::handing::is_new_ready` meets its contract: each test settles a clause.
+-- `sender_packets::handing::is_new_ready` meets its contract: each test settles a clause.
 -- Assumes nothing.
 use Rattle.laws.proofs.Settle.{settle}
 use Rattle.sender_packets.proofs.handing.is_new_ready.Statement.{statement}

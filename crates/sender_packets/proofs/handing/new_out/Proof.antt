@@ -1,11 +1,11 @@
--- `sender::handing::new_out` meets its contract: the calls give the place and the timers.
+-- `sender_packets::handing::new_out` meets its contract: the calls give the place and the timers.
 -- Assumes nothing.
 use mathlib.Core.Path.{ap, ap₂, _∙_}
 use Prim.Native.Nat.{ℕ, _+_, _-_}
 use native.Mathlib.Omega.{arith}
 use lib.ListN.{set}
 use Rattle.channel.specs.declared.record.Channel.{Channel}
-use Rattle.ring.proofs.Laws.{round-lt}
+use Rattle.slots.proofs.RingLaws.{round-lt}
 use Rattle.channel.specs.Record.{withWindow, withAcked}
 use Rattle.sender_packets.specs.HandingOut.{timedAt}
 use borrow.Author.Needs.{needs}
@@ -13,7 +13,7 @@ use Rattle.sender_packets.proofs.handing.new_out.Statement.{statement}
 use Rattle.sender_packets.proofs.handing.new_out.Tie as tie
 use Rattle.sender_packets.proofs.handing.new_out.Reads as reads
 use Rattle.sender_packets.proofs.handing.new_out.Lts as lts
-use Rattle.ring.proofs.round.Reads as round-reads
+use Rattle.slots.proofs.ring.round.Reads as round-reads
 use Rattle.sender_packets.proofs.handing.start_timer.Reads as start-timer-reads
 
 add-round : tie.Need-add-round

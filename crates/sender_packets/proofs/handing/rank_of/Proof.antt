@@ -1,8 +1,7 @@
--- `sender::handing::rank_of` meets its contract: a law of `rankOf` for each case.
+-- `sender_packets::handing::rank_of` meets its contract: a law of `rankOf` for each case.
 -- Assumes nothing.
-use mathlib.Core.Path.{sym, _∙_}
+use mathlib.Core.Path.{sym, _∙_, subst}
 use Prim.Native.Nat.{ℕ, _-_, _≤_, _<_}
-use mathlib.Core.Path.{subst}
 use Rattle.sender_packets.proofs.HandLaws.{rank-control, rank-state, rank-again, rank-new, rank-none}
 use borrow.Author.Needs.{needs}
 use Rattle.sender_packets.proofs.handing.rank_of.Statement.{statement}

@@ -6,7 +6,7 @@ use native.Mathlib.Omega.{arith}
 use Rattle.channel.specs.declared.record.Channel.{Channel}
 use lib.ListN.{length}
 use Rattle.channel.specs.Steps.{answered, doing}
-use Rattle.ring.proofs.Laws.{round-lt}
+use Rattle.slots.proofs.RingLaws.{round-lt}
 use Rattle.store.specs.Store.{filedMem, filedLens}
 use Rattle.channel.proofs.StandingLaws.{ringed}
 use Rattle.sender_units.proofs.UnitLaws.{number-accepts, number-refuses, accepted-is, transfer-no, transfer-no-mem, transfer-no-lens, transfer-done, transfer-done-mem, transfer-done-lens, filed-is}
@@ -16,8 +16,8 @@ use Rattle.sender_units.proofs.transfer.transfer_step.Tie as tie
 use Rattle.sender_units.proofs.transfer.transfer_step.Reads as reads
 use Rattle.sender_units.proofs.transfer.transfer_step.Lts as lts
 use Rattle.channel.proofs.step.done.Reads as done-reads
-use Rattle.ring.proofs.clear.Reads as clear-reads
-use Rattle.ring.proofs.round.Reads as round-reads
+use Rattle.slots.proofs.ring.clear.Reads as clear-reads
+use Rattle.slots.proofs.ring.round.Reads as round-reads
 use Rattle.channel.specs.Places.{slotOf}
 use Rattle.channel.proofs.answer.number.Reads as number-reads
 use Rattle.channel.proofs.step.unchanged.Reads as unchanged-reads

@@ -5,7 +5,7 @@ use mathlib.Core.Path.{refl}
 use native.Mathlib.Omega.{arith}
 use lib.ListN.{length-drop}
 use Rattle.laws.proofs.Lists.{tail-part}
-use Rattle.slots.proofs.Laws.{slot-in, placed}
+use Rattle.slots.proofs.SlotLaws.{slot-in, placed}
 use borrow.Author.Needs.{needs}
 use Rattle.slots.proofs.filing.file_segment.Statement.{statement}
 use Rattle.slots.proofs.filing.file_segment.Tie as tie

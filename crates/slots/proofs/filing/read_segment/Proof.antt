@@ -5,7 +5,7 @@ use mathlib.Core.Path.{_≡_, ap, _∙_}
 use native.Mathlib.Omega.{arith}
 use lib.ListN.{take, drop, getD}
 use Rattle.slots.specs.Slots.{laid}
-use Rattle.slots.proofs.Laws.{slot-in, placed}
+use Rattle.slots.proofs.SlotLaws.{slot-in, placed}
 use borrow.Author.Needs.{needs}
 use Rattle.slots.proofs.filing.read_segment.Statement.{statement}
 use Rattle.slots.proofs.filing.read_segment.Tie as tie

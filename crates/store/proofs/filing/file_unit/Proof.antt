@@ -7,7 +7,7 @@ use Prim.Native.Nat.{ℕ, _≤_, _<_, _-_, _*_}
 use mathlib.Core.Path.{_≡_, sym, ap, _∙_, subst}
 use native.Mathlib.Omega.{arith}
 use lib.ListN.{length}
-use Rattle.ring.proofs.Laws.{round-lt}
+use Rattle.slots.proofs.RingLaws.{round-lt}
 use Rattle.slots.specs.Slots.{Sized}
 use Rattle.channel.specs.Places.{slotIn}
 use Rattle.channel.proofs.PlaceLaws.{slot-bound}
@@ -17,7 +17,7 @@ use Rattle.store.proofs.filing.file_unit.Statement.{statement}
 use Rattle.store.proofs.filing.file_unit.Tie as tie
 use Rattle.store.proofs.filing.file_unit.Reads as reads
 use Rattle.store.proofs.filing.file_unit.Lts as lts
-use Rattle.ring.proofs.round.Reads as round-reads
+use Rattle.slots.proofs.ring.round.Reads as round-reads
 use Rattle.slots.proofs.flags_of.Reads as flags-of-reads
 use Rattle.slots.proofs.file_segment.Reads as file-segment-reads
 use Rattle.channel.proofs.places.slot_of.Reads as slot-of-reads

@@ -4,19 +4,18 @@ use Prim.Native.Nat.{ℕ, _≤_, _<_, _-_, _+_}
 use mathlib.Core.Path.{_≡_, sym, ap, _∙_}
 use native.Mathlib.Omega.{arith}
 use lib.ListN.{length, getD}
-use Rattle.ring.specs.Ring.{roundOf}
-use Rattle.ring.proofs.Laws.{round-lt, round-add}
+use Rattle.slots.specs.Ring.{roundOf}
+use Rattle.slots.proofs.RingLaws.{round-lt, round-add, first-place}
 use Rattle.slots.specs.Slots.{laid}
 use Rattle.channel.specs.Places.{slotIn}
 use Rattle.channel.proofs.PlaceLaws.{slot-bound}
 use Rattle.store.specs.Store.{sizeIn, octetsIn}
-use Rattle.ring.proofs.Laws.{first-place}
 use Rattle.store.proofs.Laws.{place-fits, size-more, gather-length, gather-more, gather-none}
 use Rattle.store.proofs.gathering.gather.Statement.{statement}
 use Rattle.store.proofs.gathering.gather.Tie as tie
 use Rattle.store.proofs.gathering.gather.Reads as reads
 use Rattle.store.proofs.gathering.gather.Lts as lts
-use Rattle.ring.proofs.round.Reads as round-reads
+use Rattle.slots.proofs.ring.round.Reads as round-reads
 use Rattle.slots.proofs.read_segment.Reads as read-segment-reads
 use Rattle.channel.proofs.places.slot_of.Reads as slot-of-reads
 

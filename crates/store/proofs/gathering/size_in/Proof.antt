@@ -5,7 +5,7 @@ use mathlib.Core.Path.{_≡_, ap, _∙_}
 use native.Mathlib.Omega.{arith}
 use native.Mathlib.Nat.{zero-add}
 use lib.ListN.{getD}
-use Rattle.ring.proofs.Laws.{round-lt}
+use Rattle.slots.proofs.RingLaws.{round-lt}
 use Rattle.channel.specs.Places.{slotIn}
 use Rattle.channel.proofs.PlaceLaws.{slot-bound}
 use Rattle.store.specs.Store.{sizeIn}
@@ -14,7 +14,7 @@ use Rattle.store.proofs.gathering.size_in.Statement.{statement}
 use Rattle.store.proofs.gathering.size_in.Tie as tie
 use Rattle.store.proofs.gathering.size_in.Reads as reads
 use Rattle.store.proofs.gathering.size_in.Lts as lts
-use Rattle.ring.proofs.round.Reads as round-reads
+use Rattle.slots.proofs.ring.round.Reads as round-reads
 use Rattle.channel.proofs.places.slot_of.Reads as slot-of-reads
 
 abbrev Inv-loop : tie.InvT-loop

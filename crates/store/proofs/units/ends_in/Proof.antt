@@ -6,14 +6,14 @@ use Prim.Native.Nat.{ℕ, _≤_, _<_, _-_, _+_}
 use mathlib.Core.Path.{_≡_, ap, _∙_}
 use native.Mathlib.Omega.{arith}
 use native.Mathlib.Nat.{zero-add}
-use Rattle.ring.proofs.Laws.{round-lt}
+use Rattle.slots.proofs.RingLaws.{round-lt}
 use Rattle.store.specs.Store.{endsIn}
 use Rattle.store.proofs.Laws.{ends-more, ends-none, ends-one}
 use Rattle.store.proofs.units.ends_in.Statement.{statement}
 use Rattle.store.proofs.units.ends_in.Tie as tie
 use Rattle.store.proofs.units.ends_in.Reads as reads
 use Rattle.store.proofs.units.ends_in.Lts as lts
-use Rattle.ring.proofs.round.Reads as round-reads
+use Rattle.slots.proofs.ring.round.Reads as round-reads
 use Rattle.store.proofs.units.by_end.Reads as by-end-reads
 
 abbrev Inv-loop : tie.InvT-loop

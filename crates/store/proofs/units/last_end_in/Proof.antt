@@ -3,14 +3,14 @@
 use Prim.Native.Nat.{ℕ, _≤_, _<_, _-_}
 use mathlib.Core.Path.{_≡_, sym, ap, _∙_}
 use native.Mathlib.Omega.{arith}
-use Rattle.ring.proofs.Laws.{round-lt}
+use Rattle.slots.proofs.RingLaws.{round-lt}
 use Rattle.store.specs.Store.{lastEndIn}
 use Rattle.store.proofs.Laws.{carried, carried-first, last-more, last-end}
 use Rattle.store.proofs.units.last_end_in.Statement.{statement}
 use Rattle.store.proofs.units.last_end_in.Tie as tie
 use Rattle.store.proofs.units.last_end_in.Reads as reads
 use Rattle.store.proofs.units.last_end_in.Lts as lts
-use Rattle.ring.proofs.round.Reads as round-reads
+use Rattle.slots.proofs.ring.round.Reads as round-reads
 use Rattle.store.proofs.units.by_end.Reads as by-end-reads
 
 abbrev Inv-loop : tie.InvT-loop

@@ -4,14 +4,14 @@ use Prim.Native.Nat.{ℕ, _≤_, _<_, _-_, _+_}
 use mathlib.Core.Path.{_≡_, ap, _∙_}
 use native.Mathlib.Omega.{arith}
 use native.Mathlib.Nat.{zero-add}
-use Rattle.ring.proofs.Laws.{round-lt}
+use Rattle.slots.proofs.RingLaws.{round-lt}
 use Rattle.store.specs.Store.{unitOf}
 use Rattle.store.proofs.Laws.{unit-stop, unit-more, unit-none}
 use Rattle.store.proofs.units.unit_of.Statement.{statement}
 use Rattle.store.proofs.units.unit_of.Tie as tie
 use Rattle.store.proofs.units.unit_of.Reads as reads
 use Rattle.store.proofs.units.unit_of.Lts as lts
-use Rattle.ring.proofs.round.Reads as round-reads
+use Rattle.slots.proofs.ring.round.Reads as round-reads
 
 abbrev Inv-loop : tie.InvT-loop
 Inv-loop slots n from marks count₀ s₀ count s = (count ≤ n) × (s < slots) × (count + unitOf marks slots (n - count) s ≡ unitOf marks slots n from)

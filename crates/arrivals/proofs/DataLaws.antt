@@ -1,0 +1,59 @@
+-- Laws of an arrival of Data: what a payload within P has shown, and its step over the whole of what is lent.
+-- Assumes nothing.
+use mathlib.Core.Path.{_≡_, sym, ap, _∙_}
+use mathlib.Core.Bool.{Bool, true, false, _&&_}
+use mathlib.Core.List.{List}
+use Prim.Native.Nat.{ℕ, _≤_}
+use borrow.Author.Tests.{le-ltb, ltb-false}
+use borrow.Rule.Slice.PartMut.{putMid}
+use lib.Dec.{ltb}
+use lib.ListN.{length, take, drop}
+use Rattle.packet.specs.declared.fields.Fields.{Fields}
+use Rattle.packet.specs.declared.kinds.Kind.{Kind}
+use Rattle.packet.specs.declared.kinds.Kind.the-variants.{Data}
+use Rattle.packet.specs.Kinds.{kindOf, isData}
+use Rattle.walks.specs.Serving.{works}
+use Rattle.channel.specs.declared.record.Node.{Node}
+use Rattle.channel.specs.declared.record.Channel.{Channel}
+use Rattle.channel.specs.declared.step.Stepped.{Stepped}
+use Rattle.channel.specs.Record.{receives}
+use Rattle.receiver.specs.Receiving.{ackLength}
+use Rattle.receiver_data.specs.Data.{dataStep, dataMem, dataLens}
+use Rattle.ends.proofs.ReceiverKeeps.{data-sized}
+use Rattle.table.specs.declared.deciding.Decision.{Decision}
+use Rattle.table.specs.Lent.{areaOf}
+use Rattle.table.specs.Surveying.{mine, mineLens, stepping, Served}
+use Rattle.table.proofs.Parts.{parts-filed}
+use Rattle.arrivals.specs.Replying.{repliedBy}
+use Rattle.arrivals.specs.Data.{replyLength, unfit, dataFor}
+
+-- in the base every reply buffer has room once an arrival is looked at: the first test asks for as much
+pub reply-fits : (c : Channel) (k : Kind) (n : ℕ) → ackLength ≤ n → ltb n (replyLength c k) ≡ false
+reply-fits c k n h = le-ltb n (replyLength c k) h
+
+-- Data that is fit has at most P octets
+pub fit-payload : (c : Channel) (f : Fields) (x : ℕ) → unfit c f x ≡ false → kindOf (f .kind) ≡ Data → x ≤ c .limits .payload
+unfolding unfit
+fit-payload c f x e k =
+    ltb-false (c .limits .payload) x (sym (ap (λ (b : Kind). isData b && ltb (c .limits .payload) x) k) ∙ e)
+
+-- ---- Data, over the whole of what is lent
+
+pub data-files : (node : Node) (f : Fields) (p : List ℕ) (c : Channel) (d : Decision) (mem lens out : List ℕ)
+    → c .addresses .direction ≡ receives
+    → Served c d mem lens
+    → length p ≤ c .limits .payload
+    → (r : Stepped) (m l o : List ℕ) (j k : ℕ)
+    → j ≡ areaOf (c .limits)
+    → k ≡ c .limits .slots
+    → r ≡ dataStep c (f .number) (f .flags)
+    → m ≡ dataMem c (f .number) p (take j (drop (d .spot .octet) mem))
+    → l ≡ dataLens c (f .number) p (take k (drop (d .spot .slot) lens))
+    → o ≡ repliedBy (r .answer) node (c .addresses) true (f .number) out
+    → works r (putMid (d .spot .octet) j mem m) (putMid (d .spot .slot) k lens l) o ≡ stepping (dataFor node f p) c d mem lens out
+data-files node f p c d mem lens out dir s few r m l o j k ej ek er em el eo =
+    parts-filed (dataFor node f p) c d mem lens out j k ej ek (dataMem c (f .number) p) (dataLens c (f .number) p) r (dataStep c (f .number) (f .flags)) m l o er
+    em el
+    (data-sized c (mineLens c d lens) dir (s .standing) (f .number) p (mine c d mem) few (s .sized))
+    (ap (λ (y : List ℕ). works (dataStep c (f .number) (f .flags)) (dataMem c (f .number) p (mine c d mem)) (dataLens c (f .number) p (mineLens c d lens)) y)
+    (sym (eo ∙ ap (λ (x : Stepped). repliedBy (x .answer) node (c .addresses) true (f .number) out) er)))

@@ -1,0 +1,211 @@
+-- `arrivals::arriving::arrive_as` meets its contract: by the packet's kind.
+-- Assumes nothing.
+use mathlib.Core.Path.{_≡_, refl, sym, ap, ap₂, _∙_}
+use mathlib.Core.List.{List}
+use Prim.Native.Nat.{ℕ, _+_, _-_}
+use native.Mathlib.Omega.{arith}
+use mathlib.Core.Bool.{true, false}
+use lib.ListN.{length, take, drop, length-drop}
+use lib.Seq.{length-take-le}
+use Rattle.packet.specs.declared.kinds.Kind.{Kind}
+use Rattle.packet.specs.declared.kinds.Kind.the-variants.{Data, DataAck, Open, Close, ControlAck}
+use Rattle.packet.specs.Layout.{payloadAt, lengthAt}
+use Rattle.walks.specs.Serving.{works}
+use Rattle.channel.specs.declared.record.Channel.{Channel}
+use Rattle.channel.specs.declared.step.Stepped.{Stepped}
+use Rattle.channel.specs.declared.answer.Refusal.the-variants as refusal
+use Rattle.channel.specs.Steps.{refusing}
+use Rattle.channel.proofs.StandingLaws.{ringed}
+use Rattle.sender_acks.specs.Acks.{dataAckStep, controlAckStep}
+use Rattle.receiver.specs.Receiving.{controlStep}
+use Rattle.table.specs.Surveying.{stepping}
+use Rattle.table.proofs.OneLaws.{kind-finds}
+use Rattle.table.proofs.Parts.{quiet}
+use Rattle.arrivals.specs.Replying.{repliedBy}
+use Rattle.arrivals.specs.Data.{dataFor}
+use Rattle.arrivals.proofs.DataLaws.{fit-payload}
+use Rattle.arrivals.specs.Arriving.{arriveAs, payloadIn}
+use borrow.Author.Needs.{needs}
+use Rattle.arrivals.proofs.arriving.arrive_as.Statement.{statement}
+use Rattle.arrivals.proofs.arriving.arrive_as.Tie as tie
+use Rattle.arrivals.proofs.arriving.arrive_as.Reads as reads
+use Rattle.arrivals.proofs.arriving.arrive_as.Lts as lts
+use Rattle.arrivals.proofs.data.arrive_data.Reads as arrive-data-reads
+use Rattle.channel.proofs.step.refused.Reads as refused-reads
+use Rattle.sender_acks.proofs.control_ack_step.Reads as control-ack-step-reads
+use Rattle.sender_acks.proofs.data_ack_step.Reads as data-ack-step-reads
+use Rattle.arrivals.proofs.arriving.arrive_control.Reads as arrive-control-reads
+
+enum-told : tie.Need-enum-told
+enum-told c = search needs
+
+add-end : tie.Need-add-end
+add-end c =
+    let a = c .before .before .before .before .before .before .args in
+    let g = c .before .before .before .before .before .before .pre .1 in
+    omega (arith, g .whole, c .before .before .before .before .before .before .good .1 .1 .1 .1 .1 .1 .1 .1 .0)
+
+sub-arrive-data : tie.Need-sub-arrive-data
+sub-arrive-data c = search needs
+
+part-arrive-data-start : tie.Need-part-arrive-data-start
+part-arrive-data-start c = search needs
+
+part-arrive-data-end : tie.Need-part-arrive-data-end
+part-arrive-data-end c = search needs
+
+arrive-data-requires : tie.Need-arrive-data-requires
+arrive-data-requires c κs =
+    let a = c .before .before .before .before .before .before .before .before .before .before .args in
+    let s = c .before .before .before .before .before .before .before .before .before .before .pre .0 in
+    let g = c .before .before .before .before .before .before .before .before .before .before .pre .1 in
+    let at = payloadAt (a .f) in
+    let is = c .before .before .before .before .before .before .before .before .before .before .pre .2 ∙ c .before .before .before .before .enum-told .given .1 in
+    let n : length (take (at + a .length - at) (drop at (a .packet .now))) ≡ at + a .length - at =
+    length-take-le (at + a .length - at) (drop at (a .packet .now)) (omega (arith, length-drop at (a .packet .now), g .whole)) in (
+      s,
+      kind-finds (a .c .addresses) (a .f) Data (g .ours) is,
+      g .flags,
+      omega (arith, n, fit-payload (a .c) (a .f) (a .length) (c .before .before .before .before .before .before .before .before .before .before .pre .3) is),
+      g .room,
+    )
+
+enum-told-2 : tie.Need-enum-told-2
+enum-told-2 c = search needs
+
+data-ack-step-requires : tie.Need-data-ack-step-requires
+data-ack-step-requires c κs =
+    let a = c .before .before .before .before .before .before .args in
+    let s = c .before .before .before .before .before .before .pre .0 in
+    ringed (a .c) _ (s .standing)
+
+enum-told-3 : tie.Need-enum-told-3
+enum-told-3 c = search needs
+
+arrive-control-requires : tie.Need-arrive-control-requires
+arrive-control-requires c κs =
+    let a = c .before .before .before .before .before .before .before .args in
+    let s = c .before .before .before .before .before .before .before .pre .0 in
+    let g = c .before .before .before .before .before .before .before .pre .1 in
+    (ringed (a .c) _ (s .standing), g .room)
+
+enum-told-4 : tie.Need-enum-told-4
+enum-told-4 c = search needs
+
+arrive-control-requires-2 : tie.Need-arrive-control-requires-2
+arrive-control-requires-2 c κs =
+    let a = c .before .before .before .before .before .before .before .args in
+    let s = c .before .before .before .before .before .before .before .pre .0 in
+    let g = c .before .before .before .before .before .before .before .pre .1 in
+    (ringed (a .c) _ (s .standing), g .room)
+
+enum-told-5 : tie.Need-enum-told-5
+enum-told-5 c = search needs
+
+control-ack-step-requires : tie.Need-control-ack-step-requires
+control-ack-step-requires c κs =
+    let a = c .before .before .before .before .before .before .args in
+    let s = c .before .before .before .before .before .before .pre .0 in
+    ringed (a .c) _ (s .standing)
+
+enum-told-6 : tie.Need-enum-told-6
+enum-told-6 c = search needs
+
+refused-requires : tie.Need-refused-requires
+refused-requires c κs = search needs
+
+same-length : tie.Need-same-length
+same-length c = search needs
+
+same-length-2 : tie.Need-same-length-2
+same-length-2 c = search needs
+
+same-length-3 : tie.Need-same-length-3
+same-length-3 c = search needs
+
+returns : tie.Need-returns
+returns c =
+    let a = c .before .before .before .before .before .before .before .before .before .before .before .before .before .before .before .before .before .args in
+    let g = c .before .before .before .before .before .before .before .before .before .before .before .before .before .before .before .before .before .pre .1 in
+    let at = payloadAt (a .f) in
+    let e : at + a .length - at ≡ lengthAt (a .packet .now) = omega (arith, g .count) in
+    c .before .before .before .before .before .before .arrive-data .ensures
+    ∙ ap (λ (n : ℕ). stepping (dataFor (a .node) (a .f) (take n (drop at (a .packet .now)))) (a .c) (a .d) (a .mem .now) (a .lens .now) (a .out .now)) e
+    ∙ sym (ap (λ (z : Kind). stepping (arriveAs z (a .node) (a .f) (payloadIn (a .packet .now))) (a .c) (a .d) (a .mem .now) (a .lens .now) (a .out .now)) (c .before .before .before .before .before .before .before .before .before .before .before .enum-told .given .1))
+
+returns-2 : tie.Need-returns-2
+returns-2 c =
+    let a = c .before .before .before .before .before .before .before .args in
+    ap (λ (x : Stepped). works x (a .mem .now) (a .lens .now) (a .out .now)) (c .data-ack-step .ensures)
+    ∙ quiet (arriveAs DataAck (a .node) (a .f) (payloadIn (a .packet .now))) (a .c) (a .d) (a .mem .now) (a .lens .now) (a .out .now) (dataAckStep (a .c) (a .f .number)) (a .out .now) refl
+    ∙ sym (ap (λ (z : Kind). stepping (arriveAs z (a .node) (a .f) (payloadIn (a .packet .now))) (a .c) (a .d) (a .mem .now) (a .lens .now) (a .out .now)) (c .before .enum-told2 .given .1))
+
+same-length-4 : tie.Need-same-length-4
+same-length-4 c = search needs
+
+returns-3 : tie.Need-returns-3
+returns-3 c =
+    let a = c .before .before .before .before .before .before .before .before .before .before .args in
+    let st = controlStep (a .c) true (a .f .number) in
+    ap₂ (λ (x : Stepped) (y : List ℕ). works x (a .mem .now) (a .lens .now) y) (c .before .before .arrive-control .ensures .0) (c .before .before .arrive-control .ensures .1)
+    ∙ quiet (arriveAs Open (a .node) (a .f) (payloadIn (a .packet .now))) (a .c) (a .d) (a .mem .now) (a .lens .now) (a .out .now) st
+    (repliedBy (st .answer) (a .node) (a .c .addresses) false (a .f .number) (a .out .now)) refl
+    ∙ sym (ap (λ (z : Kind). stepping (arriveAs z (a .node) (a .f) (payloadIn (a .packet .now))) (a .c) (a .d) (a .mem .now) (a .lens .now) (a .out .now)) (c .before .before .before .before .enum-told3 .given .1))
+
+same-length-5 : tie.Need-same-length-5
+same-length-5 c = search needs
+
+returns-4 : tie.Need-returns-4
+returns-4 c =
+    let a = c .before .before .before .before .before .before .before .before .before .before .args in
+    let st = controlStep (a .c) false (a .f .number) in
+    ap₂ (λ (x : Stepped) (y : List ℕ). works x (a .mem .now) (a .lens .now) y) (c .before .before .arrive-control2 .ensures .0) (c .before .before .arrive-control2 .ensures .1)
+    ∙ quiet (arriveAs Close (a .node) (a .f) (payloadIn (a .packet .now))) (a .c) (a .d) (a .mem .now) (a .lens .now) (a .out .now) st
+    (repliedBy (st .answer) (a .node) (a .c .addresses) false (a .f .number) (a .out .now)) refl
+    ∙ sym (ap (λ (z : Kind). stepping (arriveAs z (a .node) (a .f) (payloadIn (a .packet .now))) (a .c) (a .d) (a .mem .now) (a .lens .now) (a .out .now)) (c .before .before .before .before .enum-told4 .given .1))
+
+returns-5 : tie.Need-returns-5
+returns-5 c =
+    let a = c .before .before .before .before .before .before .before .args in
+    ap (λ (x : Stepped). works x (a .mem .now) (a .lens .now) (a .out .now)) (c .control-ack-step .ensures)
+    ∙ quiet (arriveAs ControlAck (a .node) (a .f) (payloadIn (a .packet .now))) (a .c) (a .d) (a .mem .now) (a .lens .now) (a .out .now) (controlAckStep (a .c) (a .f .number)) (a .out .now) refl
+    ∙ sym (ap (λ (z : Kind). stepping (arriveAs z (a .node) (a .f) (payloadIn (a .packet .now))) (a .c) (a .d) (a .mem .now) (a .lens .now) (a .out .now)) (c .before .enum-told5 .given .1))
+
+returns-6 : tie.Need-returns-6
+returns-6 c =
+    let a = c .before .before .before .before .before .before .before .args in
+    ap (λ (x : Stepped). works x (a .mem .now) (a .lens .now) (a .out .now)) (c .refused .ensures)
+    ∙ quiet (λ (c₁ : Channel) (r : ℕ) (m₁ l₁ o₁ : List ℕ). works (refusing c₁ refusal.Lacking) m₁ l₁ o₁) (a .c) (a .d) (a .mem .now) (a .lens .now) (a .out .now) (refusing (a .c) refusal.Lacking) (a .out .now) refl
+    ∙ sym (ap (λ (z : Kind). stepping (arriveAs z (a .node) (a .f) (payloadIn (a .packet .now))) (a .c) (a .d) (a .mem .now) (a .lens .now) (a .out .now)) (c .before .enum-told6 .given .1))
+
+pub arrive-as-spec : {M : Type 1} → statement M
+arrive-as-spec =
+    tie.close
+    (tie.spec
+    enum-told
+    add-end
+    sub-arrive-data
+    part-arrive-data-start
+    part-arrive-data-end
+    arrive-data-requires
+    enum-told-2
+    data-ack-step-requires
+    enum-told-3
+    arrive-control-requires
+    enum-told-4
+    arrive-control-requires-2
+    enum-told-5
+    control-ack-step-requires
+    enum-told-6
+    refused-requires
+    same-length
+    same-length-2
+    same-length-3
+    returns
+    returns-2
+    same-length-4
+    returns-3
+    same-length-5
+    returns-4
+    returns-5
+    returns-6)

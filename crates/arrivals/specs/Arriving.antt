@@ -1,0 +1,57 @@
+-- What an arrival does to the channel that it is for (document 01, Answer numbers: 'Arrivals test 11, 1, 2, 4, 3, 14, Data payload over P (3),
+-- state (5), number (9, 15, 16), room (8), flags (9)'). Which channel that is, is said in specs/Finding.antt.
+use mathlib.Core.Path.{_≡_}
+use Prim.Native.Nat.{ℕ, _≤_, _<_}
+use mathlib.Core.Bool.{true, false}
+use mathlib.Core.List.{List}
+use lib.Dec.{ltb}
+use lib.ListN.{length, take, drop}
+use Rattle.laws.specs.Choice.{if_then_else_}
+use Rattle.packet.specs.declared.fields.Fields.{Fields}
+use Rattle.packet.specs.declared.kinds.Kind.{Kind}
+use Rattle.packet.specs.declared.kinds.Kind.the-variants.{Data, DataAck, Open, Close, ControlAck, Lacking}
+use Rattle.packet.specs.Kinds.{kindOf}
+use Rattle.packet.specs.Layout.{payloadAt, wholeLength, fieldsAt, lengthAt}
+use Rattle.walks.specs.Serving.{works}
+use Rattle.channel.specs.declared.record.Node.{Node}
+use Rattle.channel.specs.declared.record.Channel.{Channel}
+use Rattle.channel.specs.declared.answer.Refusal.the-variants as refusal
+use Rattle.channel.specs.Steps.{refusing}
+use Rattle.sender_acks.specs.Acks.{controlAckStep, dataAckStep}
+use Rattle.receiver.specs.Receiving.{ackLength, controlStep}
+use Rattle.table.specs.Looking.{same}
+use Rattle.table.specs.Serving.{Step}
+use Rattle.arrivals.specs.Replying.{replying}
+use Rattle.arrivals.specs.Data.{replyLength, unfit, dataFor}
+
+-- by the packet's kind; no packet of a kind that the base lacks is read
+abbrev pub arriveAs : Kind → Node → Fields → List ℕ → Step
+arriveAs Data node f payload c rank mem lens out = dataFor node f payload c rank mem lens out
+arriveAs DataAck node f payload c rank mem lens out = works (dataAckStep c (f .number)) mem lens out
+arriveAs Open node f payload c rank mem lens out = replying node c false (f .number) (controlStep c true (f .number)) mem lens out
+arriveAs Close node f payload c rank mem lens out = replying node c false (f .number) (controlStep c false (f .number)) mem lens out
+arriveAs ControlAck node f payload c rank mem lens out = works (controlAckStep c (f .number)) mem lens out
+arriveAs (Lacking code) node f payload c rank mem lens out = works (refusing c refusal.Lacking) mem lens out
+
+-- with what only the channel tells tested first: room for its reply (11), and Data payload over P (3)
+unfoldable pub arriveBy : Node → Fields → ℕ → List ℕ → Step
+arriveBy node f x payload c rank mem lens out =
+    if ltb (length out) (replyLength c (kindOf (f .kind))) then works (refusing c (refusal.Small (replyLength c (kindOf (f .kind))))) mem lens out
+    else if unfit c f x then works (refusing c refusal.Strange) mem lens out
+    else arriveAs (kindOf (f .kind)) node f payload c rank mem lens out
+
+-- the payload is read where it lies
+abbrev pub payloadIn : List ℕ → List ℕ
+payloadIn s = take (lengthAt s) (drop (payloadAt (fieldsAt s)) s)
+
+unfoldable pub arrivalFor : Node → List ℕ → Step
+arrivalFor node s = arriveBy node (fieldsAt s) (lengthAt s) (payloadIn s)
+
+-- what the reader, the lookup and the reply buffer have shown, as the step asks it
+pub record Framed (c : Channel) (f : Fields) (x : ℕ) (s out : List ℕ) : Type 0 where
+  pub ours : same (c .addresses) f ≡ true
+  pub fields : f ≡ fieldsAt s
+  pub count : x ≡ lengthAt s
+  pub whole : wholeLength f x ≡ length s
+  pub flags : f .flags < 4
+  pub room : ackLength ≤ length out

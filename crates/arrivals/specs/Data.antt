@@ -1,0 +1,27 @@
+-- An arrival of Data (document 01, Answer numbers: 'Data payload over P (3)'; Receiving).
+use Prim.Native.Nat.{ℕ}
+use mathlib.Core.Bool.{Bool, true, _&&_}
+use mathlib.Core.List.{List}
+use lib.Dec.{ltb}
+use Rattle.packet.specs.declared.fields.Fields.{Fields}
+use Rattle.packet.specs.declared.kinds.Kind.{Kind}
+use Rattle.packet.specs.Kinds.{kindOf, isData}
+use Rattle.channel.specs.declared.record.Node.{Node}
+use Rattle.channel.specs.declared.record.Channel.{Channel}
+use Rattle.channel.specs.Steps.{outgoingLength}
+use Rattle.receiver_data.specs.Data.{dataStep, dataMem, dataLens}
+use Rattle.table.specs.Serving.{Step}
+use Rattle.arrivals.specs.Replying.{replying}
+
+-- the octets of the reply to a packet of a kind that arrives for a channel: an Ack, which has no payload
+abbrev pub replyLength : Channel → Kind → ℕ
+replyLength c kind = outgoingLength (c .addresses) 0
+
+-- Data payload over P
+unfoldable pub unfit : Channel → Fields → ℕ → Bool
+unfit c f x = isData (kindOf (f .kind)) && ltb (c .limits .payload) x
+
+-- Data, with its payload
+abbrev pub dataFor : Node → Fields → List ℕ → Step
+dataFor node f payload c rank mem lens out =
+    replying node c true (f .number) (dataStep c (f .number) (f .flags)) (dataMem c (f .number) payload mem) (dataLens c (f .number) payload lens) out

@@ -1,0 +1,4 @@
+pub mod Finding
+pub mod Replying
+pub mod Data
+pub mod Arriving

@@ -1,0 +1,119 @@
+// A packet arrives for a channel that was found: it is taken by that channel's end.
+use crate::data::arrive_data;
+use crate::data::is_unfit;
+use crate::data::reply_length;
+use crate::replying::reply;
+use channel::Channel;
+use channel::Node;
+use channel::Refusal;
+use channel::Stepped;
+use channel::step::refused;
+use packet::Fields;
+use packet::Kind;
+use packet::fields::HEAD;
+use packet::kinds::kind_of;
+use table::Decision;
+use table::Look;
+ghost use mathlib.Core.Path.{_≡_};
+ghost use Prim.Native.Nat.{_≤_};
+ghost use mathlib.Core.Bool.{false};
+ghost use lib.ListN.{length};
+ghost use Rattle.packet.specs.Kinds.{kindOf};
+ghost use Rattle.walks.specs.Serving.{works};
+ghost use Rattle.channel.specs.Asked.{Ringed};
+ghost use Rattle.receiver.specs.Receiving.{ackLength, controlStep};
+ghost use Rattle.table.specs.Surveying.{Served, stepping};
+ghost use Rattle.arrivals.specs.Finding.{lookOf};
+ghost use Rattle.arrivals.specs.Data.{unfit};
+ghost use Rattle.arrivals.specs.Replying.{repliedBy};
+ghost use Rattle.arrivals.specs.Arriving.{Framed, arriveAs, payloadIn, arrivalFor};
+
+// An Open, or else a Close, changes the record alone, and is acknowledged where the answer is 0 or 15.
+fn arrive_control(c: Channel, node: Node, opens: bool, number: u8, out: &mut [u8]) -> Stepped
+    requires { ⌜ (Ringed (c .limits) (c .window)) × (ackLength ≤ length (now out)) ⌝ }
+    ensures { λ r. ⌜ (r ≡ controlStep c opens number) × (now (out .exit) ≡ repliedBy (controlStep c opens number .answer) node (c .addresses) false number (now (out .entry))) ⌝ }
+{
+    let s = receiver::control_step(c, opens, number);
+    let answer = s.answer;
+    reply(answer, node, c.addresses, false, number, out);
+    s
+}
+
+// By the packet's kind.
+fn arrive_as(
+    kind: Kind,
+    c: Channel,
+    d: Decision,
+    node: Node,
+    f: Fields,
+    length: usize,
+    mem: &mut [u8],
+    lens: &mut [u16],
+    packet: &[u8],
+    out: &mut [u8],
+) -> Stepped
+    requires { ⌜ (Served c d (now mem) (now lens)) × (Framed c f length (now packet) (now out)) × (kindOf (f .kind) ≡ kind) × (unfit c f length ≡ false) ⌝ }
+    ensures { λ r. ⌜ works r (now (mem .exit)) (now (lens .exit)) (now (out .exit)) ≡ stepping (arriveAs kind node f (payloadIn (now (packet .entry)))) c d (now (mem .entry)) (now (lens .entry)) (now (out .entry)) ⌝ }
+{
+    match kind {
+        Kind::Data => {
+            let end = HEAD + length;
+            arrive_data(c, d, node, f, &packet[HEAD..end], mem, lens, out)
+        }
+        Kind::DataAck => sender_acks::data_ack_step(c, f.number),
+        Kind::Open => arrive_control(c, node, true, f.number, out),
+        Kind::Close => arrive_control(c, node, false, f.number, out),
+        Kind::ControlAck => sender_acks::control_ack_step(c, f.number),
+        Kind::Lacking(_) => refused(c, Refusal::Lacking),
+    }
+}
+
+// What only the channel tells is tested first. In the base its reply always fits: `look_of` has asked for as much.
+fn arrive(
+    c: Channel,
+    d: Decision,
+    node: Node,
+    f: Fields,
+    length: usize,
+    mem: &mut [u8],
+    lens: &mut [u16],
+    packet: &[u8],
+    out: &mut [u8],
+) -> Stepped
+    requires { ⌜ (Served c d (now mem) (now lens)) × (Framed c f length (now packet) (now out)) ⌝ }
+    ensures { λ r. ⌜ works r (now (mem .exit)) (now (lens .exit)) (now (out .exit)) ≡ stepping (arrivalFor node (now (packet .entry))) c d (now (mem .entry)) (now (lens .entry)) (now (out .entry)) ⌝ }
+{
+    let kind = kind_of(f.kind);
+    let wanted = reply_length(c, kind);
+    if out.len() < wanted {
+        return refused(c, Refusal::Small(wanted));
+    }
+    if is_unfit(c, f, length) {
+        return refused(c, Refusal::Strange);
+    }
+    arrive_as(kind, c, d, node, f, length, mem, lens, packet, out)
+}
+
+// The channel was found for this packet: nothing else is looked for in an arrival.
+pub fn arrive_step(
+    c: Channel,
+    d: Decision,
+    node: Node,
+    mem: &mut [u8],
+    lens: &mut [u16],
+    packet: &[u8],
+    out: &mut [u8],
+) -> Stepped
+    requires { ⌜ (Served c d (now mem) (now lens)) × (d .look ≡ lookOf node (now packet) (length (now out))) ⌝ }
+    ensures { λ r. ⌜ works r (now (mem .exit)) (now (lens .exit)) (now (out .exit)) ≡ stepping (arrivalFor node (now (packet .entry))) c d (now (mem .entry)) (now (lens .entry)) (now (out .entry)) ⌝ }
+{
+    let look = d.look;
+    match look {
+        Look::Packet { fields, length } => {
+            arrive(c, d, node, fields, length, mem, lens, packet, out)
+        }
+        Look::Index(_) => refused(c, Refusal::NoChannel),
+        Look::Ready => refused(c, Refusal::NoChannel),
+        Look::Nobody(_) => refused(c, Refusal::NoChannel),
+    }
+}

@@ -1,0 +1,63 @@
+// Data arrives at the channel that it is for.
+use crate::replying::reply;
+use channel::Channel;
+use channel::Node;
+use channel::Stepped;
+use packet::Fields;
+use packet::Kind;
+use packet::fields::LEAST;
+use packet::kinds::is_data;
+use packet::kinds::kind_of;
+use table::Decision;
+use table::surveying::area;
+ghost use mathlib.Core.Path.{_≡_};
+ghost use Prim.Native.Nat.{_≤_, _<_};
+ghost use lib.ListN.{length};
+ghost use Rattle.walks.specs.Serving.{works};
+ghost use Rattle.channel.specs.Record.{receives};
+ghost use Rattle.receiver.specs.Receiving.{ackLength};
+ghost use Rattle.table.specs.Surveying.{Served, stepping};
+ghost use Rattle.arrivals.specs.Data.{replyLength, unfit, dataFor};
+
+// The octets of the reply to a packet of a kind: an Ack, which has no payload.
+pub fn reply_length(c: Channel, kind: Kind) -> usize
+    ensures { λ r. ⌜ r ≡ replyLength c kind ⌝ }
+{
+    LEAST
+}
+
+// What a channel cannot take, though the packet is sound: a payload over P.
+pub fn is_unfit(c: Channel, f: Fields, length: usize) -> bool
+    ensures { λ r. ⌜ r ≡ unfit c f length ⌝ }
+{
+    if !is_data(kind_of(f.kind)) {
+        return false;
+    }
+    c.limits.payload < length
+}
+
+// Data is filed in the channel's own part, and acknowledged where the answer is 0 or 15.
+pub fn arrive_data(
+    c: Channel,
+    d: Decision,
+    node: Node,
+    f: Fields,
+    payload: &[u8],
+    mem: &mut [u8],
+    lens: &mut [u16],
+    out: &mut [u8],
+) -> Stepped
+    requires { ⌜ (Served c d (now mem) (now lens)) × (c .addresses .direction ≡ receives) × (f .flags < 4) × (length (now payload) ≤ c .limits .payload) × (ackLength ≤ length (now out)) ⌝ }
+    ensures { λ r. ⌜ works r (now (mem .exit)) (now (lens .exit)) (now (out .exit)) ≡ stepping (dataFor node f (now (payload .entry))) c d (now (mem .entry)) (now (lens .entry)) (now (out .entry)) ⌝ }
+{
+    let octet = d.spot.octet;
+    let slot = d.spot.slot;
+    let octets = octet + area(c.limits);
+    let slots = slot + c.limits.slots;
+    let own = &mut mem[octet..octets];
+    let own_lens = &mut lens[slot..slots];
+    let s = receiver_data::data_step(c, f.number, f.flags, payload, own, own_lens);
+    let answer = s.answer;
+    reply(answer, node, c.addresses, true, f.number, out);
+    s
+}

@@ -1,0 +1,46 @@
+-- `channel::settings::fits_limits` meets its contract: each part's own contract settles a clause.
+-- Assumes nothing.
+use mathlib.Core.Path.{_≡_, sym, _∙_}
+use mathlib.Core.Bool.{true, false}
+use borrow.Author.Tests.{lt-leb, le-leb, not-true, not-false}
+use Rattle.channel.specs.Settings.{fitWindow, fitUnits, fitLimits}
+use borrow.Author.Needs.{needs}
+use Rattle.channel.proofs.settings.fits_limits.Statement.{statement}
+use Rattle.channel.proofs.settings.fits_limits.Tie as tie
+use Rattle.channel.proofs.settings.fits_limits.Reads as reads
+use Rattle.channel.proofs.settings.fits_limits.Lts as lts
+use Rattle.channel.proofs.settings.fits_timers.Reads as fits-timers-reads
+use Rattle.channel.proofs.settings.fits_units.Reads as fits-units-reads
+use Rattle.channel.proofs.settings.fits_window.Reads as fits-window-reads
+
+fits-window-requires : tie.Need-fits-window-requires
+fits-window-requires c κs = search needs
+
+returns : tie.Need-returns
+unfolding fitLimits
+returns c = let l = c .before .before .args .l in let w : fitWindow l ≡ false = sym (c .before .fits-window .ensures) ∙ not-true _ (c .if1 .taken) in simp w
+
+fits-units-requires : tie.Need-fits-units-requires
+fits-units-requires c κs = search needs
+
+returns-2 : tie.Need-returns-2
+unfolding fitLimits
+returns-2 c = let l = c .before .before .before .before .args .l in let w : fitWindow l ≡ true = sym (c .before .before .before .fits-window .ensures) ∙ not-false _ (c .before .before .if1 .left) in let u : fitUnits l ≡ false = sym (c .before .fits-units .ensures) ∙ not-true _ (c .if2 .taken) in simp (w, u)
+
+fits-timers-requires : tie.Need-fits-timers-requires
+fits-timers-requires c κs = search needs
+
+returns-3 : tie.Need-returns-3
+unfolding fitLimits
+returns-3 c = let l = c .before .before .before .before .before .args .l in let w : fitWindow l ≡ true = sym (c .before .before .before .before .fits-window .ensures) ∙ not-false _ (c .before .before .before .if1 .left) in let u : fitUnits l ≡ true = sym (c .before .before .fits-units .ensures) ∙ not-false _ (c .before .if2 .left) in simp (w, u) (c .fits-timers .ensures)
+
+pub fits-limits-spec : {M : Type 1} → statement M
+fits-limits-spec =
+    tie.close
+    (tie.spec
+    fits-window-requires
+    returns
+    fits-units-requires
+    returns-2
+    fits-timers-requires
+    returns-3)

@@ -1,0 +1,61 @@
+-- A hand-out keeps the standing condition.
+-- Assumes nothing.
+use mathlib.Core.Path.{_≡_, refl, sym, _∙_}
+use mathlib.Core.Bool.{Bool, true, false}
+use mathlib.Core.List.{List}
+use Prim.Native.Nat.{ℕ, _<_}
+use native.Mathlib.Omega.{arith}
+use borrow.Author.Tests.{eqb-false}
+use lib.Dec.{ltb, eqb}
+use Rattle.laws.specs.Choice.{if_then_else_}
+use Rattle.channel.specs.declared.record.Channel.{Channel}
+use Rattle.channel.specs.declared.answer.Refusal.the-variants as refusal
+use Rattle.channel.specs.Record.{sends, opened}
+use Rattle.channel.specs.Lone.{handedOut}
+use Rattle.channel.specs.Standing.{Standing}
+use Rattle.channel.specs.Steps.{refusing, doing}
+use Rattle.channel.proofs.StandingLaws.{counted-is, named-is, open-rests}
+use Rattle.sender_packets.specs.Asked.{Ready}
+use Rattle.sender_packets.specs.HandingOut.{rankOf, oneMore, controlOut, againOut, newOut, nextOut, nextLength, handStep}
+use Rattle.sender_packets.proofs.HandLaws.{rank-open, rank-2-is}
+use Rattle.ends.proofs.SenderKeeps.{sided-way, open-sided, stand}
+use Rattle.ends.proofs.KeepsDirectives.{timers-stand, control-stands}
+
+module _ (c : Channel) (lens : List ℕ) (h : Standing c lens) (s : c .addresses .direction ≡ sends) where
+  -- one more in flight
+  new-stands : c .phase .state ≡ opened → c .window .flight < c .window .ahead → c .window .flight < c .limits .window → Standing (newOut c) lens
+  new-stands o a b =
+      let n = named-is c (h .named) in
+      let k = counted-is (c .limits) (c .window) (h .ring) (h .flight) in
+      stand (newOut c) lens (h .fit) (h .count)
+      (record { direction = n .direction; state = n .state; reason = n .reason; kept = n .kept; accepted = n .accepted; control = n .control })
+      (record { place = k .place; held = k .held; flight = omega arith; window = omega arith; way = k .way; unit = k .unit })
+      (open-sided (c .addresses .direction) (c .phase .state) (oneMore (c .window)) s (sided-way (c .addresses .direction) (c .phase .state) (c .window) s (h .sided)) o)
+      (open-rests (c .addresses .direction) (c .phase) (oneMore (c .window)) o)
+      (h .held)
+      (h .slots)
+
+  next-stands : (rank : ℕ) → Ready c rank → Standing (nextOut c rank) lens
+  unfolding nextOut
+  next-stands rank r = go (eqb rank 0) refl (eqb rank 1) refl
+    where
+      go : (a : Bool) → eqb rank 0 ≡ a → (b : Bool) → eqb rank 1 ≡ b
+          → Standing (if a then controlOut c else if b then againOut c else newOut c) lens
+      go true p b q = control-stands c lens h (handedOut (c .phase .control) (c .limits .timeout) (c .limits .retries)) (omega arith) (λ q z. omega arith)
+      go false p true q = timers-stand c lens h (againOut c .timers)
+      go false p false q =
+          let x = eqb-false rank 0 p in
+          let y = eqb-false rank 1 q in
+          let two : rank ≡ 2 = omega (arith, r .some) in
+          let e : rankOf c ≡ 2 = sym (r .is) ∙ two in
+          let w = rank-2-is c e in
+          new-stands (rank-open c 2 e (λ z. omega arith) (λ z. omega arith)) (w .0) (w .1)
+
+pub hand-stands : (c : Channel) (lens : List ℕ) (rank n : ℕ) → Standing c lens → c .addresses .direction ≡ sends → Ready c rank
+    → Standing (handStep c lens rank n .channel) lens
+unfolding handStep
+hand-stands c lens rank n h s r = go (ltb n (nextLength c lens rank))
+  where
+    go : (t : Bool) → Standing ((if t then refusing c (refusal.Small (nextLength c lens rank)) else doing (nextOut c rank) (nextLength c lens rank)) .channel) lens
+    go true = h
+    go false = next-stands c lens h s rank r

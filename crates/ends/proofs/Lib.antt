@@ -1,0 +1,17 @@
+pub mod SenderCases
+pub mod SenderKeeps
+pub mod KeepsDirectives
+pub mod KeepsHandingOut
+pub mod KeepsReclaiming
+pub mod KeepsAcks
+pub mod KeepsTransfer
+pub mod SenderRefusals
+pub mod SenderFixed
+pub mod Passed
+pub mod ReceiverCases
+pub mod ReceiverFixed
+pub mod ReceiverKeeps
+pub mod Receivers
+pub mod ReceiverRefusals
+pub mod Rings
+pub mod Starred

@@ -1,0 +1,181 @@
+-- 'Past the test for 13, an arrival or request reads and changes its own channel alone'; 'A tick treats each channel alone. The call for a packet
+-- looks at all channels and changes the one it serves' (document 01, Answer numbers): of each public call.
+-- Assumes nothing.
+use mathlib.Core.Path.{_≡_, refl, ap, ap₂, _∙_, subst}
+use mathlib.Core.Bool.{Bool, true, false}
+use mathlib.Core.List.{List, [], _∷_, map}
+use Prim.Native.Nat.{ℕ, zero, suc, _<_}
+use native.Mathlib.Nat.{not-suc-le-zero, le-of-suc-le-suc}
+use lib.Dec.{ltb, eqb}
+use lib.ListN.{length, set}
+use Rattle.laws.specs.Choice.{if_then_else_}
+use Rattle.laws.proofs.Choice.{chosen}
+use Rattle.packet.specs.declared.reading.Read.{Read}
+use Rattle.packet.specs.declared.reading.Read.the-variants.{Found, Short, Damaged, Lacking, Strange}
+use Rattle.packet.specs.Reading.{readOf}
+use Rattle.walks.specs.Serving.{Called, Changed, works, leaves}
+use Rattle.channel.specs.declared.record.Node.{Node}
+use Rattle.channel.specs.declared.record.Channel.{Channel}
+use Rattle.channel.specs.declared.answer.Answer.{Answer}
+use Rattle.channel.specs.declared.answer.Refusal.the-variants as refusal
+use Rattle.channel.specs.declared.step.Stepped.{Stepped}
+use Rattle.channel.specs.Record.{sends}
+use Rattle.channel.specs.Steps.{refusing}
+use Rattle.sender_units.specs.Transfer.{transferStep, transferMem, transferLens}
+use Rattle.ends.proofs.KeepsTransfer.{transfer-sized}
+use Rattle.ends.proofs.SenderFixed.{transfer-fixed}
+use Rattle.receiver.specs.Receiving.{ackLength}
+use Rattle.table.specs.declared.looking.Look.{Look}
+use Rattle.table.specs.declared.looking.Look.the-variants.{Index, Packet, Ready, Nobody}
+use Rattle.table.specs.Looking.{chosen as choice}
+use Rattle.table.specs.Lent.{areaOf, slotAt, octetAt, lawful}
+use Rattle.table.specs.Serving.{recordAt, Step, alone, stored, serveOne, tableOf}
+use Rattle.requests.specs.Requests.{openedBy, closedBy, transferFor, takeFor, reclaimFor}
+use Rattle.requests.specs.Handing.{nextFor}
+use Rattle.arrivals.specs.Finding.{isOurs, lookBy, lookOf}
+use Rattle.arrivals.specs.Arriving.{arrivalFor}
+use Rattle.table.proofs.Parts.{laid-own}
+use Rattle.ticks.specs.Ticks.{tickOf, ticked}
+use Rattle.node.specs.Calls.{opened, closed, transferred, taken, reclaimed, handed, arrived}
+use Rattle.keeps.specs.Keeping.{Keeps, staying, OthersStay, SameFor, OwnChannelAlone}
+use Rattle.keeps.proofs.Serving.{servedAt, serve-cases}
+use Rattle.keeps.proofs.StepsKeep.{open-keeps, close-keeps, take-keeps, reclaim-keeps, next-keeps, arrival-keeps}
+use Rattle.keeps.proofs.Alone.{Shaped, kept-shaped, Shapes, index-served, others-stay, ByAddresses, index-by-addresses, packet-by-addresses, nobody-by-addresses, own-channel-alone}
+
+-- ---- the steps keep limits and sizes
+
+pub shapes : (look : Look) (step : Step) (out : List ℕ) → Keeps look step out → Shapes look step out
+shapes look step out keeps at rank c mem lens g = kept-shaped c (step c rank mem lens out) (keeps at rank c mem lens g)
+
+pub transfer-shapes : (look : Look) (unit out : List ℕ) → Shapes look (transferFor unit) out
+unfolding transferFor
+transfer-shapes look unit out at rank c mem lens g = go (eqb (c .addresses .direction) sends)
+  where
+    go : (b : Bool)
+        → Shaped c
+        (if b then works (transferStep c (length unit)) (transferMem c unit mem) (transferLens c unit lens) out
+        else works (refusing c refusal.State) mem lens out)
+    go true = record { limits = transfer-fixed c unit .1; sized = transfer-sized c unit mem lens (g .standing) (g .sized) }
+    go false = record { limits = refl; sized = g .sized }
+
+-- ---- directives leave memory and lengths
+
+pub alone-called : (look : Look) (step : Channel → Stepped) (t : List Channel) (mem lens : List ℕ)
+    → serveOne look (alone step) t mem lens [] ≡ staying (tableOf (serveOne look (alone step) t mem lens [])) mem lens
+unfolding stored
+alone-called look step t mem lens =
+    serve-cases look (alone step) t mem lens [] (λ (g : Called Answer Channel). g ≡ staying (tableOf g) mem lens) refl refl
+    (λ h below g.
+    let i = servedAt look (alone step) t mem lens [] in
+    ap₂ (λ (m l : List ℕ). leaves (step (recordAt t i) .answer) (set t i (step (recordAt t i) .channel)) m l [])
+    (laid-own mem (octetAt t i) (areaOf (recordAt t i .limits))) (laid-own lens (slotAt t i) (recordAt t i .limits .slots)))
+
+-- ---- what an arrival looks for is told by the addresses
+
+arrival-by-addresses : (node : Node) (s : List ℕ) (room : ℕ) → ByAddresses (lookOf node s room)
+unfolding lookOf
+arrival-by-addresses node s room = by-room (ltb room ackLength) (readOf s)
+  where
+    by-read : (r : Read) → ByAddresses (lookBy node r)
+    by-read (Found f start x) = by-ours (isOurs node f)
+      where
+        by-ours : (b : Bool) → ByAddresses (if b then Packet f x else Nobody refusal.Strange)
+        by-ours true = packet-by-addresses f x
+        by-ours false = nobody-by-addresses refusal.Strange
+    by-read Short = nobody-by-addresses refusal.Short
+    by-read Damaged = nobody-by-addresses refusal.Damaged
+    by-read Lacking = nobody-by-addresses refusal.Lacking
+    by-read Strange = nobody-by-addresses refusal.Strange
+
+    by-room : (b : Bool) (r : Read) → ByAddresses (if b then Nobody (refusal.Small ackLength) else lookBy node r)
+    by-room true r = nobody-by-addresses (refusal.Small ackLength)
+    by-room false r = by-read r
+
+-- ---- each call changes its own channel alone
+
+module _ (t : List Channel) (mem lens : List ℕ) where
+  index-stays : (index : ℕ) (step : Step) (out : List ℕ) → Shapes (Index index) step out → OthersStay t mem lens index (serveOne (Index index) step t mem lens out)
+  index-stays index step out s =
+      others-stay (Index index) step t mem lens out s index (λ g. index-served index _ _ _ _ _ g)
+
+  -- the channel that the packet's head names
+  pub arrival-others-stay : (node : Node) (packet reply : List ℕ)
+      → OthersStay t mem lens (choice (lookOf node packet (length reply)) t .at) (arrived t mem lens node packet reply)
+  arrival-others-stay node packet reply =
+      let look = lookOf node packet (length reply) in
+      others-stay look (arrivalFor node packet) t mem lens reply (shapes look (arrivalFor node packet) reply (arrival-keeps node packet reply)) (choice look t .at) (λ g. refl)
+
+  -- the channel that is served
+  pub next-packet-others-stay : (node : Node) (out : List ℕ) → OthersStay t mem lens (choice Ready t .at) (handed t mem lens node out)
+  next-packet-others-stay node out =
+      others-stay Ready (nextFor node) t mem lens out (shapes Ready (nextFor node) out (next-keeps node out)) (choice Ready t .at) (λ g. refl)
+
+  pub open-others-stay : (index : ℕ) → OthersStay t mem lens index (staying (opened t mem lens index) mem lens)
+  open-others-stay index =
+      subst (OthersStay t mem lens index) (alone-called (Index index) openedBy t mem lens)
+      (index-stays index (alone openedBy) [] (shapes (Index index) (alone openedBy) [] (open-keeps (Index index) [])))
+
+  pub close-others-stay : (index : ℕ) → OthersStay t mem lens index (staying (closed t mem lens index) mem lens)
+  close-others-stay index =
+      subst (OthersStay t mem lens index) (alone-called (Index index) closedBy t mem lens)
+      (index-stays index (alone closedBy) [] (shapes (Index index) (alone closedBy) [] (close-keeps (Index index) [])))
+
+  pub transfer-others-stay : (index : ℕ) (unit : List ℕ) → OthersStay t mem lens index (transferred t mem lens index unit)
+  transfer-others-stay index unit = index-stays index (transferFor unit) [] (transfer-shapes (Index index) unit [])
+
+  pub take-others-stay : (index : ℕ) (out : List ℕ) → OthersStay t mem lens index (taken t mem lens index out)
+  take-others-stay index out = index-stays index takeFor out (shapes (Index index) takeFor out (take-keeps (Index index) out))
+
+  pub reclaim-others-stay : (index : ℕ) (out : List ℕ) → OthersStay t mem lens index (reclaimed t mem lens index out)
+  reclaim-others-stay index out = index-stays index reclaimFor out (shapes (Index index) reclaimFor out (reclaim-keeps (Index index) out))
+
+  -- ---- and reads its own channel alone
+
+  index-alone : (index : ℕ) (step : Step) (out : List ℕ) → Shapes (Index index) step out
+      → OwnChannelAlone (λ s m l. serveOne (Index index) step s m l out) index t mem lens
+  index-alone index step out s =
+      own-channel-alone (Index index) step out s (index-by-addresses index) t mem lens index (λ g. index-served index _ _ _ _ _ g)
+
+  -- a directive, of which the table alone is told
+  order-alone : (index : ℕ) (step : Channel → Stepped) → Keeps (Index index) (alone step) []
+      → OwnChannelAlone (λ s m l. staying (tableOf (serveOne (Index index) (alone step) s m l [])) m l) index t mem lens
+  order-alone index step keeps t2 mem2 lens2 e e2 same own =
+      subst (λ (g : Called Answer Channel). SameFor index g (staying (tableOf (serveOne (Index index) (alone step) t2 mem2 lens2 [])) mem2 lens2))
+      (alone-called (Index index) step t mem lens)
+      (subst (λ (g : Called Answer Channel). SameFor index (serveOne (Index index) (alone step) t mem lens []) g)
+      (alone-called (Index index) step t2 mem2 lens2)
+      (index-alone index (alone step) [] (shapes (Index index) (alone step) [] keeps) t2 mem2 lens2 e e2 same own))
+
+  pub arrival-own-channel-alone : (node : Node) (packet reply : List ℕ)
+      → OwnChannelAlone (λ s m l. arrived s m l node packet reply) (choice (lookOf node packet (length reply)) t .at) t mem lens
+  arrival-own-channel-alone node packet reply =
+      let look = lookOf node packet (length reply) in
+      own-channel-alone look (arrivalFor node packet) reply (shapes look (arrivalFor node packet) reply (arrival-keeps node packet reply)) (arrival-by-addresses node packet (length reply)) t mem lens (choice look t .at) (λ g. refl)
+
+  pub open-own-channel-alone : (index : ℕ) → OwnChannelAlone (λ s m l. staying (opened s m l index) m l) index t mem lens
+  open-own-channel-alone index = order-alone index openedBy (open-keeps (Index index) [])
+
+  pub close-own-channel-alone : (index : ℕ) → OwnChannelAlone (λ s m l. staying (closed s m l index) m l) index t mem lens
+  close-own-channel-alone index = order-alone index closedBy (close-keeps (Index index) [])
+
+  pub transfer-own-channel-alone : (index : ℕ) (unit : List ℕ) → OwnChannelAlone (λ s m l. transferred s m l index unit) index t mem lens
+  transfer-own-channel-alone index unit = index-alone index (transferFor unit) [] (transfer-shapes (Index index) unit [])
+
+  pub take-own-channel-alone : (index : ℕ) (out : List ℕ) → OwnChannelAlone (λ s m l. taken s m l index out) index t mem lens
+  take-own-channel-alone index out = index-alone index takeFor out (shapes (Index index) takeFor out (take-keeps (Index index) out))
+
+  pub reclaim-own-channel-alone : (index : ℕ) (out : List ℕ) → OwnChannelAlone (λ s m l. reclaimed s m l index out) index t mem lens
+  reclaim-own-channel-alone index out = index-alone index reclaimFor out (shapes (Index index) reclaimFor out (reclaim-keeps (Index index) out))
+
+-- ---- a tick treats each channel alone
+
+pub mapped-at : (f : Channel → Channel) (t : List Channel) (i : ℕ) → i < length t → recordAt (map f t) i ≡ f (recordAt t i)
+mapped-at f [] i h = absurd (not-suc-le-zero h)
+mapped-at f (c ∷ t) zero h = refl
+mapped-at f (c ∷ t) (suc i) h = mapped-at f t i (le-of-suc-le-suc h)
+
+-- the record at i afterwards is the tick of the record at i, whatever the others are
+pub tick-alone : (t : List Channel) (mem lens : List ℕ) → lawful t mem lens ≡ true → (i : ℕ) → i < length t
+    → recordAt (ticked t mem lens .table) i ≡ tickOf (recordAt t i)
+unfolding ticked
+tick-alone t mem lens e i h = ap (λ (g : Changed Answer Channel). recordAt (g .table) i) (chosen (lawful t mem lens) _ _ e) ∙ mapped-at tickOf t i h

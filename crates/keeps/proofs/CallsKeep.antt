@@ -1,0 +1,137 @@
+-- Every call keeps the test for 13 (document 01, A channel's record and memory: 'every call keeps the condition'), and where a table does not pass
+-- it nothing changes.
+-- Assumes nothing.
+use mathlib.Core.Path.{_≡_, refl, sym, ap, ap₂, _∙_}
+use mathlib.Core.Bool.{true, false}
+use mathlib.Core.List.{List, [], _∷_, map}
+use Prim.Native.Nat.{ℕ, suc, _+_}
+use native.Mathlib.Omega.{arith}
+use lib.ListN.{length, take, drop}
+use Rattle.laws.proofs.Choice.{chosen}
+use Rattle.table.proofs.Parts.{laid-own}
+use Rattle.walks.specs.Serving.{Called, Changed, leaves, changes}
+use Rattle.channel.specs.declared.record.Limits.{Limits}
+use Rattle.channel.specs.declared.record.Node.{Node}
+use Rattle.channel.specs.declared.record.Channel.{Channel}
+use Rattle.channel.specs.declared.answer.Answer.{Answer}
+use Rattle.channel.specs.declared.answer.Answer.the-variants.{Refused}
+use Rattle.channel.specs.declared.answer.Refusal.the-variants as refusal
+use Rattle.channel.specs.declared.step.Stepped.{Stepped}
+use Rattle.channel.specs.Standing.{standing}
+use Rattle.channel.proofs.StandingLaws.{stands-is, is-stands}
+use Rattle.table.specs.declared.looking.Look.{Look}
+use Rattle.table.specs.declared.looking.Look.the-variants.{Index, Ready}
+use Rattle.table.specs.Lent.{areaOf, slotAt, octetAt, slotsOf, octetsOf, eachStands, lawful}
+use Rattle.table.specs.Serving.{recordAt, ownMem, ownLens, Step, alone, stored, serveOne, tableOf}
+use Rattle.table.proofs.SurveyLaws.{stands-first, stands-both}
+use Rattle.table.proofs.ServeLaws.{lawful-is, is-lawful}
+use Rattle.requests.specs.Requests.{openedBy, closedBy, transferFor, takeFor, reclaimFor}
+use Rattle.requests.specs.Handing.{nextFor}
+use Rattle.arrivals.specs.Finding.{lookOf}
+use Rattle.arrivals.specs.Arriving.{arrivalFor}
+use Rattle.ticks.specs.Ticks.{tickOf, ticked}
+use Rattle.node.specs.Calls.{opened, closed, transferred, taken, reclaimed, handed, arrived}
+use Rattle.keeps.specs.Keeping.{KeepsLawful, KeepsTable, Wide, Keeps}
+use Rattle.keeps.proofs.Serving.{servedAt, serve-cases, serve-keeps, serve-lawful, serve-unlawful}
+use Rattle.keeps.proofs.StepsKeep.{open-keeps, close-keeps, transfer-keeps, take-keeps, reclaim-keeps, next-keeps, arrival-keeps, tick-keeps}
+
+-- ---- a table that does not pass the test: 13, and nothing changes
+
+pub unlawful-changes-nothing : (look : Look) (step : Step) (t : List Channel) (mem lens out : List ℕ) → lawful t mem lens ≡ false
+    → serveOne look step t mem lens out ≡ leaves (Refused refusal.Settings) t mem lens out
+unlawful-changes-nothing look step t mem lens out e = serve-unlawful look step t mem lens out e
+
+pub tick-unlawful-changes-nothing : (t : List Channel) (mem lens : List ℕ) → lawful t mem lens ≡ false
+    → ticked t mem lens ≡ changes (Refused refusal.Settings) t
+unfolding ticked
+tick-unlawful-changes-nothing t mem lens e = simp (e)
+
+-- ---- a call that is lent nothing that it could change but the table
+
+module _ (look : Look) (step : Channel → Stepped) (t : List Channel) (mem lens out : List ℕ) where
+  -- it leaves memory and lengths
+  alone-stays : (serveOne look (alone step) t mem lens out .mem ≡ mem) × (serveOne look (alone step) t mem lens out .lens ≡ lens)
+  unfolding stored
+  alone-stays =
+      serve-cases look (alone step) t mem lens out (λ (g : Called Answer Channel). (g .mem ≡ mem) × (g .lens ≡ lens)) (refl, refl) (refl, refl)
+      (λ h below g.
+      let i = servedAt look (alone step) t mem lens out in
+      (laid-own mem (octetAt t i) (areaOf (recordAt t i .limits)), laid-own lens (slotAt t i) (recordAt t i .limits .slots)))
+
+  alone-lawful : Keeps look (alone step) out → KeepsTable t mem lens (tableOf (serveOne look (alone step) t mem lens out))
+  alone-lawful keeps e =
+      ap₂ (λ (m l : List ℕ). lawful (serveOne look (alone step) t mem lens out .table) m l) (sym (alone-stays .0)) (sym (alone-stays .1))
+      ∙ serve-lawful look (alone step) t mem lens out keeps e
+
+-- ---- each call
+
+module _ (t : List Channel) (mem lens : List ℕ) where
+  pub arrival-lawful : (node : Node) (packet reply : List ℕ) → KeepsLawful t mem lens (arrived t mem lens node packet reply)
+  arrival-lawful node packet reply =
+      serve-lawful (lookOf node packet (length reply)) (arrivalFor node packet) t mem lens reply (arrival-keeps node packet reply)
+
+  pub next-packet-lawful : (node : Node) (out : List ℕ) → KeepsLawful t mem lens (handed t mem lens node out)
+  next-packet-lawful node out = serve-lawful Ready (nextFor node) t mem lens out (next-keeps node out)
+
+  pub open-lawful : (index : ℕ) → KeepsTable t mem lens (opened t mem lens index)
+  open-lawful index = alone-lawful (Index index) openedBy t mem lens [] (open-keeps (Index index) [])
+
+  pub close-lawful : (index : ℕ) → KeepsTable t mem lens (closed t mem lens index)
+  close-lawful index = alone-lawful (Index index) closedBy t mem lens [] (close-keeps (Index index) [])
+
+  -- a table of records as they are made: each has its 128 marks
+  pub transfer-lawful : (index : ℕ) (unit : List ℕ) → Wide t → KeepsLawful t mem lens (transferred t mem lens index unit)
+  transfer-lawful index unit wide =
+      let look = Index index in
+      let i = servedAt look (transferFor unit) t mem lens [] in
+      serve-keeps look (transferFor unit) t mem lens []
+      (λ below g. transfer-keeps look unit [] i _ (recordAt t i) (ownMem t i mem) (ownLens t i lens) (wide i below) g)
+
+  pub take-lawful : (index : ℕ) (out : List ℕ) → KeepsLawful t mem lens (taken t mem lens index out)
+  take-lawful index out = serve-lawful (Index index) takeFor t mem lens out (take-keeps (Index index) out)
+
+  pub reclaim-lawful : (index : ℕ) (out : List ℕ) → KeepsLawful t mem lens (reclaimed t mem lens index out)
+  reclaim-lawful index out = serve-lawful (Index index) reclaimFor t mem lens out (reclaim-keeps (Index index) out)
+
+-- ---- a tick
+
+tick-stands-all : (t : List Channel) (lens : List ℕ) → eachStands t lens ≡ true → eachStands (map tickOf t) lens ≡ true
+unfolding eachStands
+tick-stands-all [] lens e = refl
+tick-stands-all (c ∷ t) lens e =
+    let p = stands-first c t lens e in
+    let own = take (c .limits .slots) lens in
+    let k = tick-keeps c own (stands-is c own (p .0)) in
+    stands-both (tickOf c) (map tickOf t) lens
+    (ap (λ (l : Limits). standing (tickOf c) (take (l .slots) lens)) (k .0 .1) ∙ is-stands (tickOf c) own (k .1))
+    (ap (λ (l : Limits). eachStands (map tickOf t) (drop (l .slots) lens)) (k .0 .1)
+    ∙ tick-stands-all t (drop (c .limits .slots) lens) (p .1))
+
+tick-sizes : (t : List Channel) (lens : List ℕ) → eachStands t lens ≡ true
+    → (length (map tickOf t) ≡ length t) × (slotsOf (map tickOf t) ≡ slotsOf t) × (octetsOf (map tickOf t) ≡ octetsOf t)
+unfolding slotsOf octetsOf
+tick-sizes [] lens e = (refl, refl, refl)
+tick-sizes (c ∷ t) lens e =
+    let p = stands-first c t lens e in
+    let own = take (c .limits .slots) lens in
+    let k = tick-keeps c own (stands-is c own (p .0)) in
+    let r = tick-sizes t (drop (c .limits .slots) lens) (p .1) in (
+      ap suc (r .0),
+      ap₂ (λ (l : Limits) (n : ℕ). l .slots + n) (k .0 .1) (r .1),
+      ap₂ (λ (l : Limits) (n : ℕ). areaOf l + n) (k .0 .1) (r .2),
+    )
+
+pub tick-lawful : (t : List Channel) (mem lens : List ℕ) → KeepsTable t mem lens (ticked t mem lens)
+unfolding ticked
+tick-lawful t mem lens e =
+    let h = lawful-is t mem lens e in
+    let s = tick-sizes t lens (h .stand) in
+    ap (λ (g : Changed Answer Channel). lawful (g .table) mem lens) (chosen (lawful t mem lens) _ _ e)
+    ∙ is-lawful (map tickOf t) mem lens
+    (record {
+      some = omega (arith, s .0, h .some);
+      few = omega (arith, s .0, h .few);
+      slots = h .slots ∙ sym (s .1);
+      octets = h .octets ∙ sym (s .2);
+      stand = tick-stands-all t lens (h .stand);
+    })

@@ -1,0 +1,302 @@
+-- All answers but 0, 9 and 15 change no record and no octet, and 9 writes no reply (document 01, Answer numbers): of each public call.
+-- Assumes nothing.
+use mathlib.Core.Path.{_≡_, refl, ap, _∙_}
+use mathlib.Core.Logic.{inl, inr}
+use mathlib.Core.Bool.{Bool, true, false, not}
+use mathlib.Core.List.{List, [], map}
+use Prim.Native.Nat.{ℕ}
+use native.Mathlib.Omega.{arith}
+use lib.Dec.{eqb, ltb}
+use lib.ListN.{length, set}
+use lib.Seq.{set-getD}
+use Rattle.laws.specs.Choice.{if_then_else_}
+use Rattle.slots.specs.Slots.{laid}
+use Rattle.packet.specs.declared.fields.Fields.{Fields}
+use Rattle.packet.specs.Layout.{fieldsAt, lengthAt}
+use Rattle.walks.specs.Serving.{Worked, works, changes}
+use Rattle.packet.specs.declared.kinds.Kind.{Kind}
+use Rattle.packet.specs.declared.kinds.Kind.the-variants.{Data, DataAck, Open, Close, ControlAck, Lacking}
+use Rattle.packet.specs.Kinds.{kindOf}
+use Rattle.channel.specs.declared.record.Node.{Node}
+use Rattle.channel.specs.declared.record.Addresses.{Addresses}
+use Rattle.channel.specs.declared.record.Channel.{Channel}
+use Rattle.channel.specs.declared.answer.Answer.{Answer}
+use Rattle.channel.specs.declared.answer.Answer.the-variants.{Done, Repeated, Inactive, Refused}
+use Rattle.channel.specs.declared.answer.Refusal.{Refusal}
+use Rattle.channel.specs.declared.answer.Refusal.the-variants as refusal
+use Rattle.channel.specs.declared.step.Stepped.{Stepped}
+use Rattle.channel.specs.Answers.{numberOf}
+use Rattle.channel.specs.Record.{sends, receives, closed as closedState}
+use Rattle.channel.specs.Steps.{refusing, doing}
+use Rattle.sender.specs.Directives as sender
+use Rattle.sender_units.specs.Reclaiming.{unitAt, sizeAt, dropped, reclaimStep}
+use Rattle.sender_packets.specs.HandingOut.{nextOut, nextLength, handStep}
+use Rattle.sender_acks.specs.Acks.{controlAckStep, dataAckStep}
+use Rattle.ends.proofs.SenderRefusals as sent
+use Rattle.receiver.specs.Receiving as receiver
+use Rattle.receiver_data.specs.Data.{dataStep}
+use Rattle.ends.proofs.ReceiverCases.{take-cases}
+use Rattle.ends.proofs.ReceiverRefusals as received
+use Rattle.table.specs.declared.looking.Look.{Look}
+use Rattle.table.specs.declared.looking.Look.the-variants.{Index, Ready}
+use Rattle.table.specs.Looking.{chosen as choice}
+use Rattle.table.specs.Lent.{areaOf, slotAt, octetAt, lawful}
+use Rattle.table.specs.Serving.{blank, recordAt, ownMem, ownLens, Step, alone, stored, serveOne}
+use Rattle.requests.specs.Requests.{openedBy, closedBy, transferFor, takeFor, reclaimFor}
+use Rattle.requests.specs.Handing.{nextFor}
+use Rattle.arrivals.specs.Finding.{lookOf}
+use Rattle.arrivals.specs.Data.{replyLength, unfit, dataFor}
+use Rattle.arrivals.specs.Replying.{repliedBy}
+use Rattle.arrivals.specs.Arriving.{arriveAs, arriveBy, payloadIn, arrivalFor}
+use Rattle.table.proofs.Parts.{laid-own}
+use Rattle.ticks.specs.Ticks.{tickOf, anyInactive, firstInactive, ticked}
+use Rattle.node.specs.Calls.{opened, closed, transferred, taken, reclaimed, handed, arrived}
+use Rattle.keeps.specs.Keeping.{MayChange, RefusalsChangeNothing, RefusalsChangeNoRecord, NineWritesNothing}
+use Rattle.keeps.proofs.Serving.{servedAt, serve-cases}
+
+-- ---- of a step, and of a call that makes it
+
+-- with another answer all is as it was
+abbrev Still : Channel → List ℕ → List ℕ → List ℕ → Worked Stepped → Type 0
+Still c mem lens out w =
+    (MayChange (w .made .answer) → ⊥) → (w .made .channel ≡ c) × (w .mem ≡ mem) × (w .lens ≡ lens) × (w .out ≡ out)
+
+-- with 9 the buffer is
+abbrev Silent : List ℕ → Worked Stepped → Type 0
+Silent out w = numberOf (w .made .answer) ≡ 9 → w .out ≡ out
+
+module _ (look : Look) (step : Step) (t : List Channel) (mem lens out : List ℕ) where
+  serve-still : ((c : Channel) (rank : ℕ) (m l : List ℕ) → Still c m l out (step c rank m l out))
+      → RefusalsChangeNothing t mem lens out (serveOne look step t mem lens out)
+  unfolding stored
+  serve-still still =
+      serve-cases look step t mem lens out (RefusalsChangeNothing t mem lens out) (λ n. (refl, refl, refl, refl)) (λ n. (refl, refl, refl, refl))
+      (λ h below g n.
+      let i = servedAt look step t mem lens out in
+      let s = still (recordAt t i) (choice look t .rank) (ownMem t i mem) (ownLens t i lens) n in (
+        ap (set t i) (s .0) ∙ set-getD t i blank,
+        ap (laid mem (octetAt t i)) (s .1) ∙ laid-own mem (octetAt t i) (areaOf (recordAt t i .limits)),
+        ap (laid lens (slotAt t i)) (s .2) ∙ laid-own lens (slotAt t i) (recordAt t i .limits .slots),
+        s .3,
+      ))
+
+  serve-silent : ((c : Channel) (rank : ℕ) (m l : List ℕ) → Silent out (step c rank m l out)) → NineWritesNothing out (serveOne look step t mem lens out)
+  unfolding stored
+  serve-silent silent =
+      serve-cases look step t mem lens out (NineWritesNothing out) (λ n. refl) (λ n. refl)
+      (λ h below g n.
+      let i = servedAt look step t mem lens out in
+      silent (recordAt t i) (choice look t .rank) (ownMem t i mem) (ownLens t i lens) n)
+
+-- ---- each step
+
+-- a choice by the direction
+by-test : (P : Worked Stepped → Type 0) (a b : ℕ) (x y : Worked Stepped) → P x → P y → P (if eqb a b then x else y)
+by-test P a b x y p q = go (eqb a b)
+  where
+    go : (z : Bool) → P (if z then x else y)
+    go true = p
+    go false = q
+
+module _ (c : Channel) (rank : ℕ) (mem lens out : List ℕ) where
+  open-still : Still c mem lens out (alone openedBy c rank mem lens out)
+  unfolding openedBy
+  open-still = go (eqb (c .addresses .direction) sends)
+    where
+      go : (b : Bool) → Still c mem lens out (works (if b then sender.openStep c else receiver.openStep c) mem lens out)
+      go true n = (sent.open-unchanged c (λ e. n (inl e)), refl, refl, refl)
+      go false n = (received.opening-refusals-change-nothing c n, refl, refl, refl)
+
+  close-still : Still c mem lens out (alone closedBy c rank mem lens out)
+  unfolding closedBy
+  close-still = go (eqb (c .addresses .direction) sends)
+    where
+      go : (b : Bool) → Still c mem lens out (works (if b then sender.closeStep c else receiver.closeStep c) mem lens out)
+      go true n = (sent.close-unchanged c (λ e. n (inl e)), refl, refl, refl)
+      go false n = (refl, refl, refl, refl)
+
+  transfer-still : (unit : List ℕ) → Still c mem lens out (transferFor unit c rank mem lens out)
+  unfolding transferFor
+  transfer-still unit =
+      by-test (Still c mem lens out) (c .addresses .direction) sends _ _
+      (λ n. let s = sent.transfer-unchanged c unit mem lens (λ e. n (inl e)) in (s .0, s .1, s .2, refl))
+      (λ n. (refl, refl, refl, refl))
+
+  take-still : Still c mem lens out (takeFor c rank mem lens out)
+  unfolding takeFor
+  take-still =
+      by-test (Still c mem lens out) (c .addresses .direction) receives _ _
+      (λ n. let s = received.taking-refusals-change-nothing c lens mem out n in (s .0, refl, refl, s .1))
+      (λ n. (refl, refl, refl, refl))
+
+  reclaim-still : Still c mem lens out (reclaimFor c rank mem lens out)
+  unfolding reclaimFor
+  reclaim-still =
+      by-test (Still c mem lens out) (c .addresses .direction) sends _ _
+      (λ n. let s = sent.reclaim-unchanged c lens mem out (λ e. n (inl e)) in (s .0, refl, refl, s .1))
+      (λ n. (refl, refl, refl, refl))
+
+  next-still : (node : Node) → Still c mem lens out (nextFor node c rank mem lens out)
+  unfolding nextFor
+  next-still node n = let s = sent.hand-unchanged node c lens mem rank out (λ e. n (inl e)) in (s .0, refl, refl, s .1)
+
+  -- ---- taking, reclaiming and the next packet never answer 9
+
+  take-silent : Silent out (takeFor c rank mem lens out)
+  unfolding takeFor
+  take-silent =
+      by-test (Silent out) (c .addresses .direction) receives _ _
+      (λ e. absurd (take-cases c lens (length out) (λ (s : Stepped). numberOf (s .answer) ≡ 9 → ⊥) (λ z. omega (arith, z)) (λ z. omega (arith, z)) (λ some z. omega (arith, z)) e))
+      (λ e. refl)
+
+  reclaim-silent : Silent out (reclaimFor c rank mem lens out)
+  unfolding reclaimFor reclaimStep
+  reclaim-silent =
+      by-test (Silent out) (c .addresses .direction) sends _ _
+      (λ e. absurd (go (eqb (c .phase .state) closedState) (eqb (c .window .ahead) 0) (ltb (length out) (sizeAt c lens)) e))
+      (λ e. refl)
+    where
+      go : (a b d : Bool)
+          → numberOf
+          ((if not a then refusing c refusal.State
+          else if b then refusing c refusal.Nothing
+          else if d then refusing c (refusal.Small (sizeAt c lens))
+          else doing (dropped c (unitAt c)) (sizeAt c lens))
+          .answer)
+          ≡ 9
+          → ⊥
+      go false b d e = omega (arith, e)
+      go true true d e = omega (arith, e)
+      go true false true e = omega (arith, e)
+      go true false false e = omega (arith, e)
+
+  next-silent : (node : Node) → Silent out (nextFor node c rank mem lens out)
+  unfolding nextFor handStep
+  next-silent node e = absurd (go (ltb (length out) (nextLength c lens rank)) e)
+    where
+      go : (a : Bool) → numberOf ((if a then refusing c (refusal.Small (nextLength c lens rank)) else doing (nextOut c rank) (nextLength c lens rank)) .answer) ≡ 9 → ⊥
+      go true e = omega (arith, e)
+      go false e = omega (arith, e)
+
+-- ---- an arrival
+
+replied-still : (r : Answer) (node : Node) (a : Addresses) (ofData : Bool) (number : ℕ) (out : List ℕ) → (MayChange r → ⊥)
+    → repliedBy r node a ofData number out ≡ out
+replied-still (Done n u) node a ofData number out quiet = absurd (quiet (inl refl))
+replied-still (Repeated n) node a ofData number out quiet = absurd (quiet (inr (inr refl)))
+replied-still (Inactive why) node a ofData number out quiet = refl
+replied-still (Refused why) node a ofData number out quiet = refl
+
+replied-silent : (r : Answer) (node : Node) (a : Addresses) (ofData : Bool) (number : ℕ) (out : List ℕ) → numberOf r ≡ 9
+    → repliedBy r node a ofData number out ≡ out
+replied-silent (Done n u) node a ofData number out e = absurd (omega (arith, e))
+replied-silent (Repeated n) node a ofData number out e = absurd (omega (arith, e))
+replied-silent (Inactive why) node a ofData number out e = refl
+replied-silent (Refused why) node a ofData number out e = refl
+
+-- what holds for each type of packet holds of the arrival
+module _ (node : Node) (f : Fields) (x : ℕ) (p : List ℕ) (c : Channel) (rank : ℕ) (mem lens out : List ℕ) (P : Worked Stepped → Type 0) where
+  pub arrive-cases : ((why : Refusal) → P (works (refusing c why) mem lens out))
+      → P (dataFor node f p c rank mem lens out)
+      → P (works (dataAckStep c (f .number)) mem lens out)
+      → P (works (controlAckStep c (f .number)) mem lens out)
+      → ((opens : Bool)
+      → P (works (receiver.controlStep c opens (f .number)) mem lens (repliedBy (receiver.controlStep c opens (f .number) .answer) node (c .addresses) false (f .number) out)))
+      → P (arriveBy node f x p c rank mem lens out)
+  unfolding arriveBy
+  arrive-cases refuses filed data-ack control-ack control = go (ltb (length out) (replyLength c (kindOf (f .kind)))) (unfit c f x) (kindOf (f .kind))
+    where
+      go : (small over : Bool) (k : Kind)
+          → P
+          (if small then works (refusing c (refusal.Small (replyLength c k))) mem lens out
+          else if over then works (refusing c refusal.Strange) mem lens out
+          else arriveAs k node f p c rank mem lens out)
+      go true over k = refuses (refusal.Small (replyLength c k))
+      go false true k = refuses refusal.Strange
+      go false false Data = filed
+      go false false DataAck = data-ack
+      go false false Open = control true
+      go false false Close = control false
+      go false false ControlAck = control-ack
+      go false false (Lacking code) = refuses refusal.Lacking
+
+module _ (node : Node) (packet : List ℕ) (c : Channel) (rank : ℕ) (mem lens out : List ℕ) where
+  arrival-still : Still c mem lens out (arrivalFor node packet c rank mem lens out)
+  unfolding arrivalFor
+  arrival-still =
+      let f = fieldsAt packet in
+      let n = f .number in
+      let p = payloadIn packet in
+      let s = dataStep c n (f .flags) in
+      arrive-cases node f (lengthAt packet) p c rank mem lens out (Still c mem lens out)
+      (λ why quiet. (refl, refl, refl, refl))
+      (λ quiet. let u = received.refusals-change-nothing c n (f .flags) p mem lens quiet in (u .0, u .1, u .2, replied-still (s .answer) node (c .addresses) true n out quiet))
+      (λ quiet. (sent.data-ack-unchanged c n (λ e. quiet (inl e)), refl, refl, refl))
+      (λ quiet. (sent.control-ack-unchanged c n (λ e. quiet (inl e)), refl, refl, refl))
+      (λ opens quiet.
+      (received.control-refusals-change-nothing c opens n quiet, refl, refl, replied-still (receiver.controlStep c opens n .answer) node (c .addresses) false n out quiet))
+
+  arrival-silent : Silent out (arrivalFor node packet c rank mem lens out)
+  unfolding arrivalFor
+  arrival-silent =
+      let f = fieldsAt packet in
+      let n = f .number in
+      arrive-cases node f (lengthAt packet) (payloadIn packet) c rank mem lens out (Silent out) (λ why e. refl)
+      (λ e. replied-silent (dataStep c n (f .flags) .answer) node (c .addresses) true n out e)
+      (λ e. refl)
+      (λ e. refl)
+      (λ opens e. replied-silent (receiver.controlStep c opens n .answer) node (c .addresses) false n out e)
+
+-- ---- each call: every answer but 0, 9 and 15 changes nothing
+
+module _ (t : List Channel) (mem lens : List ℕ) where
+  pub arrival-refusals-change-nothing : (node : Node) (packet reply : List ℕ) → RefusalsChangeNothing t mem lens reply (arrived t mem lens node packet reply)
+  arrival-refusals-change-nothing node packet reply =
+      serve-still (lookOf node packet (length reply)) (arrivalFor node packet) t mem lens reply (λ c rank m l. arrival-still node packet c rank m l reply)
+
+  pub next-packet-refusals-change-nothing : (node : Node) (out : List ℕ) → RefusalsChangeNothing t mem lens out (handed t mem lens node out)
+  next-packet-refusals-change-nothing node out = serve-still Ready (nextFor node) t mem lens out (λ c rank m l. next-still c rank m l out node)
+
+  pub open-refusals-change-nothing : (index : ℕ) → RefusalsChangeNoRecord t (opened t mem lens index)
+  open-refusals-change-nothing index n = serve-still (Index index) (alone openedBy) t mem lens [] (λ c rank m l. open-still c rank m l []) n .0
+
+  pub close-refusals-change-nothing : (index : ℕ) → RefusalsChangeNoRecord t (closed t mem lens index)
+  close-refusals-change-nothing index n = serve-still (Index index) (alone closedBy) t mem lens [] (λ c rank m l. close-still c rank m l []) n .0
+
+  pub transfer-refusals-change-nothing : (index : ℕ) (unit : List ℕ) → RefusalsChangeNothing t mem lens [] (transferred t mem lens index unit)
+  transfer-refusals-change-nothing index unit =
+      serve-still (Index index) (transferFor unit) t mem lens [] (λ c rank m l. transfer-still c rank m l [] unit)
+
+  pub take-refusals-change-nothing : (index : ℕ) (out : List ℕ) → RefusalsChangeNothing t mem lens out (taken t mem lens index out)
+  take-refusals-change-nothing index out = serve-still (Index index) takeFor t mem lens out (λ c rank m l. take-still c rank m l out)
+
+  pub reclaim-refusals-change-nothing : (index : ℕ) (out : List ℕ) → RefusalsChangeNothing t mem lens out (reclaimed t mem lens index out)
+  reclaim-refusals-change-nothing index out = serve-still (Index index) reclaimFor t mem lens out (λ c rank m l. reclaim-still c rank m l out)
+
+  -- a tick answers 0 or 9, or 13
+  pub tick-refusals-change-nothing : RefusalsChangeNoRecord t (ticked t mem lens)
+  unfolding ticked
+  tick-refusals-change-nothing = go (lawful t mem lens) (anyInactive t)
+    where
+      why : ℕ
+      why = recordAt (map tickOf t) (firstInactive t) .phase .reason
+
+      go : (a b : Bool) → RefusalsChangeNoRecord t (if a then changes (if b then Inactive why else Done 0 0) (map tickOf t) else changes (Refused refusal.Settings) t)
+      go true true n = absurd (n (inr (inl refl)))
+      go true false n = absurd (n (inl refl))
+      go false b n = refl
+
+  -- ---- 9 writes no reply, no packet and no unit
+
+  pub arrival-nine-writes-nothing : (node : Node) (packet reply : List ℕ) → NineWritesNothing reply (arrived t mem lens node packet reply)
+  arrival-nine-writes-nothing node packet reply =
+      serve-silent (lookOf node packet (length reply)) (arrivalFor node packet) t mem lens reply (λ c rank m l. arrival-silent node packet c rank m l reply)
+
+  pub next-packet-nine-writes-nothing : (node : Node) (out : List ℕ) → NineWritesNothing out (handed t mem lens node out)
+  next-packet-nine-writes-nothing node out = serve-silent Ready (nextFor node) t mem lens out (λ c rank m l. next-silent c rank m l out node)
+
+  pub take-nine-writes-nothing : (index : ℕ) (out : List ℕ) → NineWritesNothing out (taken t mem lens index out)
+  take-nine-writes-nothing index out = serve-silent (Index index) takeFor t mem lens out (λ c rank m l. take-silent c rank m l out)
+
+  pub reclaim-nine-writes-nothing : (index : ℕ) (out : List ℕ) → NineWritesNothing out (reclaimed t mem lens index out)
+  reclaim-nine-writes-nothing index out = serve-silent (Index index) reclaimFor t mem lens out (λ c rank m l. reclaim-silent c rank m l out)

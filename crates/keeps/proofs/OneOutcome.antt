@@ -1,0 +1,58 @@
+-- Two outcomes that a contract admits are equal: of each public call of the node (document 01, How tight the contracts are).
+-- Assumes nothing.
+use mathlib.Core.Path.{_≡_, sym, ap, _∙_}
+use mathlib.Core.List.{List}
+use Prim.Native.Nat.{ℕ}
+use Rattle.walks.specs.Serving.{Called, Changed, leaves, changes}
+use Rattle.channel.specs.declared.record.Node.{Node}
+use Rattle.channel.specs.declared.record.Channel.{Channel}
+use Rattle.channel.specs.declared.answer.Answer.{Answer}
+use Rattle.ticks.specs.Ticks.{ticked}
+use Rattle.node.specs.Calls.{opened, closed, transferred, taken, reclaimed, handed, arrived}
+use Rattle.keeps.specs.Keeping.{OneOutcome, OneChange}
+
+-- a contract `leaves r t m l o ≡ g` admits one outcome
+pub one-outcome : (g : Called Answer Channel) → OneOutcome g
+one-outcome g r r2 t t2 m m2 l l2 o o2 e e2 =
+    let same : leaves r t m l o ≡ leaves r2 t2 m2 l2 o2 = e ∙ sym e2 in (
+      ap (λ (x : Called Answer Channel). x .answer) same,
+      ap (λ (x : Called Answer Channel). x .table) same,
+      ap (λ (x : Called Answer Channel). x .mem) same,
+      ap (λ (x : Called Answer Channel). x .lens) same,
+      ap (λ (x : Called Answer Channel). x .out) same,
+    )
+
+-- and so does a contract `changes r t ≡ g`
+pub one-change : (g : Changed Answer Channel) → OneChange g
+one-change g r r2 t t2 e e2 =
+    let same : changes r t ≡ changes r2 t2 = e ∙ sym e2 in (
+      ap (λ (x : Changed Answer Channel). x .answer) same,
+      ap (λ (x : Changed Answer Channel). x .table) same,
+    )
+
+-- ---- each call
+
+module _ (t : List Channel) (mem lens : List ℕ) where
+  pub arrival-one-outcome : (node : Node) (packet reply : List ℕ) → OneOutcome (arrived t mem lens node packet reply)
+  arrival-one-outcome node packet reply = one-outcome (arrived t mem lens node packet reply)
+
+  pub next-packet-one-outcome : (node : Node) (out : List ℕ) → OneOutcome (handed t mem lens node out)
+  next-packet-one-outcome node out = one-outcome (handed t mem lens node out)
+
+  pub open-one-outcome : (index : ℕ) → OneChange (opened t mem lens index)
+  open-one-outcome index = one-change (opened t mem lens index)
+
+  pub close-one-outcome : (index : ℕ) → OneChange (closed t mem lens index)
+  close-one-outcome index = one-change (closed t mem lens index)
+
+  pub transfer-one-outcome : (index : ℕ) (unit : List ℕ) → OneOutcome (transferred t mem lens index unit)
+  transfer-one-outcome index unit = one-outcome (transferred t mem lens index unit)
+
+  pub take-one-outcome : (index : ℕ) (out : List ℕ) → OneOutcome (taken t mem lens index out)
+  take-one-outcome index out = one-outcome (taken t mem lens index out)
+
+  pub reclaim-one-outcome : (index : ℕ) (out : List ℕ) → OneOutcome (reclaimed t mem lens index out)
+  reclaim-one-outcome index out = one-outcome (reclaimed t mem lens index out)
+
+  pub tick-one-outcome : OneChange (ticked t mem lens)
+  tick-one-outcome = one-change (ticked t mem lens)

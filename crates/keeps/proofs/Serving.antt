@@ -1,0 +1,132 @@
+-- What a call that serves one channel leaves: by its three cases, and the test for 13 again.
+-- Assumes nothing.
+use mathlib.Core.Path.{_≡_, refl, sym, _∙_, subst}
+use mathlib.Core.Bool.{Bool, true, false}
+use mathlib.Core.List.{List}
+use Prim.Native.Nat.{ℕ, _+_, _≤_, _<_}
+use native.Mathlib.Omega.{arith}
+use borrow.Author.Tests.{ltb-true}
+use lib.ListN.{length, set, drop, length-set, length-drop}
+use lib.Seq.{length-take-le}
+use Rattle.slots.specs.Slots.{laid}
+use Rattle.slots.proofs.SlotLaws.{laid-length}
+use Rattle.walks.specs.Serving.{Worked, Called, leaves}
+use Rattle.channel.specs.declared.record.Channel.{Channel}
+use Rattle.channel.specs.declared.answer.Answer.{Answer}
+use Rattle.channel.specs.declared.answer.Answer.the-variants.{Refused}
+use Rattle.channel.specs.declared.answer.Refusal.the-variants as refusal
+use Rattle.channel.specs.declared.step.Stepped.{Stepped}
+use Rattle.channel.proofs.SettingsLaws.{fit-is}
+use Rattle.channel.proofs.StandingLaws.{stands-is, is-stands}
+use Rattle.table.specs.declared.looking.Look.{Look}
+use Rattle.table.specs.Looking.{missing, isFound, chosen as choice}
+use Rattle.table.specs.Lent.{areaOf, slotAt, octetAt, lawful}
+use Rattle.table.specs.Serving.{recordAt, ownMem, ownLens, Step, stored, serveOne}
+use Rattle.table.proofs.SurveyLaws.{each-stands, slots-within, octets-within}
+use Rattle.table.proofs.ServeLaws.{Lawful, lawful-is, is-lawful, found-below, found-suits}
+use Rattle.keeps.specs.Keeping.{KeepsLawful, Given, Kept, Keeps}
+use Rattle.keeps.proofs.Storing.{slots-stored, octets-stored, stands-stored}
+
+-- the parts of a record of a lawful table lie within what is lent
+module _ (t : List Channel) (mem lens : List ℕ) (h : Lawful t mem lens) (i : ℕ) (below : i < length t) where
+  pub slots-inside : slotAt t i + recordAt t i .limits .slots ≤ length lens
+  slots-inside = omega (arith, slots-within t i below, h .slots)
+
+  pub octets-inside : octetAt t i + areaOf (recordAt t i .limits) ≤ length mem
+  octets-inside = omega (arith, octets-within t i below, h .octets)
+
+  -- stored with what was kept, the table is lawful again
+  pub stored-lawful : (w : Worked Stepped) → Kept (recordAt t i) w
+      → lawful (stored t mem lens i w .table) (stored t mem lens i w .mem) (stored t mem lens i w .lens) ≡ true
+  unfolding stored
+  stored-lawful w k =
+      let c = recordAt t i in
+      let in-mem : octetAt t i + length (w .mem) ≤ length mem = omega (arith, octets-inside, k .sized .exact) in
+      let in-lens : slotAt t i + length (w .lens) ≤ length lens = omega (arith, slots-inside, k .sized .each) in
+      let n = length-set t i (w .made .channel) in
+      is-lawful (set t i (w .made .channel)) (laid mem (octetAt t i) (w .mem)) (laid lens (slotAt t i) (w .lens))
+      (record {
+        some = omega (arith, n, h .some);
+        few = omega (arith, n, h .few);
+        slots = laid-length lens (slotAt t i) (w .lens) in-lens ∙ h .slots ∙ sym (slots-stored (w .made .channel) t i (k .limits));
+        octets = laid-length mem (octetAt t i) (w .mem) in-mem ∙ h .octets ∙ sym (octets-stored (w .made .channel) t i (k .limits));
+        stand =
+            stands-stored (w .made .channel) (w .lens) (is-stands (w .made .channel) (w .lens) (k .standing)) t lens i below (omega (arith, h .slots)) (k .limits) (k .sized .each) (h .stand);
+      })
+
+module _ (look : Look) (step : Step) (t : List Channel) (mem lens out : List ℕ) where
+  -- the channel that is served, and what its step leaves
+  abbrev pub servedAt : ℕ
+  servedAt = choice look t .at
+
+  abbrev pub worked : Worked Stepped
+  worked = step (recordAt t servedAt) (choice look t .rank) (ownMem t servedAt mem) (ownLens t servedAt lens) out
+
+  -- ---- the three cases
+
+  pub serve-unlawful : lawful t mem lens ≡ false → serveOne look step t mem lens out ≡ leaves (Refused refusal.Settings) t mem lens out
+  unfolding serveOne
+  serve-unlawful e = simp (e)
+
+  pub serve-missing : lawful t mem lens ≡ true → isFound (choice look t) ≡ false
+      → serveOne look step t mem lens out ≡ leaves (Refused (missing look)) t mem lens out
+  unfolding serveOne
+  serve-missing e f = simp (e, f)
+
+  pub serve-found : lawful t mem lens ≡ true → isFound (choice look t) ≡ true → serveOne look step t mem lens out ≡ stored t mem lens servedAt worked
+  unfolding serveOne
+  serve-found e f = simp (e, f)
+
+  -- the step is given what it asks
+  pub given : Lawful t mem lens → choice look t .rank < 3
+      → Given look servedAt (choice look t .rank) (recordAt t servedAt) (ownMem t servedAt mem) (ownLens t servedAt lens)
+  given h f =
+      let c = recordAt t servedAt in
+      let below = found-below look t mem lens h f in
+      let stand = stands-is c (ownLens t servedAt lens) (each-stands t lens (h .stand) servedAt below) in
+      let fit = fit-is (c .limits) (stand .fit) in
+      let in-mem = octets-inside t mem lens h servedAt below in
+      record {
+        standing = stand;
+        sized =
+            record {
+              few = fit .most;
+              short = fit .payload;
+              each = stand .count;
+              exact = length-take-le (areaOf (c .limits)) (drop (octetAt t servedAt) mem) (omega (arith, length-drop (octetAt t servedAt) mem, in-mem));
+            };
+        suits = found-suits look t mem lens h f;
+        found = f;
+      }
+
+  -- what holds in each case holds of the call
+  pub serve-cases : (P : Called Answer Channel → Type 0)
+      → P (leaves (Refused refusal.Settings) t mem lens out)
+      → P (leaves (Refused (missing look)) t mem lens out)
+      → (Lawful t mem lens → servedAt < length t
+      → Given look servedAt (choice look t .rank) (recordAt t servedAt) (ownMem t servedAt mem) (ownLens t servedAt lens)
+      → P (stored t mem lens servedAt worked))
+      → P (serveOne look step t mem lens out)
+  serve-cases P bad none found = go (lawful t mem lens) refl (isFound (choice look t)) refl
+    where
+      go : (a : Bool) → lawful t mem lens ≡ a → (b : Bool) → isFound (choice look t) ≡ b → P (serveOne look step t mem lens out)
+      go false e b f = subst P (sym (serve-unlawful e)) bad
+      go true e false f = subst P (sym (serve-missing e f)) none
+      go true e true f =
+          let h = lawful-is t mem lens e in
+          let less = ltb-true (choice look t .rank) 3 f in
+          subst P (sym (serve-found e f)) (found h (found-below look t mem lens h less) (given h less))
+
+  -- ---- the test for 13 again, of a step that keeps what it is given
+
+  pub serve-keeps : (servedAt < length t
+      → Given look servedAt (choice look t .rank) (recordAt t servedAt) (ownMem t servedAt mem) (ownLens t servedAt lens)
+      → Kept (recordAt t servedAt) worked)
+      → KeepsLawful t mem lens (serveOne look step t mem lens out)
+  serve-keeps keeps e =
+      serve-cases (λ (g : Called Answer Channel). lawful (g .table) (g .mem) (g .lens) ≡ true) e e
+      (λ h below g. stored-lawful t mem lens h servedAt below worked (keeps below g))
+
+  pub serve-lawful : Keeps look step out → KeepsLawful t mem lens (serveOne look step t mem lens out)
+  serve-lawful keeps =
+      serve-keeps (λ below g. keeps servedAt (choice look t .rank) (recordAt t servedAt) (ownMem t servedAt mem) (ownLens t servedAt lens) g)

@@ -1,4 +1,0 @@
-pub mod Types
-pub mod SeenLaws
-pub mod AgreeLaws
-pub mod Promises

@@ -1,0 +1,40 @@
+-- `receiver::acks::acknowledge` meets its contract: the writer never refuses such fields.
+-- Assumes nothing.
+use Rattle.receiver.proofs.StepLaws.{ack-written}
+use borrow.Author.Needs.{needs}
+use Rattle.receiver.proofs.acks.acknowledge.Statement.{statement}
+use Rattle.receiver.proofs.acks.acknowledge.Tie as tie
+use Rattle.receiver.proofs.acks.acknowledge.Reads as reads
+use Rattle.receiver.proofs.acks.acknowledge.Lts as lts
+use Rattle.channel.proofs.step.outgoing.Reads as outgoing-reads
+use Rattle.packet.proofs.write_packet.Reads as write-packet-reads
+use Rattle.receiver.proofs.acks.ack_kind.Reads as ack-kind-reads
+
+ack-kind-requires : tie.Need-ack-kind-requires
+ack-kind-requires c κs = tt
+
+outgoing-requires : tie.Need-outgoing-requires
+outgoing-requires c κs = tt
+
+slice-aggregate-write-packet : tie.Need-slice-aggregate-write-packet
+slice-aggregate-write-packet c = search needs
+
+write-packet-requires : tie.Need-write-packet-requires
+write-packet-requires c κs = tt
+
+same-length : tie.Need-same-length
+same-length c = search needs
+
+returns : tie.Need-returns
+returns c = let a = c .before .before .before .before .before .before .before .before .args in ack-written (a .node) (a .a) (a .number) (a .of-data) (c .before .before .before .before .before .before .ack-kind .result) (c .before .before .before .before .before .outgoing .result) (c .before .before .write-packet .result) (a .reply .now) _ (c .before .before .before .before .before .before .ack-kind .ensures) (c .before .before .before .before .before .outgoing .ensures) (c .before .before .write-packet .ensures .0) (c .before .before .write-packet .ensures .1) (c .before .before .before .before .before .before .before .before .pre)
+
+pub acknowledge-spec : {M : Type 1} → statement M
+acknowledge-spec =
+    tie.close
+    (tie.spec
+    ack-kind-requires
+    outgoing-requires
+    slice-aggregate-write-packet
+    write-packet-requires
+    same-length
+    returns)

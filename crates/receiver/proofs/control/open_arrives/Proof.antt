@@ -1,0 +1,50 @@
+-- `receiver::control::open_arrives` meets its contract: a law of `openArrives` for each case.
+-- Assumes nothing.
+use mathlib.Core.Path.{sym, _∙_}
+use Rattle.receiver.proofs.StepLaws.{open-opens, open-other, open-again, open-late}
+use borrow.Author.Needs.{needs}
+use Rattle.receiver.proofs.control.open_arrives.Statement.{statement}
+use Rattle.receiver.proofs.control.open_arrives.Tie as tie
+use Rattle.receiver.proofs.control.open_arrives.Reads as reads
+use Rattle.receiver.proofs.control.open_arrives.Lts as lts
+use Rattle.channel.proofs.step.done.Reads as done-reads
+use Rattle.channel.proofs.step.refused.Reads as refused-reads
+use Rattle.receiver.proofs.leaving.failed.Reads as failed-reads
+use Rattle.receiver.proofs.leaving.repeated.Reads as repeated-reads
+
+done-requires : tie.Need-done-requires
+done-requires c κs = tt
+
+returns : tie.Need-returns
+returns c = c .done .ensures ∙ sym (open-opens (c .before .before .before .before .args .c) (c .before .before .if1 .taken))
+
+refused-requires : tie.Need-refused-requires
+refused-requires c κs = search needs
+
+returns-2 : tie.Need-returns-2
+returns-2 c = c .refused .ensures ∙ sym (open-other (c .before .before .before .before .before .args .c) (c .before .before .before .if1 .left) (c .before .if2 .taken))
+
+repeated-requires : tie.Need-repeated-requires
+repeated-requires c κs = tt
+
+returns-3 : tie.Need-returns-3
+returns-3 c = c .repeated .ensures ∙ sym (open-again (c .before .before .before .before .before .before .before .args .c) (c .before .before .before .before .before .if1 .left) (c .before .before .before .if2 .left) (c .before .if3 .taken))
+
+failed-requires : tie.Need-failed-requires
+failed-requires c κs = search needs
+
+returns-4 : tie.Need-returns-4
+returns-4 c = c .failed .ensures ∙ sym (open-late (c .before .before .before .before .before .before .before .args .c) (c .before .before .before .before .before .if1 .left) (c .before .before .before .if2 .left) (c .before .if3 .left))
+
+pub open-arrives-spec : {M : Type 1} → statement M
+open-arrives-spec =
+    tie.close
+    (tie.spec
+    done-requires
+    returns
+    refused-requires
+    returns-2
+    repeated-requires
+    returns-3
+    failed-requires
+    returns-4)

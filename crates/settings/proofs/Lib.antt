@@ -1,0 +1,5 @@
+pub mod OneLaws
+pub mod Types
+pub mod SeenLaws
+pub mod AgreeLaws
+pub mod Promises

@@ -1,0 +1,70 @@
+-- How the settings of a table are looked at, one after another. What it amounts to is `configured` (specs/Configuring.antt): a reader need not look here.
+use Prim.Native.Nat.{ℕ, zero, suc, _+_}
+use mathlib.Core.Bool.{Bool, true, false, not, _&&_, _||_}
+use mathlib.Core.List.{List}
+use lib.Dec.{ltb, leb, eqb}
+use lib.ListN.{getD, set, replicate}
+use Rattle.laws.specs.Choice.{if_then_else_}
+use Rattle.walks.specs.Fold.{foldFrom}
+use Rattle.channel.specs.declared.record.Addresses.{Addresses}
+use Rattle.channel.specs.declared.record.Settings.{Settings}
+use Rattle.channel.specs.declared.answer.Answer.the-variants.{Done, Refused}
+use Rattle.channel.specs.declared.answer.Refusal.the-variants as refusal
+use Rattle.channel.specs.Settings.{fit, clash}
+use Rattle.table.specs.declared.deciding.Told.{Told}
+use Rattle.table.specs.declared.deciding.Verdict.{Verdict}
+use Rattle.table.specs.Lent.{areaOf}
+use Rattle.table.specs.Serving.{toldOf}
+use Rattle.settings.specs.declared.seeing.Seen.{Seen}
+
+-- what stands at an index that nothing was noted at
+abbrev pub nowhere : Addresses
+nowhere = record { channel = 0; remote = 0; direction = 0 }
+
+abbrev pub begun : Seen
+begun = record { sound = true; slots = 0; octets = 0; addresses = replicate 16 nowhere }
+
+abbrev pub unsound : Seen → Seen
+unsound v = record { sound = false; slots = v .slots; octets = v .octets; addresses = v .addresses }
+
+-- the addresses with an index
+abbrev pub addressesAt : Seen → ℕ → Addresses
+addressesAt v i = getD (v .addresses) i nowhere
+
+-- one of the n from the i-th on has such addresses
+unfoldable pub taken : Seen → Addresses → ℕ → ℕ → Bool
+taken v a zero i = false
+taken v a (suc n) i = clash a (addressesAt v i) || taken v a n (i + 1)
+
+abbrev pub noted : Seen → Settings → ℕ → Seen
+noted v s j =
+    record {
+      sound = true;
+      slots = v .slots + s .limits .slots;
+      octets = v .octets + areaOf (s .limits);
+      addresses = set (v .addresses) j (s .addresses);
+    }
+
+unfoldable pub seeOne : Seen → Settings → List ℕ → ℕ → Seen
+seeOne v s lens j =
+    if not (v .sound) then v
+    else if leb 16 j then unsound v
+    else if ltb 4096 (v .slots) then unsound v
+    else if ltb 2097152 (v .octets) then unsound v
+    else if not (fit s) then unsound v
+    else if taken v (s .addresses) j 0 then unsound v
+    else noted v s j
+
+abbrev pub seen : List Settings → List ℕ → Seen → Seen
+seen s lens v = foldFrom seeOne lens 0 v s
+
+-- of a table of n records, k settings, m octets and l lengths
+unfoldable pub isSettled : Seen → ℕ → ℕ → ℕ → ℕ → Bool
+isSettled v n k m l = leb 1 k && v .sound && eqb n k && eqb (v .slots) l && eqb (v .octets) m
+
+abbrev pub verdictOf : Seen → ℕ → ℕ → ℕ → ℕ → Verdict
+verdictOf v n k m l = record { ok = isSettled v n k m l; told = toldOf n (Refused refusal.Settings) }
+
+-- once n records are made
+abbrev pub madeTold : ℕ → Told
+madeTold n = toldOf n (Done 0 0)

@@ -1,0 +1,52 @@
+// Whether a table, a memory and lengths are what the settings ask for, and the answer.
+use crate::seeing::Seen;
+use channel::Answer;
+use channel::Refusal;
+use table::Told;
+use table::Verdict;
+ghost use mathlib.Core.Path.{_≡_};
+ghost use Rattle.settings.specs.Seeing.{isSettled, verdictOf, madeTold};
+
+// Of a table of n records, k settings, m octets and l lengths.
+fn is_settled(v: Seen, n: usize, k: usize, m: usize, l: usize) -> bool
+    ensures { λ r. ⌜ r ≡ isSettled v n k m l ⌝ }
+{
+    if k < 1 {
+        return false;
+    }
+    if !v.sound {
+        return false;
+    }
+    if n != k {
+        return false;
+    }
+    if v.slots != l {
+        return false;
+    }
+    v.octets == m
+}
+
+pub fn settle(v: Seen, n: usize, k: usize, m: usize, l: usize) -> Verdict
+    ensures { λ r. ⌜ r ≡ verdictOf v n k m l ⌝ }
+{
+    Verdict {
+        ok: is_settled(v, n, k, m, l),
+        told: Told {
+            answer: Answer::Refused(Refusal::Settings),
+            index: n,
+        },
+    }
+}
+
+// What is told once n records are made.
+pub fn settings_end(n: usize) -> Told
+    ensures { λ r. ⌜ r ≡ madeTold n ⌝ }
+{
+    Told {
+        answer: Answer::Done {
+            length: 0,
+            confirmed: 0,
+        },
+        index: n,
+    }
+}

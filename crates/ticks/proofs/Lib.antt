@@ -1,0 +1,3 @@
+pub mod TickLaws
+pub mod SweepLaws
+pub mod Types

@@ -1,0 +1,30 @@
+-- `ticks::ticking::tick_one` meets its contract: by the direction.
+-- Assumes nothing.
+use mathlib.Core.Path.{_≡_, sym, ap, _∙_}
+use Rattle.ticks.specs.declared.ticking.Ticked.{Ticked}
+use Rattle.channel.specs.declared.record.Channel.{Channel}
+use mathlib.Core.Bool.{false}
+use Rattle.sender.specs.declared.ticking.Ticked.{Ticked as Sent}
+use Rattle.ticks.proofs.TickLaws.{tick-sends, tick-receives}
+use borrow.Author.Needs.{needs}
+use Rattle.ticks.proofs.ticking.tick_one.Statement.{statement}
+use Rattle.ticks.proofs.ticking.tick_one.Tie as tie
+use Rattle.ticks.proofs.ticking.tick_one.Reads as reads
+use Rattle.ticks.proofs.ticking.tick_one.Lts as lts
+use Rattle.receiver.proofs.tick_step.Reads as ticking-tick-step-reads
+use Rattle.sender.proofs.tick_step.Reads as ticking-tick-step-reads′
+
+tick-step-requires : tie.Need-tick-step-requires
+tick-step-requires c κs = search needs
+
+returns : tie.Need-returns
+returns c = let a = c .before .before .before .args in ap (λ (x : Channel). record { channel = x; inactive = false }) (c .tick-step .ensures) ∙ sym (tick-receives (a .c) (c .before .if1 .taken))
+
+tick-step-requires-2 : tie.Need-tick-step-requires-2
+tick-step-requires-2 c κs = search needs
+
+returns-2 : tie.Need-returns-2
+returns-2 c = let a = c .before .before .before .before .args in ap (λ (t : Sent). record { channel = t .channel; inactive = t .inactive }) (c .before .tick-step2 .ensures) ∙ sym (tick-sends (a .c) (c .before .before .if1 .left))
+
+pub tick-one-spec : {M : Type 1} → statement M
+tick-one-spec = tie.close (tie.spec tick-step-requires returns tick-step-requires-2 returns-2)

@@ -1,0 +1,58 @@
+-- The call `tick`, as one function of what it is given: every channel is ticked, each alone (document 01, Answer numbers).
+use mathlib.Core.Bool.{Bool, true, false, _||_}
+use mathlib.Core.List.{List, [], _∷_, map}
+use Prim.Native.Nat.{ℕ, suc}
+use lib.ListN.{length}
+use Rattle.laws.specs.Choice.{if_then_else_}
+use Rattle.walks.specs.Sweep.{sweepT, sweepA}
+use Rattle.walks.specs.Serving.{Changed, changes}
+use Rattle.channel.specs.declared.record.Channel.{Channel}
+use Rattle.channel.specs.declared.answer.Answer.{Answer}
+use Rattle.channel.specs.declared.answer.Answer.the-variants.{Done, Inactive, Refused}
+use Rattle.channel.specs.declared.answer.Refusal.the-variants as refusal
+use Rattle.channel.specs.Asked.{Ringed}
+use Rattle.table.specs.declared.deciding.Told.{Told}
+use Rattle.table.specs.Lent.{lawful}
+use Rattle.table.specs.Serving.{recordAt, toldOf}
+use Rattle.ticks.specs.declared.ticking.Round.{Round}
+use Rattle.ticks.specs.Ticking.{tickedBy, turnedBy}
+
+-- one channel after the tick
+abbrev pub tickOf : Channel → Channel
+tickOf c = tickedBy c .channel
+
+-- whether any goes inactive in it, and the lowest index of those that do; as many as there are records where none does
+unfoldable pub anyInactive : List Channel → Bool
+anyInactive [] = false
+anyInactive (c ∷ t) = tickedBy c .inactive || anyInactive t
+
+unfoldable pub firstInactive : List Channel → ℕ
+firstInactive [] = 0
+firstInactive (c ∷ t) = if tickedBy c .inactive then 0 else suc (firstInactive t)
+
+-- 9 if any channel went inactive in it, for the reason that its record then says; else 0
+abbrev pub tickAnswer : List Channel → Answer
+tickAnswer t = if anyInactive t then Inactive (recordAt (map tickOf t) (firstInactive t) .phase .reason) else Done 0 0
+
+unfoldable pub ticked : List Channel → List ℕ → List ℕ → Changed Answer Channel
+ticked t mem lens =
+    if lawful t mem lens then changes (tickAnswer t) (map tickOf t)
+    else changes (Refused refusal.Settings) t
+
+-- the index that is told with the answer
+unfoldable pub tickIndex : List Channel → List ℕ → List ℕ → ℕ
+tickIndex t mem lens = if lawful t mem lens then firstInactive t else length t
+
+-- ---- as the sweep goes: what a channel must have, what is carried along, and what it tells at the end
+
+abbrev pub ticks : Channel → Type 0
+ticks c = Ringed (c .limits) (c .window)
+
+abbrev pub sweptTable : List Channel → Round → List Channel
+sweptTable t before = sweepT (λ x. x .channel) (λ x. x .round) turnedBy t before
+
+abbrev pub sweptRound : List Channel → Round → Round
+sweptRound t before = sweepA (λ x. x .channel) (λ x. x .round) turnedBy t before
+
+abbrev pub tickEnd : Round → Told
+tickEnd r = toldOf (r .index) (if r .any then Inactive (r .reason) else Done 0 0)

@@ -1,0 +1,170 @@
+// A tick of the whole node: every channel is ticked, each alone.
+use channel::Answer;
+use channel::Channel;
+use channel::Refusal;
+use channel::record::SENDS;
+use table::Look;
+use table::Survey;
+use table::Told;
+use table::beginning::survey;
+use table::deciding::judge;
+use table::surveying::begin;
+ghost use mathlib.Core.Path.{_≡_};
+ghost use Rattle.channel.specs.Asked.{Ringed};
+ghost use Rattle.ticks.specs.Ticking.{tickedBy, roundBy, turnedBy, quiet};
+ghost use Rattle.walks.specs.Sweep.{Every};
+ghost use Rattle.walks.specs.Serving.{changes, telling};
+ghost use Rattle.channel.specs.declared.answer.Refusal.the-variants as refusal;
+ghost use Rattle.channel.specs.declared.record.Channel.{Channel as Record};
+ghost use Rattle.table.specs.declared.looking.Look.the-variants as look;
+ghost use Rattle.table.specs.Serving.{blank, toldOf};
+ghost use Rattle.table.specs.Surveying.{begun};
+ghost use Rattle.ticks.specs.Ticks.{ticks, sweptTable, sweptRound, tickEnd, tickIndex, ticked};
+
+// The channel after the tick, and whether it went inactive in it.
+pub struct Ticked {
+    pub channel: Channel,
+    pub inactive: bool,
+}
+
+// Of the channels ticked so far: whether any went inactive, the lowest index of those that did, and its reason. While none did, the index is that
+// of the next channel.
+pub struct Round {
+    pub index: usize,
+    pub reason: u8,
+    pub any: bool,
+}
+
+// A channel after the tick, and the round with it.
+pub struct Turned {
+    pub channel: Channel,
+    pub round: Round,
+}
+
+const MOST_RECORDS: usize = 16;
+
+fn tick_one(c: Channel) -> Ticked
+    requires { ⌜ Ringed (c .limits) (c .window) ⌝ }
+    ensures { λ r. ⌜ r ≡ tickedBy c ⌝ }
+{
+    if c.addresses.direction != SENDS {
+        return Ticked {
+            channel: receiver::tick_step(c),
+            inactive: false,
+        };
+    }
+    let t = sender::tick_step(c);
+    let channel = t.channel;
+    Ticked {
+        channel,
+        inactive: t.inactive,
+    }
+}
+
+// The first that goes inactive is told; those after it do not change that.
+fn round_by(x: Ticked, r: Round) -> Round
+    ensures { λ s. ⌜ s ≡ roundBy x r ⌝ }
+{
+    if r.any {
+        return r;
+    }
+    let channel = x.channel;
+    if x.inactive {
+        return Round {
+            index: r.index,
+            reason: channel.phase.reason,
+            any: true,
+        };
+    }
+    if r.index < MOST_RECORDS {
+        return Round {
+            index: r.index + 1,
+            reason: 0,
+            any: false,
+        };
+    }
+    Round {
+        index: r.index,
+        reason: 0,
+        any: false,
+    }
+}
+
+// The next channel of the table.
+fn tick_next(c: Channel, r: Round) -> Turned
+    requires { ⌜ Ringed (c .limits) (c .window) ⌝ }
+    ensures { λ s. ⌜ s ≡ turnedBy c r ⌝ }
+{
+    let t = tick_one(c);
+    let round = round_by(t, r);
+    let channel = t.channel;
+    Turned { channel, round }
+}
+
+// A tick is for no channel.
+fn tick_begin() -> Survey
+    ensures { λ r. ⌜ r ≡ begun (look.Nobody refusal.NoChannel) ⌝ }
+{
+    begin(Look::Nobody(Refusal::NoChannel))
+}
+
+fn tick_start() -> Round
+    ensures { λ r. ⌜ r ≡ quiet 0 ⌝ }
+{
+    Round {
+        index: 0,
+        reason: 0,
+        any: false,
+    }
+}
+
+// 9 if some channel went inactive, with the reason and the index of the first.
+fn tick_end(r: Round) -> Told
+    ensures { λ s. ⌜ s ≡ tickEnd r ⌝ }
+{
+    if r.any {
+        return Told {
+            answer: Answer::Inactive(r.reason),
+            index: r.index,
+        };
+    }
+    Told {
+        answer: Answer::Done {
+            length: 0,
+            confirmed: 0,
+        },
+        index: r.index,
+    }
+}
+
+fn tick_all(t: &mut [Channel], start: Round) -> Round
+    requires { ⌜ Every blank ticks (now t) ⌝ }
+    ensures { λ r. ⌜ (r ≡ sweptRound (now (t .entry)) start) × (now (t .exit) ≡ sweptTable (now (t .entry)) start) ⌝ }
+{
+    let mut a = start;
+    let mut i = 0;
+    while i < t.len() {
+        let s = tick_next(t[i], a);
+        t[i] = s.channel;
+        a = s.round;
+        i = i + 1;
+    }
+    a
+}
+
+// All are ticked, also where one goes inactive.
+pub fn tick(t: &mut [Channel], mem: &[u8], lens: &[u16]) -> Told
+    ensures { λ r. ⌜ changes r (now (t .exit)) ≡ telling (toldOf (tickIndex (now (t .entry)) (now (mem .entry)) (now (lens .entry)))) (ticked (now (t .entry)) (now (mem .entry)) (now (lens .entry))) ⌝ }
+{
+    let a = tick_begin();
+    let v = survey(t, lens, a);
+    let d = judge(v, t.len(), mem.len(), lens.len());
+    if d.ok {
+        let k = tick_start();
+        let z = tick_all(t, k);
+        let r = tick_end(z);
+        r
+    } else {
+        d.told
+    }
+}

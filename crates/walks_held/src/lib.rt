@@ -1,1 +1,0 @@
-// No code: the walks of the calls on a table that is held by value, each proved once for any callee and any plain type, that the proofs of other crates instantiate.

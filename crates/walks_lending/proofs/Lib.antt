@@ -1,0 +1,14 @@
+pub mod Local
+pub mod Held
+pub mod Holding
+pub mod HeldCall
+pub mod HeldSweeping
+pub mod Lending
+pub mod LentSweeping
+pub mod LentMaking
+pub mod Door
+pub mod DoorOne
+pub mod DoorTwo
+pub mod DoorTaking
+pub mod DoorGiving
+pub mod DoorWhole

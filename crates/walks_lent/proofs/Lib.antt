@@ -1,9 +1,0 @@
-pub mod Lending
-pub mod LentSweeping
-pub mod LentMaking
-pub mod Door
-pub mod DoorOne
-pub mod DoorTwo
-pub mod DoorTaking
-pub mod DoorGiving
-pub mod DoorWhole

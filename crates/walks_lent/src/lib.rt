@@ -1,1 +1,0 @@
-// No code: the walks of the functions that lend all they are lent on to a call, each proved once for any callee and any plain type, that the proofs of other crates instantiate.
