@@ -21,7 +21,7 @@ use Rattle.table.proofs.SurveyLaws.{each-stands}
 use Rattle.table.proofs.ServeLaws.{lawful-is}
 use Rattle.node.specs.declared.request.Request as door
 use Rattle.node.specs.declared.request.Request.the-variants.{Open, Close, Transfer, WouldTransfer, Take, Reclaim, Arrival, NextPacket, Unknown}
-use Rattle.keeps.specs.Keeping.{Wide, SettingsStay, addressesOf, limitsOf}
+use Rattle.keeps.specs.Keeping.{Wide, SettingsStay, addressesIn, limitsIn}
 use Rattle.keeps.proofs.Serving.{octets-inside}
 use Rattle.keeps.proofs.CallsKeep.{tick-lawful}
 use Rattle.keeps.proofs.Marks.{tick-wide}

@@ -77,7 +77,7 @@ module _ (c : Limits) (r : Receiver) where
   abbrev Stays : Receiver → Type 0
   Stays z = rank (z .phase) ≤ 2 → rank (z .phase) ≡ rank (r .phase)
 
-  settled-stays : (b : Bool) (f : ℕ → Option Segment) (l : List Segment) → Stays (receiver.settled b r f l .0)
+  settled-stays : (b : Bool) (f : ℕ → Option Segment) (l : List Segment) → Stays (receiver.movedAnswer b r f l .0)
   settled-stays true f l h = refl
   settled-stays false f l h = absurd (omega (arith, h))
 

@@ -7,10 +7,10 @@ use Prim.Native.Nat.{ℕ, zero, suc, _+_, _<_}
 use lib.ListN.{length, take}
 use Rattle.channel.specs.declared.record.Limits.{Limits}
 use Rattle.channel.specs.declared.record.Channel.{Channel}
-use Rattle.table.specs.Lent.{areaOf, partOf, slotsOf, octetsOf, lawful}
+use Rattle.table.specs.Lent.{areaOf, partOf, allSlots, allOctets, lawful}
 use Rattle.table.specs.Serving.{recordAt, ownMem, ownLens}
 use Rattle.ticks.specs.Ticks.{ticked, tickOf}
-use Rattle.keeps.specs.Keeping.{SettingsStay, limitsOf, staying}
+use Rattle.keeps.specs.Keeping.{SettingsStay, limitsIn, staying}
 use Rattle.keeps.proofs.CallsAlone.{tick-alone}
 use Rattle.keeps.proofs.Settled.{tick-settings-stay}
 use Rattle.delivery.proofs.Own.{View, Seen}
@@ -22,15 +22,15 @@ totalOf f [] i = 0
 totalOf f (k ∷ ks) zero = 0
 totalOf f (k ∷ ks) (suc i) = f k + totalOf f ks i
 
-octets-total : (t : List Channel) (i : ℕ) → octetsOf (take i t) ≡ totalOf areaOf (limitsOf t) i
-unfolding octetsOf
+octets-total : (t : List Channel) (i : ℕ) → allOctets (take i t) ≡ totalOf areaOf (limitsIn t) i
+unfolding allOctets
 octets-total [] zero = refl
 octets-total [] (suc i) = refl
 octets-total (c ∷ t) zero = refl
 octets-total (c ∷ t) (suc i) = ap (λ (k : ℕ). areaOf (c .limits) + k) (octets-total t i)
 
-slots-total : (t : List Channel) (i : ℕ) → slotsOf (take i t) ≡ totalOf (λ k. k .slots) (limitsOf t) i
-unfolding slotsOf
+slots-total : (t : List Channel) (i : ℕ) → allSlots (take i t) ≡ totalOf (λ k. k .slots) (limitsIn t) i
+unfolding allSlots
 slots-total [] zero = refl
 slots-total [] (suc i) = refl
 slots-total (c ∷ t) zero = refl

@@ -12,7 +12,7 @@ use Rattle.slots.specs.Ring.{roundOf, backOf, runOf}
 use Rattle.channel.specs.Places.{slotIn}
 use Rattle.channel.specs.Settings.{fitWindow, fitUnits, fitTimers, fitLimits}
 use Rattle.channel.specs.Standing.{named, inRing, inFlight, sided, asking, rested, marked, slotFit, slotsFit, standing}
-use Rattle.table.specs.Lent.{slotsOf, octetsOf, eachStands, lawful}
+use Rattle.table.specs.Lent.{allSlots, allOctets, eachStands, lawful}
 use Rattle.table.specs.Serving.{recordAt}
 use Rattle.delivery.specs.Calls.{End, unitsOf}
 use Rattle.delivery.specs.History.{Call, Event, accepted, confirmed, reclaimed, taken}
@@ -120,11 +120,11 @@ module _ (e : End) (one : length (e .table) ≡ 1) (first : e .index ≡ 0) wher
   only j less = omega (arith, one)
 
 stands-host : lawful (hostEnd .table) (hostEnd .mem) (hostEnd .lens) ≡ true
-unfolding roundOf backOf runOf slotIn fitWindow fitUnits fitTimers fitLimits named inRing inFlight sided asking rested marked slotFit slotsFit standing slotsOf octetsOf eachStands lawful
+unfolding roundOf backOf runOf slotIn fitWindow fitUnits fitTimers fitLimits named inRing inFlight sided asking rested marked slotFit slotsFit standing allSlots allOctets eachStands lawful
 stands-host = refl
 
 stands-station : lawful (stationEnd .table) (stationEnd .mem) (stationEnd .lens) ≡ true
-unfolding roundOf backOf runOf slotIn fitWindow fitUnits fitTimers fitLimits named inRing inFlight sided asking rested marked slotFit slotsFit standing slotsOf octetsOf eachStands lawful
+unfolding roundOf backOf runOf slotIn fitWindow fitUnits fitTimers fitLimits named inRing inFlight sided asking rested marked slotFit slotsFit standing allSlots allOctets eachStands lawful
 stands-station = refl
 
 pub fresh-host : Fresh hostEnd

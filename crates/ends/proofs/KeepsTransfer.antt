@@ -17,7 +17,7 @@ use Rattle.slots.proofs.RingLaws.{round-lt, round-add, round-apart, back-lt}
 use Rattle.slots.specs.Slots.{Sized}
 use Rattle.channel.specs.Places.{slotOf}
 use Rattle.channel.proofs.PlaceLaws.{slotted}
-use Rattle.slots.specs.Units.{segmentsOf, segmentOf, flagsOf}
+use Rattle.slots.specs.Units.{segmentsOf, segmentCut, flagsOf}
 use Rattle.slots.specs.Marks.{markOf}
 use Rattle.slots.proofs.Units.{fits, full}
 use Rattle.store.specs.Store.{filedMem, filedLens, filedMarks}
@@ -53,14 +53,14 @@ module _ (most len : ℕ) where
   middle-fits = refl
 
 segment-fits : (most : ℕ) (u : List ℕ) (k : ℕ) → k < segmentsOf most (length u)
-    → slotFit true most (markOf (flagsOf (segmentsOf most (length u)) k)) (length (segmentOf most u k)) ≡ true
+    → slotFit true most (markOf (flagsOf (segmentsOf most (length u)) k)) (length (segmentCut most u k)) ≡ true
 segment-fits most u k l = go (eqb count 1) refl (eqb k 0) refl (eqb (k + 1) count) refl
   where
     count : ℕ
     count = segmentsOf most (length u)
 
     len : ℕ
-    len = length (segmentOf most u k)
+    len = length (segmentCut most u k)
 
     short : leb len most ≡ true
     short = le-leb _ _ (fits most u k)
@@ -145,10 +145,10 @@ module _ (c : Channel) (u lens : List ℕ) (h : Standing c lens) (s : c .address
       ap (λ (x : ℕ). getD marks x 0) (sym (d .1))
       ∙ filed-marks-in slots count (c .marks) count 0 from j q enough (omega arith) inside
       ∙ ap (λ (x : ℕ). markOf (flagsOf count x)) (zero-add j) in
-      let len : getD lengths (slotOf c i) 0 ≡ length (segmentOf most u j) =
+      let len : getD lengths (slotOf c i) 0 ≡ length (segmentCut most u j) =
       ap (λ (x : ℕ). getD lengths (slotOf c x) 0) (sym (d .1))
       ∙ filed-lens-in (slotOf c) most slots u lens slots (slotted (c .limits)) count 0 from j q enough-lens (omega arith) inside
-      ∙ ap (λ (x : ℕ). length (segmentOf most u x)) (zero-add j) in
+      ∙ ap (λ (x : ℕ). length (segmentCut most u x)) (zero-add j) in
       ap (λ (x : Bool). slotFit x most (getD marks i 0) (getD lengths (slotOf c i) 0)) sending
       ∙ ap₂ (λ (x y : ℕ). slotFit true most x y) mark len
       ∙ segment-fits most u j inside)

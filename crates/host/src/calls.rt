@@ -21,7 +21,7 @@ ghost use mathlib.Core.List.{[]};
 ghost use lib.ListN.{length};
 ghost use Rattle.walks.specs.Serving.{leaves, changes};
 ghost use Rattle.node.specs.declared.request.Request.the-variants as request;
-ghost use Rattle.node.specs.Calls.{servedIndex, opened, closed, transferred, wouldAnswer, taken, reclaimed, handed, arrived};
+ghost use Rattle.node.specs.Calls.{servedIndex, openCall, closeCall, transferCall, questionCall, takeCall, reclaimCall, nextPacketCall, arrivalCall};
 ghost use Rattle.ticks.specs.Ticks.{ticked, tickIndex};
 ghost use Rattle.settings.specs.Configuring.{configured};
 ghost use Rattle.host.specs.Said.{saidAt, toldAt};
@@ -44,7 +44,7 @@ pub extern "C" fn peat_open(
     lens: &mut [u16],
     index: usize,
 ) -> Said
-    ensures { λ r. ⌜ (changes r (now (t .exit)) ≡ toldAt (servedIndex (now (t .entry)) (now (mem .entry)) (now (lens .entry)) (request.Open index) [] []) (opened (now (t .entry)) (now (mem .entry)) (now (lens .entry)) index)) × (now (mem .exit) ≡ now (mem .entry)) × (now (lens .exit) ≡ now (lens .entry)) ⌝ }
+    ensures { λ r. ⌜ (changes r (now (t .exit)) ≡ toldAt (servedIndex (now (t .entry)) (now (mem .entry)) (now (lens .entry)) (request.Open index) [] []) (openCall (now (t .entry)) (now (mem .entry)) (now (lens .entry)) index)) × (now (mem .exit) ≡ now (mem .entry)) × (now (lens .exit) ≡ now (lens .entry)) ⌝ }
 {
     let n = open_asked(index);
     let x: [u8; 0] = [0; 0];
@@ -61,7 +61,7 @@ pub extern "C" fn peat_close(
     lens: &mut [u16],
     index: usize,
 ) -> Said
-    ensures { λ r. ⌜ (changes r (now (t .exit)) ≡ toldAt (servedIndex (now (t .entry)) (now (mem .entry)) (now (lens .entry)) (request.Close index) [] []) (closed (now (t .entry)) (now (mem .entry)) (now (lens .entry)) index)) × (now (mem .exit) ≡ now (mem .entry)) × (now (lens .exit) ≡ now (lens .entry)) ⌝ }
+    ensures { λ r. ⌜ (changes r (now (t .exit)) ≡ toldAt (servedIndex (now (t .entry)) (now (mem .entry)) (now (lens .entry)) (request.Close index) [] []) (closeCall (now (t .entry)) (now (mem .entry)) (now (lens .entry)) index)) × (now (mem .exit) ≡ now (mem .entry)) × (now (lens .exit) ≡ now (lens .entry)) ⌝ }
 {
     let n = close_asked(index);
     let x: [u8; 0] = [0; 0];
@@ -79,7 +79,7 @@ pub extern "C" fn peat_transfer(
     index: usize,
     unit: &[u8],
 ) -> Said
-    ensures { λ r. ⌜ leaves r (now (t .exit)) (now (mem .exit)) (now (lens .exit)) [] ≡ saidAt (servedIndex (now (t .entry)) (now (mem .entry)) (now (lens .entry)) (request.Transfer index) (now (unit .entry)) []) (transferred (now (t .entry)) (now (mem .entry)) (now (lens .entry)) index (now (unit .entry))) ⌝ }
+    ensures { λ r. ⌜ leaves r (now (t .exit)) (now (mem .exit)) (now (lens .exit)) [] ≡ saidAt (servedIndex (now (t .entry)) (now (mem .entry)) (now (lens .entry)) (request.Transfer index) (now (unit .entry)) []) (transferCall (now (t .entry)) (now (mem .entry)) (now (lens .entry)) index (now (unit .entry))) ⌝ }
 {
     let n = transfer_asked(index);
     let mut out: [u8; 0] = [0; 0];
@@ -97,7 +97,7 @@ pub extern "C" fn peat_would_transfer(
     index: usize,
     count: usize,
 ) -> Said
-    ensures { λ r. ⌜ (changes r (now (t .exit)) ≡ toldAt (servedIndex (now (t .entry)) (now (mem .entry)) (now (lens .entry)) (request.WouldTransfer index count) [] []) (wouldAnswer (now (t .entry)) (now (mem .entry)) (now (lens .entry)) index count)) × (now (t .exit) ≡ now (t .entry)) × (now (mem .exit) ≡ now (mem .entry)) × (now (lens .exit) ≡ now (lens .entry)) ⌝ }
+    ensures { λ r. ⌜ (changes r (now (t .exit)) ≡ toldAt (servedIndex (now (t .entry)) (now (mem .entry)) (now (lens .entry)) (request.WouldTransfer index count) [] []) (questionCall (now (t .entry)) (now (mem .entry)) (now (lens .entry)) index count)) × (now (t .exit) ≡ now (t .entry)) × (now (mem .exit) ≡ now (mem .entry)) × (now (lens .exit) ≡ now (lens .entry)) ⌝ }
 {
     let n = would_asked(index, count);
     let x: [u8; 0] = [0; 0];
@@ -115,7 +115,7 @@ pub extern "C" fn peat_take(
     index: usize,
     out: &mut [u8],
 ) -> Said
-    ensures { λ r. ⌜ (leaves r (now (t .exit)) (now (mem .exit)) (now (lens .exit)) (now (out .exit)) ≡ saidAt (servedIndex (now (t .entry)) (now (mem .entry)) (now (lens .entry)) (request.Take index) [] (now (out .entry))) (taken (now (t .entry)) (now (mem .entry)) (now (lens .entry)) index (now (out .entry)))) × (now (mem .exit) ≡ now (mem .entry)) × (now (lens .exit) ≡ now (lens .entry)) ⌝ }
+    ensures { λ r. ⌜ (leaves r (now (t .exit)) (now (mem .exit)) (now (lens .exit)) (now (out .exit)) ≡ saidAt (servedIndex (now (t .entry)) (now (mem .entry)) (now (lens .entry)) (request.Take index) [] (now (out .entry))) (takeCall (now (t .entry)) (now (mem .entry)) (now (lens .entry)) index (now (out .entry)))) × (now (mem .exit) ≡ now (mem .entry)) × (now (lens .exit) ≡ now (lens .entry)) ⌝ }
 {
     let n = take_asked(index);
     let x: [u8; 0] = [0; 0];
@@ -132,7 +132,7 @@ pub extern "C" fn peat_reclaim(
     index: usize,
     out: &mut [u8],
 ) -> Said
-    ensures { λ r. ⌜ (leaves r (now (t .exit)) (now (mem .exit)) (now (lens .exit)) (now (out .exit)) ≡ saidAt (servedIndex (now (t .entry)) (now (mem .entry)) (now (lens .entry)) (request.Reclaim index) [] (now (out .entry))) (reclaimed (now (t .entry)) (now (mem .entry)) (now (lens .entry)) index (now (out .entry)))) × (now (mem .exit) ≡ now (mem .entry)) × (now (lens .exit) ≡ now (lens .entry)) ⌝ }
+    ensures { λ r. ⌜ (leaves r (now (t .exit)) (now (mem .exit)) (now (lens .exit)) (now (out .exit)) ≡ saidAt (servedIndex (now (t .entry)) (now (mem .entry)) (now (lens .entry)) (request.Reclaim index) [] (now (out .entry))) (reclaimCall (now (t .entry)) (now (mem .entry)) (now (lens .entry)) index (now (out .entry)))) × (now (mem .exit) ≡ now (mem .entry)) × (now (lens .exit) ≡ now (lens .entry)) ⌝ }
 {
     let n = reclaim_asked(index);
     let x: [u8; 0] = [0; 0];
@@ -149,7 +149,7 @@ pub extern "C" fn peat_next_packet(
     node: Node,
     out: &mut [u8],
 ) -> Said
-    ensures { λ r. ⌜ (leaves r (now (t .exit)) (now (mem .exit)) (now (lens .exit)) (now (out .exit)) ≡ saidAt (servedIndex (now (t .entry)) (now (mem .entry)) (now (lens .entry)) (request.NextPacket node) [] (now (out .entry))) (handed (now (t .entry)) (now (mem .entry)) (now (lens .entry)) node (now (out .entry)))) × (now (mem .exit) ≡ now (mem .entry)) × (now (lens .exit) ≡ now (lens .entry)) ⌝ }
+    ensures { λ r. ⌜ (leaves r (now (t .exit)) (now (mem .exit)) (now (lens .exit)) (now (out .exit)) ≡ saidAt (servedIndex (now (t .entry)) (now (mem .entry)) (now (lens .entry)) (request.NextPacket node) [] (now (out .entry))) (nextPacketCall (now (t .entry)) (now (mem .entry)) (now (lens .entry)) node (now (out .entry)))) × (now (mem .exit) ≡ now (mem .entry)) × (now (lens .exit) ≡ now (lens .entry)) ⌝ }
 {
     let n = next_asked(node);
     let x: [u8; 0] = [0; 0];
@@ -167,7 +167,7 @@ pub extern "C" fn peat_arrival(
     packet: &[u8],
     reply: &mut [u8],
 ) -> Said
-    ensures { λ r. ⌜ leaves r (now (t .exit)) (now (mem .exit)) (now (lens .exit)) (now (reply .exit)) ≡ saidAt (servedIndex (now (t .entry)) (now (mem .entry)) (now (lens .entry)) (request.Arrival node) (now (packet .entry)) (now (reply .entry))) (arrived (now (t .entry)) (now (mem .entry)) (now (lens .entry)) node (now (packet .entry)) (now (reply .entry))) ⌝ }
+    ensures { λ r. ⌜ leaves r (now (t .exit)) (now (mem .exit)) (now (lens .exit)) (now (reply .exit)) ≡ saidAt (servedIndex (now (t .entry)) (now (mem .entry)) (now (lens .entry)) (request.Arrival node) (now (packet .entry)) (now (reply .entry))) (arrivalCall (now (t .entry)) (now (mem .entry)) (now (lens .entry)) node (now (packet .entry)) (now (reply .entry))) ⌝ }
 {
     let n = arrival_asked(node);
     let a = serve(t, mem, lens, n, packet, reply);

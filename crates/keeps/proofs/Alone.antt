@@ -31,7 +31,7 @@ use Rattle.table.specs.Looking.{addressed, graded, missing, Chosen, chosenFrom,
 use Rattle.table.specs.Lent.{areaOf, partOf, slotAt, octetAt}
 use Rattle.table.specs.Serving.{blank, recordAt, ownMem, ownLens, Step, stored, serveOne}
 use Rattle.table.proofs.ServeLaws.{Lawful, lawful-is, found-below}
-use Rattle.keeps.specs.Keeping.{Given, Kept, OthersStay, SameOwn, SameFor, addressesOf, OwnChannelAlone}
+use Rattle.keeps.specs.Keeping.{Given, Kept, OthersStay, SameOwn, SameFor, addressesIn, OwnChannelAlone}
 use Rattle.keeps.proofs.Storing.{slots-before, octets-before}
 use Rattle.keeps.proofs.Serving.{slots-inside, octets-inside, worked, serve-missing, serve-found, given, serve-cases}
 use Rattle.keeps.proofs.Parts.{slots-order, octets-order}
@@ -168,11 +168,11 @@ restOf [] = []
 restOf (x ∷ l) = l
 
 -- so the same channel is chosen in tables with the same addresses
-pub same-choice : (look : Look) → ByAddresses look → (j : ℕ) (t t2 : List Channel) → addressesOf t ≡ addressesOf t2 → chosenFrom look j t ≡ chosenFrom look j t2
+pub same-choice : (look : Look) → ByAddresses look → (j : ℕ) (t t2 : List Channel) → addressesIn t ≡ addressesIn t2 → chosenFrom look j t ≡ chosenFrom look j t2
 unfolding chosenFrom
 same-choice look by j [] [] e = refl
-same-choice look by j [] (d ∷ t2) e = absurd (let z : _≡_ {A = ℕ} 0 (suc (length (addressesOf t2))) = ap length e in omega (arith, z))
-same-choice look by j (c ∷ t) [] e = absurd (let z : _≡_ {A = ℕ} (suc (length (addressesOf t))) 0 = ap length e in omega (arith, z))
+same-choice look by j [] (d ∷ t2) e = absurd (let z : _≡_ {A = ℕ} 0 (suc (length (addressesIn t2))) = ap length e in omega (arith, z))
+same-choice look by j (c ∷ t) [] e = absurd (let z : _≡_ {A = ℕ} (suc (length (addressesIn t))) 0 = ap length e in omega (arith, z))
 same-choice look by j (c ∷ t) (d ∷ t2) e =
     ap₂ (λ (g : ℕ) (r : Chosen). if leb g (r .rank) then record { at = j; rank = g } else r) (by j c d (ap (headOr (c .addresses)) e))
     (same-choice look by (j + 1) t t2 (ap restOf e))

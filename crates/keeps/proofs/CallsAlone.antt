@@ -36,7 +36,7 @@ use Rattle.arrivals.specs.Finding.{isOurs, lookBy, lookOf}
 use Rattle.arrivals.specs.Arriving.{arrivalFor}
 use Rattle.table.proofs.Parts.{laid-own}
 use Rattle.ticks.specs.Ticks.{tickOf, ticked}
-use Rattle.node.specs.Calls.{opened, closed, transferred, taken, reclaimed, handed, arrived}
+use Rattle.node.specs.Calls.{openCall, closeCall, transferCall, takeCall, reclaimCall, nextPacketCall, arrivalCall}
 use Rattle.keeps.specs.Keeping.{Keeps, staying, OthersStay, SameFor, OwnChannelAlone}
 use Rattle.keeps.proofs.Serving.{servedAt, serve-cases}
 use Rattle.keeps.proofs.StepsKeep.{open-keeps, close-keeps, take-keeps, reclaim-keeps, next-keeps, arrival-keeps}
@@ -100,33 +100,33 @@ module _ (t : List Channel) (mem lens : List ℕ) where
 
   -- the channel that the packet's head names
   pub arrival-others-stay : (node : Node) (packet reply : List ℕ)
-      → OthersStay t mem lens (choice (lookOf node packet (length reply)) t .at) (arrived t mem lens node packet reply)
+      → OthersStay t mem lens (choice (lookOf node packet (length reply)) t .at) (arrivalCall t mem lens node packet reply)
   arrival-others-stay node packet reply =
       let look = lookOf node packet (length reply) in
       others-stay look (arrivalFor node packet) t mem lens reply (shapes look (arrivalFor node packet) reply (arrival-keeps node packet reply)) (choice look t .at) (λ g. refl)
 
   -- the channel that is served
-  pub next-packet-others-stay : (node : Node) (out : List ℕ) → OthersStay t mem lens (choice Ready t .at) (handed t mem lens node out)
+  pub next-packet-others-stay : (node : Node) (out : List ℕ) → OthersStay t mem lens (choice Ready t .at) (nextPacketCall t mem lens node out)
   next-packet-others-stay node out =
       others-stay Ready (nextFor node) t mem lens out (shapes Ready (nextFor node) out (next-keeps node out)) (choice Ready t .at) (λ g. refl)
 
-  pub open-others-stay : (index : ℕ) → OthersStay t mem lens index (staying (opened t mem lens index) mem lens)
+  pub open-others-stay : (index : ℕ) → OthersStay t mem lens index (staying (openCall t mem lens index) mem lens)
   open-others-stay index =
       subst (OthersStay t mem lens index) (alone-called (Index index) openedBy t mem lens)
       (index-stays index (alone openedBy) [] (shapes (Index index) (alone openedBy) [] (open-keeps (Index index) [])))
 
-  pub close-others-stay : (index : ℕ) → OthersStay t mem lens index (staying (closed t mem lens index) mem lens)
+  pub close-others-stay : (index : ℕ) → OthersStay t mem lens index (staying (closeCall t mem lens index) mem lens)
   close-others-stay index =
       subst (OthersStay t mem lens index) (alone-called (Index index) closedBy t mem lens)
       (index-stays index (alone closedBy) [] (shapes (Index index) (alone closedBy) [] (close-keeps (Index index) [])))
 
-  pub transfer-others-stay : (index : ℕ) (unit : List ℕ) → OthersStay t mem lens index (transferred t mem lens index unit)
+  pub transfer-others-stay : (index : ℕ) (unit : List ℕ) → OthersStay t mem lens index (transferCall t mem lens index unit)
   transfer-others-stay index unit = index-stays index (transferFor unit) [] (transfer-shapes (Index index) unit [])
 
-  pub take-others-stay : (index : ℕ) (out : List ℕ) → OthersStay t mem lens index (taken t mem lens index out)
+  pub take-others-stay : (index : ℕ) (out : List ℕ) → OthersStay t mem lens index (takeCall t mem lens index out)
   take-others-stay index out = index-stays index takeFor out (shapes (Index index) takeFor out (take-keeps (Index index) out))
 
-  pub reclaim-others-stay : (index : ℕ) (out : List ℕ) → OthersStay t mem lens index (reclaimed t mem lens index out)
+  pub reclaim-others-stay : (index : ℕ) (out : List ℕ) → OthersStay t mem lens index (reclaimCall t mem lens index out)
   reclaim-others-stay index out = index-stays index reclaimFor out (shapes (Index index) reclaimFor out (reclaim-keeps (Index index) out))
 
   -- ---- and reads its own channel alone
@@ -147,24 +147,24 @@ module _ (t : List Channel) (mem lens : List ℕ) where
       (index-alone index (alone step) [] (shapes (Index index) (alone step) [] keeps) t2 mem2 lens2 e e2 same own))
 
   pub arrival-own-channel-alone : (node : Node) (packet reply : List ℕ)
-      → OwnChannelAlone (λ s m l. arrived s m l node packet reply) (choice (lookOf node packet (length reply)) t .at) t mem lens
+      → OwnChannelAlone (λ s m l. arrivalCall s m l node packet reply) (choice (lookOf node packet (length reply)) t .at) t mem lens
   arrival-own-channel-alone node packet reply =
       let look = lookOf node packet (length reply) in
       own-channel-alone look (arrivalFor node packet) reply (shapes look (arrivalFor node packet) reply (arrival-keeps node packet reply)) (arrival-by-addresses node packet (length reply)) t mem lens (choice look t .at) (λ g. refl)
 
-  pub open-own-channel-alone : (index : ℕ) → OwnChannelAlone (λ s m l. staying (opened s m l index) m l) index t mem lens
+  pub open-own-channel-alone : (index : ℕ) → OwnChannelAlone (λ s m l. staying (openCall s m l index) m l) index t mem lens
   open-own-channel-alone index = order-alone index openedBy (open-keeps (Index index) [])
 
-  pub close-own-channel-alone : (index : ℕ) → OwnChannelAlone (λ s m l. staying (closed s m l index) m l) index t mem lens
+  pub close-own-channel-alone : (index : ℕ) → OwnChannelAlone (λ s m l. staying (closeCall s m l index) m l) index t mem lens
   close-own-channel-alone index = order-alone index closedBy (close-keeps (Index index) [])
 
-  pub transfer-own-channel-alone : (index : ℕ) (unit : List ℕ) → OwnChannelAlone (λ s m l. transferred s m l index unit) index t mem lens
+  pub transfer-own-channel-alone : (index : ℕ) (unit : List ℕ) → OwnChannelAlone (λ s m l. transferCall s m l index unit) index t mem lens
   transfer-own-channel-alone index unit = index-alone index (transferFor unit) [] (transfer-shapes (Index index) unit [])
 
-  pub take-own-channel-alone : (index : ℕ) (out : List ℕ) → OwnChannelAlone (λ s m l. taken s m l index out) index t mem lens
+  pub take-own-channel-alone : (index : ℕ) (out : List ℕ) → OwnChannelAlone (λ s m l. takeCall s m l index out) index t mem lens
   take-own-channel-alone index out = index-alone index takeFor out (shapes (Index index) takeFor out (take-keeps (Index index) out))
 
-  pub reclaim-own-channel-alone : (index : ℕ) (out : List ℕ) → OwnChannelAlone (λ s m l. reclaimed s m l index out) index t mem lens
+  pub reclaim-own-channel-alone : (index : ℕ) (out : List ℕ) → OwnChannelAlone (λ s m l. reclaimCall s m l index out) index t mem lens
   reclaim-own-channel-alone index out = index-alone index reclaimFor out (shapes (Index index) reclaimFor out (reclaim-keeps (Index index) out))
 
 -- ---- a tick treats each channel alone

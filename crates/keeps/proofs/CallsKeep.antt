@@ -21,7 +21,7 @@ use Rattle.channel.specs.Standing.{standing}
 use Rattle.channel.proofs.StandingLaws.{stands-is, is-stands}
 use Rattle.table.specs.declared.looking.Look.{Look}
 use Rattle.table.specs.declared.looking.Look.the-variants.{Index, Ready}
-use Rattle.table.specs.Lent.{areaOf, slotAt, octetAt, slotsOf, octetsOf, eachStands, lawful}
+use Rattle.table.specs.Lent.{areaOf, slotAt, octetAt, allSlots, allOctets, eachStands, lawful}
 use Rattle.table.specs.Serving.{recordAt, ownMem, ownLens, Step, alone, stored, serveOne, tableOf}
 use Rattle.table.proofs.SurveyLaws.{stands-first, stands-both}
 use Rattle.table.proofs.ServeLaws.{lawful-is, is-lawful}
@@ -30,7 +30,7 @@ use Rattle.requests.specs.Handing.{nextFor}
 use Rattle.arrivals.specs.Finding.{lookOf}
 use Rattle.arrivals.specs.Arriving.{arrivalFor}
 use Rattle.ticks.specs.Ticks.{tickOf, ticked}
-use Rattle.node.specs.Calls.{opened, closed, transferred, taken, reclaimed, handed, arrived}
+use Rattle.node.specs.Calls.{openCall, closeCall, transferCall, takeCall, reclaimCall, nextPacketCall, arrivalCall}
 use Rattle.keeps.specs.Keeping.{KeepsLawful, KeepsTable, Wide, Keeps}
 use Rattle.keeps.proofs.Serving.{servedAt, serve-cases, serve-keeps, serve-lawful, serve-unlawful}
 use Rattle.keeps.proofs.StepsKeep.{open-keeps, close-keeps, transfer-keeps, take-keeps, reclaim-keeps, next-keeps, arrival-keeps, tick-keeps}
@@ -66,31 +66,31 @@ module _ (look : Look) (step : Channel → Stepped) (t : List Channel) (mem lens
 -- ---- each call
 
 module _ (t : List Channel) (mem lens : List ℕ) where
-  pub arrival-lawful : (node : Node) (packet reply : List ℕ) → KeepsLawful t mem lens (arrived t mem lens node packet reply)
+  pub arrival-lawful : (node : Node) (packet reply : List ℕ) → KeepsLawful t mem lens (arrivalCall t mem lens node packet reply)
   arrival-lawful node packet reply =
       serve-lawful (lookOf node packet (length reply)) (arrivalFor node packet) t mem lens reply (arrival-keeps node packet reply)
 
-  pub next-packet-lawful : (node : Node) (out : List ℕ) → KeepsLawful t mem lens (handed t mem lens node out)
+  pub next-packet-lawful : (node : Node) (out : List ℕ) → KeepsLawful t mem lens (nextPacketCall t mem lens node out)
   next-packet-lawful node out = serve-lawful Ready (nextFor node) t mem lens out (next-keeps node out)
 
-  pub open-lawful : (index : ℕ) → KeepsTable t mem lens (opened t mem lens index)
+  pub open-lawful : (index : ℕ) → KeepsTable t mem lens (openCall t mem lens index)
   open-lawful index = alone-lawful (Index index) openedBy t mem lens [] (open-keeps (Index index) [])
 
-  pub close-lawful : (index : ℕ) → KeepsTable t mem lens (closed t mem lens index)
+  pub close-lawful : (index : ℕ) → KeepsTable t mem lens (closeCall t mem lens index)
   close-lawful index = alone-lawful (Index index) closedBy t mem lens [] (close-keeps (Index index) [])
 
   -- a table of records as they are made: each has its 128 marks
-  pub transfer-lawful : (index : ℕ) (unit : List ℕ) → Wide t → KeepsLawful t mem lens (transferred t mem lens index unit)
+  pub transfer-lawful : (index : ℕ) (unit : List ℕ) → Wide t → KeepsLawful t mem lens (transferCall t mem lens index unit)
   transfer-lawful index unit wide =
       let look = Index index in
       let i = servedAt look (transferFor unit) t mem lens [] in
       serve-keeps look (transferFor unit) t mem lens []
       (λ below g. transfer-keeps look unit [] i _ (recordAt t i) (ownMem t i mem) (ownLens t i lens) (wide i below) g)
 
-  pub take-lawful : (index : ℕ) (out : List ℕ) → KeepsLawful t mem lens (taken t mem lens index out)
+  pub take-lawful : (index : ℕ) (out : List ℕ) → KeepsLawful t mem lens (takeCall t mem lens index out)
   take-lawful index out = serve-lawful (Index index) takeFor t mem lens out (take-keeps (Index index) out)
 
-  pub reclaim-lawful : (index : ℕ) (out : List ℕ) → KeepsLawful t mem lens (reclaimed t mem lens index out)
+  pub reclaim-lawful : (index : ℕ) (out : List ℕ) → KeepsLawful t mem lens (reclaimCall t mem lens index out)
   reclaim-lawful index out = serve-lawful (Index index) reclaimFor t mem lens out (reclaim-keeps (Index index) out)
 
 -- ---- a tick
@@ -108,8 +108,8 @@ tick-stands-all (c ∷ t) lens e =
     ∙ tick-stands-all t (drop (c .limits .slots) lens) (p .1))
 
 tick-sizes : (t : List Channel) (lens : List ℕ) → eachStands t lens ≡ true
-    → (length (map tickOf t) ≡ length t) × (slotsOf (map tickOf t) ≡ slotsOf t) × (octetsOf (map tickOf t) ≡ octetsOf t)
-unfolding slotsOf octetsOf
+    → (length (map tickOf t) ≡ length t) × (allSlots (map tickOf t) ≡ allSlots t) × (allOctets (map tickOf t) ≡ allOctets t)
+unfolding allSlots allOctets
 tick-sizes [] lens e = (refl, refl, refl)
 tick-sizes (c ∷ t) lens e =
     let p = stands-first c t lens e in

@@ -50,7 +50,7 @@ use Rattle.arrivals.specs.Replying.{repliedBy}
 use Rattle.arrivals.specs.Arriving.{arriveAs, arriveBy, payloadIn, arrivalFor}
 use Rattle.table.proofs.Parts.{laid-own}
 use Rattle.ticks.specs.Ticks.{tickOf, anyInactive, firstInactive, ticked}
-use Rattle.node.specs.Calls.{opened, closed, transferred, taken, reclaimed, handed, arrived}
+use Rattle.node.specs.Calls.{openCall, closeCall, transferCall, takeCall, reclaimCall, nextPacketCall, arrivalCall}
 use Rattle.keeps.specs.Keeping.{MayChange, RefusalsChangeNothing, RefusalsChangeNoRecord, NineWritesNothing}
 use Rattle.keeps.proofs.Serving.{servedAt, serve-cases}
 
@@ -250,27 +250,27 @@ module _ (node : Node) (packet : List ℕ) (c : Channel) (rank : ℕ) (mem lens 
 -- ---- each call: every answer but 0, 9 and 15 changes nothing
 
 module _ (t : List Channel) (mem lens : List ℕ) where
-  pub arrival-refusals-change-nothing : (node : Node) (packet reply : List ℕ) → RefusalsChangeNothing t mem lens reply (arrived t mem lens node packet reply)
+  pub arrival-refusals-change-nothing : (node : Node) (packet reply : List ℕ) → RefusalsChangeNothing t mem lens reply (arrivalCall t mem lens node packet reply)
   arrival-refusals-change-nothing node packet reply =
       serve-still (lookOf node packet (length reply)) (arrivalFor node packet) t mem lens reply (λ c rank m l. arrival-still node packet c rank m l reply)
 
-  pub next-packet-refusals-change-nothing : (node : Node) (out : List ℕ) → RefusalsChangeNothing t mem lens out (handed t mem lens node out)
+  pub next-packet-refusals-change-nothing : (node : Node) (out : List ℕ) → RefusalsChangeNothing t mem lens out (nextPacketCall t mem lens node out)
   next-packet-refusals-change-nothing node out = serve-still Ready (nextFor node) t mem lens out (λ c rank m l. next-still c rank m l out node)
 
-  pub open-refusals-change-nothing : (index : ℕ) → RefusalsChangeNoRecord t (opened t mem lens index)
+  pub open-refusals-change-nothing : (index : ℕ) → RefusalsChangeNoRecord t (openCall t mem lens index)
   open-refusals-change-nothing index n = serve-still (Index index) (alone openedBy) t mem lens [] (λ c rank m l. open-still c rank m l []) n .0
 
-  pub close-refusals-change-nothing : (index : ℕ) → RefusalsChangeNoRecord t (closed t mem lens index)
+  pub close-refusals-change-nothing : (index : ℕ) → RefusalsChangeNoRecord t (closeCall t mem lens index)
   close-refusals-change-nothing index n = serve-still (Index index) (alone closedBy) t mem lens [] (λ c rank m l. close-still c rank m l []) n .0
 
-  pub transfer-refusals-change-nothing : (index : ℕ) (unit : List ℕ) → RefusalsChangeNothing t mem lens [] (transferred t mem lens index unit)
+  pub transfer-refusals-change-nothing : (index : ℕ) (unit : List ℕ) → RefusalsChangeNothing t mem lens [] (transferCall t mem lens index unit)
   transfer-refusals-change-nothing index unit =
       serve-still (Index index) (transferFor unit) t mem lens [] (λ c rank m l. transfer-still c rank m l [] unit)
 
-  pub take-refusals-change-nothing : (index : ℕ) (out : List ℕ) → RefusalsChangeNothing t mem lens out (taken t mem lens index out)
+  pub take-refusals-change-nothing : (index : ℕ) (out : List ℕ) → RefusalsChangeNothing t mem lens out (takeCall t mem lens index out)
   take-refusals-change-nothing index out = serve-still (Index index) takeFor t mem lens out (λ c rank m l. take-still c rank m l out)
 
-  pub reclaim-refusals-change-nothing : (index : ℕ) (out : List ℕ) → RefusalsChangeNothing t mem lens out (reclaimed t mem lens index out)
+  pub reclaim-refusals-change-nothing : (index : ℕ) (out : List ℕ) → RefusalsChangeNothing t mem lens out (reclaimCall t mem lens index out)
   reclaim-refusals-change-nothing index out = serve-still (Index index) reclaimFor t mem lens out (λ c rank m l. reclaim-still c rank m l out)
 
   -- a tick answers 0 or 9, or 13
@@ -288,15 +288,15 @@ module _ (t : List Channel) (mem lens : List ℕ) where
 
   -- ---- 9 writes no reply, no packet and no unit
 
-  pub arrival-nine-writes-nothing : (node : Node) (packet reply : List ℕ) → NineWritesNothing reply (arrived t mem lens node packet reply)
+  pub arrival-nine-writes-nothing : (node : Node) (packet reply : List ℕ) → NineWritesNothing reply (arrivalCall t mem lens node packet reply)
   arrival-nine-writes-nothing node packet reply =
       serve-silent (lookOf node packet (length reply)) (arrivalFor node packet) t mem lens reply (λ c rank m l. arrival-silent node packet c rank m l reply)
 
-  pub next-packet-nine-writes-nothing : (node : Node) (out : List ℕ) → NineWritesNothing out (handed t mem lens node out)
+  pub next-packet-nine-writes-nothing : (node : Node) (out : List ℕ) → NineWritesNothing out (nextPacketCall t mem lens node out)
   next-packet-nine-writes-nothing node out = serve-silent Ready (nextFor node) t mem lens out (λ c rank m l. next-silent c rank m l out node)
 
-  pub take-nine-writes-nothing : (index : ℕ) (out : List ℕ) → NineWritesNothing out (taken t mem lens index out)
+  pub take-nine-writes-nothing : (index : ℕ) (out : List ℕ) → NineWritesNothing out (takeCall t mem lens index out)
   take-nine-writes-nothing index out = serve-silent (Index index) takeFor t mem lens out (λ c rank m l. take-silent c rank m l out)
 
-  pub reclaim-nine-writes-nothing : (index : ℕ) (out : List ℕ) → NineWritesNothing out (reclaimed t mem lens index out)
+  pub reclaim-nine-writes-nothing : (index : ℕ) (out : List ℕ) → NineWritesNothing out (reclaimCall t mem lens index out)
   reclaim-nine-writes-nothing index out = serve-silent (Index index) reclaimFor t mem lens out (λ c rank m l. reclaim-silent c rank m l out)

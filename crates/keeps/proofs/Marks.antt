@@ -51,7 +51,7 @@ use Rattle.ticks.specs.Ticking.{tickedBy}
 use Rattle.arrivals.specs.Finding.{lookOf}
 use Rattle.arrivals.specs.Arriving.{payloadIn, arrivalFor}
 use Rattle.ticks.specs.Ticks.{tickOf, tickAnswer, ticked}
-use Rattle.node.specs.Calls.{opened, closed, transferred, taken, reclaimed, handed, arrived}
+use Rattle.node.specs.Calls.{openCall, closeCall, transferCall, takeCall, reclaimCall, nextPacketCall, arrivalCall}
 use Rattle.keeps.specs.Keeping.{Wide}
 use Rattle.keeps.proofs.Serving.{servedAt, worked, serve-cases}
 use Rattle.keeps.proofs.CallsRefuse.{arrive-cases}
@@ -214,26 +214,26 @@ arrival-marking node packet out c rank mem lens w =
     (λ opens. control-full c w opens n)
 
 module _ (t : List Channel) (mem lens : List ℕ) (wide : Wide t) where
-  pub arrival-wide : (node : Node) (packet reply : List ℕ) → Wide (arrived t mem lens node packet reply .table)
+  pub arrival-wide : (node : Node) (packet reply : List ℕ) → Wide (arrivalCall t mem lens node packet reply .table)
   arrival-wide node packet reply =
       serve-wide (lookOf node packet (length reply)) (arrivalFor node packet) t mem lens reply (arrival-marking node packet reply) wide
 
-  pub next-packet-wide : (node : Node) (out : List ℕ) → Wide (handed t mem lens node out .table)
+  pub next-packet-wide : (node : Node) (out : List ℕ) → Wide (nextPacketCall t mem lens node out .table)
   next-packet-wide node out = serve-wide Ready (nextFor node) t mem lens out (next-marking node out) wide
 
-  pub open-wide : (index : ℕ) → Wide (opened t mem lens index .table)
+  pub open-wide : (index : ℕ) → Wide (openCall t mem lens index .table)
   open-wide index = serve-wide (Index index) (alone openedBy) t mem lens [] (open-marking []) wide
 
-  pub close-wide : (index : ℕ) → Wide (closed t mem lens index .table)
+  pub close-wide : (index : ℕ) → Wide (closeCall t mem lens index .table)
   close-wide index = serve-wide (Index index) (alone closedBy) t mem lens [] (close-marking []) wide
 
-  pub transfer-wide : (index : ℕ) (unit : List ℕ) → Wide (transferred t mem lens index unit .table)
+  pub transfer-wide : (index : ℕ) (unit : List ℕ) → Wide (transferCall t mem lens index unit .table)
   transfer-wide index unit = serve-wide (Index index) (transferFor unit) t mem lens [] (transfer-marking unit []) wide
 
-  pub take-wide : (index : ℕ) (out : List ℕ) → Wide (taken t mem lens index out .table)
+  pub take-wide : (index : ℕ) (out : List ℕ) → Wide (takeCall t mem lens index out .table)
   take-wide index out = serve-wide (Index index) takeFor t mem lens out (take-marking out) wide
 
-  pub reclaim-wide : (index : ℕ) (out : List ℕ) → Wide (reclaimed t mem lens index out .table)
+  pub reclaim-wide : (index : ℕ) (out : List ℕ) → Wide (reclaimCall t mem lens index out .table)
   reclaim-wide index out = serve-wide (Index index) reclaimFor t mem lens out (reclaim-marking out) wide
 
   pub tick-wide : Wide (ticked t mem lens .table)

@@ -8,7 +8,7 @@ use Rattle.channel.specs.declared.record.Node.{Node}
 use Rattle.channel.specs.declared.record.Channel.{Channel}
 use Rattle.channel.specs.declared.answer.Answer.{Answer}
 use Rattle.ticks.specs.Ticks.{ticked}
-use Rattle.node.specs.Calls.{opened, closed, transferred, taken, reclaimed, handed, arrived}
+use Rattle.node.specs.Calls.{openCall, closeCall, transferCall, takeCall, reclaimCall, nextPacketCall, arrivalCall}
 use Rattle.keeps.specs.Keeping.{OneOutcome, OneChange}
 
 -- a contract `leaves r t m l o ≡ g` admits one outcome
@@ -33,26 +33,26 @@ one-change g r r2 t t2 e e2 =
 -- ---- each call
 
 module _ (t : List Channel) (mem lens : List ℕ) where
-  pub arrival-one-outcome : (node : Node) (packet reply : List ℕ) → OneOutcome (arrived t mem lens node packet reply)
-  arrival-one-outcome node packet reply = one-outcome (arrived t mem lens node packet reply)
+  pub arrival-one-outcome : (node : Node) (packet reply : List ℕ) → OneOutcome (arrivalCall t mem lens node packet reply)
+  arrival-one-outcome node packet reply = one-outcome (arrivalCall t mem lens node packet reply)
 
-  pub next-packet-one-outcome : (node : Node) (out : List ℕ) → OneOutcome (handed t mem lens node out)
-  next-packet-one-outcome node out = one-outcome (handed t mem lens node out)
+  pub next-packet-one-outcome : (node : Node) (out : List ℕ) → OneOutcome (nextPacketCall t mem lens node out)
+  next-packet-one-outcome node out = one-outcome (nextPacketCall t mem lens node out)
 
-  pub open-one-outcome : (index : ℕ) → OneChange (opened t mem lens index)
-  open-one-outcome index = one-change (opened t mem lens index)
+  pub open-one-outcome : (index : ℕ) → OneChange (openCall t mem lens index)
+  open-one-outcome index = one-change (openCall t mem lens index)
 
-  pub close-one-outcome : (index : ℕ) → OneChange (closed t mem lens index)
-  close-one-outcome index = one-change (closed t mem lens index)
+  pub close-one-outcome : (index : ℕ) → OneChange (closeCall t mem lens index)
+  close-one-outcome index = one-change (closeCall t mem lens index)
 
-  pub transfer-one-outcome : (index : ℕ) (unit : List ℕ) → OneOutcome (transferred t mem lens index unit)
-  transfer-one-outcome index unit = one-outcome (transferred t mem lens index unit)
+  pub transfer-one-outcome : (index : ℕ) (unit : List ℕ) → OneOutcome (transferCall t mem lens index unit)
+  transfer-one-outcome index unit = one-outcome (transferCall t mem lens index unit)
 
-  pub take-one-outcome : (index : ℕ) (out : List ℕ) → OneOutcome (taken t mem lens index out)
-  take-one-outcome index out = one-outcome (taken t mem lens index out)
+  pub take-one-outcome : (index : ℕ) (out : List ℕ) → OneOutcome (takeCall t mem lens index out)
+  take-one-outcome index out = one-outcome (takeCall t mem lens index out)
 
-  pub reclaim-one-outcome : (index : ℕ) (out : List ℕ) → OneOutcome (reclaimed t mem lens index out)
-  reclaim-one-outcome index out = one-outcome (reclaimed t mem lens index out)
+  pub reclaim-one-outcome : (index : ℕ) (out : List ℕ) → OneOutcome (reclaimCall t mem lens index out)
+  reclaim-one-outcome index out = one-outcome (reclaimCall t mem lens index out)
 
   pub tick-one-outcome : OneChange (ticked t mem lens)
   tick-one-outcome = one-change (ticked t mem lens)

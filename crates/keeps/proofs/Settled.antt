@@ -34,7 +34,7 @@ use Rattle.requests.specs.Handing.{nextFor}
 use Rattle.arrivals.specs.Finding.{lookOf}
 use Rattle.arrivals.specs.Arriving.{arrivalFor}
 use Rattle.ticks.specs.Ticks.{tickOf, ticked}
-use Rattle.node.specs.Calls.{opened, closed, transferred, taken, reclaimed, handed, arrived}
+use Rattle.node.specs.Calls.{openCall, closeCall, transferCall, takeCall, reclaimCall, nextPacketCall, arrivalCall}
 use Rattle.keeps.specs.Keeping.{Given, Keeps, SettingsStay}
 use Rattle.keeps.proofs.Serving.{servedAt, worked, serve-cases}
 use Rattle.keeps.proofs.StepsKeep.{open-keeps, close-keeps, take-keeps, reclaim-keeps, next-keeps, arrival-keeps, tick-keeps}
@@ -77,29 +77,29 @@ settings-stay look step t mem lens out fixing =
 -- ---- each call
 
 module _ (t : List Channel) (mem lens : List ℕ) where
-  pub arrival-settings-stay : (node : Node) (packet reply : List ℕ) → SettingsStay t (arrived t mem lens node packet reply .table)
+  pub arrival-settings-stay : (node : Node) (packet reply : List ℕ) → SettingsStay t (arrivalCall t mem lens node packet reply .table)
   arrival-settings-stay node packet reply =
       let look = lookOf node packet (length reply) in
       settings-stay look (arrivalFor node packet) t mem lens reply (keeps-fixing look (arrivalFor node packet) reply (arrival-keeps node packet reply))
 
-  pub next-packet-settings-stay : (node : Node) (out : List ℕ) → SettingsStay t (handed t mem lens node out .table)
+  pub next-packet-settings-stay : (node : Node) (out : List ℕ) → SettingsStay t (nextPacketCall t mem lens node out .table)
   next-packet-settings-stay node out = settings-stay Ready (nextFor node) t mem lens out (keeps-fixing Ready (nextFor node) out (next-keeps node out))
 
-  pub open-settings-stay : (index : ℕ) → SettingsStay t (opened t mem lens index .table)
+  pub open-settings-stay : (index : ℕ) → SettingsStay t (openCall t mem lens index .table)
   open-settings-stay index =
       settings-stay (Index index) (alone openedBy) t mem lens [] (keeps-fixing (Index index) (alone openedBy) [] (open-keeps (Index index) []))
 
-  pub close-settings-stay : (index : ℕ) → SettingsStay t (closed t mem lens index .table)
+  pub close-settings-stay : (index : ℕ) → SettingsStay t (closeCall t mem lens index .table)
   close-settings-stay index =
       settings-stay (Index index) (alone closedBy) t mem lens [] (keeps-fixing (Index index) (alone closedBy) [] (close-keeps (Index index) []))
 
-  pub transfer-settings-stay : (index : ℕ) (unit : List ℕ) → SettingsStay t (transferred t mem lens index unit .table)
+  pub transfer-settings-stay : (index : ℕ) (unit : List ℕ) → SettingsStay t (transferCall t mem lens index unit .table)
   transfer-settings-stay index unit = settings-stay (Index index) (transferFor unit) t mem lens [] (transfer-fixing (Index index) unit [])
 
-  pub take-settings-stay : (index : ℕ) (out : List ℕ) → SettingsStay t (taken t mem lens index out .table)
+  pub take-settings-stay : (index : ℕ) (out : List ℕ) → SettingsStay t (takeCall t mem lens index out .table)
   take-settings-stay index out = settings-stay (Index index) takeFor t mem lens out (keeps-fixing (Index index) takeFor out (take-keeps (Index index) out))
 
-  pub reclaim-settings-stay : (index : ℕ) (out : List ℕ) → SettingsStay t (reclaimed t mem lens index out .table)
+  pub reclaim-settings-stay : (index : ℕ) (out : List ℕ) → SettingsStay t (reclaimCall t mem lens index out .table)
   reclaim-settings-stay index out =
       settings-stay (Index index) reclaimFor t mem lens out (keeps-fixing (Index index) reclaimFor out (reclaim-keeps (Index index) out))
 

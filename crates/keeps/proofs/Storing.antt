@@ -12,7 +12,7 @@ use Rattle.slots.proofs.SlotLaws.{laid-here, laid-before, laid-after}
 use Rattle.channel.specs.declared.record.Limits.{Limits}
 use Rattle.channel.specs.declared.record.Channel.{Channel}
 use Rattle.channel.specs.Standing.{standing}
-use Rattle.table.specs.Lent.{areaOf, slotsOf, octetsOf, eachStands}
+use Rattle.table.specs.Lent.{areaOf, allSlots, allOctets, eachStands}
 use Rattle.table.specs.Serving.{blank}
 use Rattle.table.proofs.SurveyLaws.{stands-first, stands-both, slots-within}
 
@@ -33,45 +33,45 @@ drop-laid (suc k) s (x ∷ m) p h =
 -- ---- sizes: the limits stay, so all parts keep their place
 
 module _ (k : Channel) where
-  pub slots-stored : (t : List Channel) (i : ℕ) → k .limits ≡ getD t i blank .limits → slotsOf (set t i k) ≡ slotsOf t
-  unfolding slotsOf
+  pub slots-stored : (t : List Channel) (i : ℕ) → k .limits ≡ getD t i blank .limits → allSlots (set t i k) ≡ allSlots t
+  unfolding allSlots
   slots-stored [] i e = refl
-  slots-stored (c ∷ t) zero e = ap (λ (l : Limits). l .slots + slotsOf t) e
+  slots-stored (c ∷ t) zero e = ap (λ (l : Limits). l .slots + allSlots t) e
   slots-stored (c ∷ t) (suc i) e = ap (λ (n : ℕ). c .limits .slots + n) (slots-stored t i e)
 
-  pub octets-stored : (t : List Channel) (i : ℕ) → k .limits ≡ getD t i blank .limits → octetsOf (set t i k) ≡ octetsOf t
-  unfolding octetsOf
+  pub octets-stored : (t : List Channel) (i : ℕ) → k .limits ≡ getD t i blank .limits → allOctets (set t i k) ≡ allOctets t
+  unfolding allOctets
   octets-stored [] i e = refl
-  octets-stored (c ∷ t) zero e = ap (λ (l : Limits). areaOf l + octetsOf t) e
+  octets-stored (c ∷ t) zero e = ap (λ (l : Limits). areaOf l + allOctets t) e
   octets-stored (c ∷ t) (suc i) e = ap (λ (n : ℕ). areaOf (c .limits) + n) (octets-stored t i e)
 
   -- and so do those before any index
-  pub slots-before : (t : List Channel) (i j : ℕ) → k .limits ≡ getD t i blank .limits → slotsOf (take j (set t i k)) ≡ slotsOf (take j t)
-  unfolding slotsOf
+  pub slots-before : (t : List Channel) (i j : ℕ) → k .limits ≡ getD t i blank .limits → allSlots (take j (set t i k)) ≡ allSlots (take j t)
+  unfolding allSlots
   slots-before [] i j e = refl
   slots-before (c ∷ t) zero zero e = refl
   slots-before (c ∷ t) (suc i) zero e = refl
-  slots-before (c ∷ t) zero (suc j) e = ap (λ (l : Limits). l .slots + slotsOf (take j t)) e
+  slots-before (c ∷ t) zero (suc j) e = ap (λ (l : Limits). l .slots + allSlots (take j t)) e
   slots-before (c ∷ t) (suc i) (suc j) e = ap (λ (n : ℕ). c .limits .slots + n) (slots-before t i j e)
 
-  pub octets-before : (t : List Channel) (i j : ℕ) → k .limits ≡ getD t i blank .limits → octetsOf (take j (set t i k)) ≡ octetsOf (take j t)
-  unfolding octetsOf
+  pub octets-before : (t : List Channel) (i j : ℕ) → k .limits ≡ getD t i blank .limits → allOctets (take j (set t i k)) ≡ allOctets (take j t)
+  unfolding allOctets
   octets-before [] i j e = refl
   octets-before (c ∷ t) zero zero e = refl
   octets-before (c ∷ t) (suc i) zero e = refl
-  octets-before (c ∷ t) zero (suc j) e = ap (λ (l : Limits). areaOf l + octetsOf (take j t)) e
+  octets-before (c ∷ t) zero (suc j) e = ap (λ (l : Limits). areaOf l + allOctets (take j t)) e
   octets-before (c ∷ t) (suc i) (suc j) e = ap (λ (n : ℕ). areaOf (c .limits) + n) (octets-before t i j e)
 
 -- ---- every record stands again
 
 pub stands-stored : (k : Channel) (l : List ℕ) → standing k l ≡ true → (t : List Channel) (lens : List ℕ) (i : ℕ)
     → i < length t
-    → slotsOf t ≤ length lens
+    → allSlots t ≤ length lens
     → k .limits ≡ getD t i blank .limits
     → length l ≡ getD t i blank .limits .slots
     → eachStands t lens ≡ true
-    → eachStands (set t i k) (laid lens (slotsOf (take i t)) l) ≡ true
-unfolding slotsOf
+    → eachStands (set t i k) (laid lens (allSlots (take i t)) l) ≡ true
+unfolding allSlots
 stands-stored k l st [] lens i h fit e len all = absurd (not-suc-le-zero h)
 stands-stored k l st (c ∷ t) lens zero h fit e len all =
     let inside : 0 + length l ≤ length lens = omega (arith, fit, len) in
@@ -82,9 +82,9 @@ stands-stored k l st (c ∷ t) lens zero h fit e len all =
     (ap (λ (x : Limits). drop (x .slots) (laid lens 0 l)) e ∙ laid-after lens 0 l inside (c .limits .slots) (omega (arith, len)))
     ∙ stands-first c t lens all .1)
 stands-stored k l st (c ∷ t) lens (suc i) h fit e len all =
-    let at = slotsOf (take i t) in
+    let at = allSlots (take i t) in
     let inner = le-of-suc-le-suc h in
-    let in-rest : at + length l ≤ slotsOf t = omega (arith, len, slots-within t i inner) in
+    let in-rest : at + length l ≤ allSlots t = omega (arith, len, slots-within t i inner) in
     let inside : c .limits .slots + at + length l ≤ length lens = omega (arith, fit, in-rest) in
     let first = stands-first c t lens all in
     stands-both c (set t i k) (laid lens (c .limits .slots + at) l)

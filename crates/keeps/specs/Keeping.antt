@@ -109,14 +109,14 @@ pub record SameFor (i : ℕ) (g g2 : Called Answer Channel) : Type 0 where
   pub out : g .out ≡ g2 .out
 
 -- the table's addresses and limits, which are fixed
-abbrev pub addressesOf : List Channel → List Addresses
-addressesOf t = map (λ c. c .addresses) t
+abbrev pub addressesIn : List Channel → List Addresses
+addressesIn t = map (λ c. c .addresses) t
 
-abbrev pub limitsOf : List Channel → List Limits
-limitsOf t = map (λ c. c .limits) t
+abbrev pub limitsIn : List Channel → List Limits
+limitsIn t = map (λ c. c .limits) t
 
 abbrev pub SettingsStay : List Channel → List Channel → Type 0
-SettingsStay t t2 = (addressesOf t2 ≡ addressesOf t) × (limitsOf t2 ≡ limitsOf t)
+SettingsStay t t2 = (addressesIn t2 ≡ addressesIn t) × (limitsIn t2 ≡ limitsIn t)
 
 -- in every node with the same addresses that has the same channel at index i the call does the same, whatever the other channels are
 abbrev pub OwnChannelAlone : (List Channel → List ℕ → List ℕ → Called Answer Channel) → ℕ → List Channel → List ℕ → List ℕ → Type 0
@@ -124,6 +124,6 @@ OwnChannelAlone call i t mem lens =
     (t2 : List Channel) (mem2 lens2 : List ℕ)
     → lawful t mem lens ≡ true
     → lawful t2 mem2 lens2 ≡ true
-    → addressesOf t ≡ addressesOf t2
+    → addressesIn t ≡ addressesIn t2
     → SameOwn i t mem lens t2 mem2 lens2
     → SameFor i (call t mem lens) (call t2 mem2 lens2)

@@ -46,7 +46,7 @@ module _ (c : Limits) where
     still : To r
     still = omega arith
 
-    settled-near : (b : Bool) (f : ℕ → Option Segment) (l : List Segment) → Near (c .window) (startOf r) (length l) → To (receiver.settled b r f l .0)
+    settled-near : (b : Bool) (f : ℕ → Option Segment) (l : List Segment) → Near (c .window) (startOf r) (length l) → To (receiver.movedAnswer b r f l .0)
     settled-near true f l h = h
     settled-near false f l h = h
 

@@ -137,10 +137,10 @@ module _ (c : Channel) (mem lens : List ℕ) (r : Receiver) (asked : Asked c mem
           let q = move-ringed (c .limits) (k .marks) (c .window) (ringed c lens (asked .standing)) in
           record { place = q .place; behind = q .behind; way = q .way }
 
-      settles : (b : Bool) → x .1 ≡ b → Result (acceptStep c place flags) mem₁ lens₁ (receiver.settled b r f (x .0))
+      settles : (b : Bool) → x .1 ≡ b → Result (acceptStep c place flags) mem₁ lens₁ (receiver.movedAnswer b r f (x .0))
       unfolding leaving
       settles true e =
-          subst (λ (s : Stepped). Result s mem₁ lens₁ (receiver.settled true r f (x .0)))
+          subst (λ (s : Stepped). Result s mem₁ lens₁ (receiver.movedAnswer true r f (x .0)))
           (sym (accept-done c place flags k m refl refl (ended .same ∙ ap not e))) (
             record {
               state = t .state;
@@ -151,7 +151,7 @@ module _ (c : Channel) (mem lens : List ℕ) (r : Receiver) (asked : Asked c mem
             refl,
           )
       settles false e =
-          subst (λ (s : Stepped). Result s mem₁ lens₁ (receiver.settled false r f (x .0)))
+          subst (λ (s : Stepped). Result s mem₁ lens₁ (receiver.movedAnswer false r f (x .0)))
           (sym (accept-breaks c place flags k m refl refl (ended .same ∙ ap not e))) (
             record {
               state = refl;

@@ -18,7 +18,7 @@ use Rattle.slots.proofs.RingLaws.{round-lt, round-add, round-apart, back-lt, cl
 use Rattle.slots.specs.Marks.{markOf}
 use Rattle.slots.specs.Slots.{segmentIn}
 use Rattle.channel.specs.Places.{slotOf}
-use Rattle.slots.specs.Units.{segmentsOf, segmentOf, flagsOf}
+use Rattle.slots.specs.Units.{segmentsOf, segmentCut, flagsOf}
 use Rattle.channel.proofs.PlaceLaws.{slotted}
 use Rattle.store.specs.Store.{filedMem, filedLens, filedMarks}
 use Rattle.store.proofs.Laws.{filed-marks-in, filed-marks-out, filed-marks-length, filed-octets-in, filed-octets-out}
@@ -138,14 +138,14 @@ module _ (c : Channel) (mem lens : List ℕ) (a : Asked c mem lens) (line : List
       ∙ filed-marks-in slots count (c .marks) count 0 (freeAt c) j free-in (omega (arith, f .most, x .marks)) (omega arith) l
       ∙ ap (λ (i : ℕ). markOf (flagsOf count i)) (zero-add j)
       in
-      let octets : octetsAt k mem₁ lens₁ here ≡ segmentOf most u j
+      let octets : octetsAt k mem₁ lens₁ here ≡ segmentCut most u j
       = ap (λ (p : ℕ). segmentIn most mem₁ lens₁ (slotOf c p)) (sym at)
       ∙ filed-octets-in (slotOf c) slots most slots u (slotted (c .limits)) mem lens count 0 (freeAt c) j (a .sized) free-in (omega arith) l
-      ∙ ap (segmentOf most u) (zero-add j)
+      ∙ ap (segmentCut most u) (zero-add j)
       in
       lying-some k mem₁ lens₁ here (λ z. let y : markOf (flagsOf count j) ≡ 0 = sym mark ∙ z in omega arith)
       ∙ ap₂ (λ (m : ℕ) (o : List ℕ). some (segmentBy m o)) mark octets
-      ∙ ap some (by-mark count j (segmentOf most u j) l ∙ sym (cut-at most u j l))
+      ∙ ap some (by-mark count j (segmentCut most u j) l ∙ sym (cut-at most u j l))
 
   filed-holds : Holds (filedUnit c (length u)) mem₁ lens₁ (line ++ cut most u) oldest
   filed-holds =

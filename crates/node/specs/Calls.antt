@@ -55,27 +55,27 @@ servedIndex t mem lens n x out = indexServed (lookIn n x (length out)) t mem len
 
 -- ---- the public calls
 
-abbrev pub opened : List Channel → List ℕ → List ℕ → ℕ → Changed Answer Channel
-opened t mem lens index = tableOf (served t mem lens (Open index) [] [])
+abbrev pub openCall : List Channel → List ℕ → List ℕ → ℕ → Changed Answer Channel
+openCall t mem lens index = tableOf (served t mem lens (Open index) [] [])
 
-abbrev pub closed : List Channel → List ℕ → List ℕ → ℕ → Changed Answer Channel
-closed t mem lens index = tableOf (served t mem lens (Close index) [] [])
+abbrev pub closeCall : List Channel → List ℕ → List ℕ → ℕ → Changed Answer Channel
+closeCall t mem lens index = tableOf (served t mem lens (Close index) [] [])
 
-abbrev pub transferred : List Channel → List ℕ → List ℕ → ℕ → List ℕ → Called Answer Channel
-transferred t mem lens index unit = served t mem lens (Transfer index) unit []
+abbrev pub transferCall : List Channel → List ℕ → List ℕ → ℕ → List ℕ → Called Answer Channel
+transferCall t mem lens index unit = served t mem lens (Transfer index) unit []
 
 -- a question: whatever it answers, nothing changes
-abbrev pub wouldAnswer : List Channel → List ℕ → List ℕ → ℕ → ℕ → Changed Answer Channel
-wouldAnswer t mem lens index count = tableOf (served t mem lens (WouldTransfer index count) [] [])
+abbrev pub questionCall : List Channel → List ℕ → List ℕ → ℕ → ℕ → Changed Answer Channel
+questionCall t mem lens index count = tableOf (served t mem lens (WouldTransfer index count) [] [])
 
-abbrev pub taken : List Channel → List ℕ → List ℕ → ℕ → List ℕ → Called Answer Channel
-taken t mem lens index out = served t mem lens (Take index) [] out
+abbrev pub takeCall : List Channel → List ℕ → List ℕ → ℕ → List ℕ → Called Answer Channel
+takeCall t mem lens index out = served t mem lens (Take index) [] out
 
-abbrev pub reclaimed : List Channel → List ℕ → List ℕ → ℕ → List ℕ → Called Answer Channel
-reclaimed t mem lens index out = served t mem lens (Reclaim index) [] out
+abbrev pub reclaimCall : List Channel → List ℕ → List ℕ → ℕ → List ℕ → Called Answer Channel
+reclaimCall t mem lens index out = served t mem lens (Reclaim index) [] out
 
-abbrev pub handed : List Channel → List ℕ → List ℕ → Node → List ℕ → Called Answer Channel
-handed t mem lens node out = served t mem lens (NextPacket node) [] out
+abbrev pub nextPacketCall : List Channel → List ℕ → List ℕ → Node → List ℕ → Called Answer Channel
+nextPacketCall t mem lens node out = served t mem lens (NextPacket node) [] out
 
-abbrev pub arrived : List Channel → List ℕ → List ℕ → Node → List ℕ → List ℕ → Called Answer Channel
-arrived t mem lens node packet out = served t mem lens (Arrival node) packet out
+abbrev pub arrivalCall : List Channel → List ℕ → List ℕ → Node → List ℕ → List ℕ → Called Answer Channel
+arrivalCall t mem lens node packet out = served t mem lens (Arrival node) packet out

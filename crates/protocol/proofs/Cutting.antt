@@ -11,7 +11,7 @@ use lib.Dec.{eqb}
 use lib.ListN.{length, take, drop}
 use lib.Seq.{drop-drop}
 use Rattle.laws.specs.Choice.{if_then_else_}
-use Rattle.slots.specs.Units.{segmentsOf, segmentOf, joined}
+use Rattle.slots.specs.Units.{segmentsOf, segmentCut, joined}
 use Rattle.slots.proofs.Units.{segments-some, rejoined}
 use Rattle.protocol.specs.Units.{DataUnit, Segment, segmentsFrom, cut, cuts, units, endings, wholeTo, oneMore, firstUnit}
 
@@ -23,11 +23,11 @@ module _ (payload : ℕ) where
   units-from u count zero i e part l =
       let last : eqb (i + 1) count ≡ true = eq-eqb (i + 1) count (omega arith) in
       ap
-      (λ (t : Bool). if t then (part ++ segmentOf payload u i) ∷ units [] l else units (part ++ segmentOf payload u i) l)
+      (λ (t : Bool). if t then (part ++ segmentCut payload u i) ∷ units [] l else units (part ++ segmentCut payload u i) l)
       last
-      ∙ ap (λ (o : List ℕ). (part ++ o) ∷ units [] l) (sym (append-nil (segmentOf payload u i)))
+      ∙ ap (λ (o : List ℕ). (part ++ o) ∷ units [] l) (sym (append-nil (segmentCut payload u i)))
   units-from u count (suc n) i e part l =
-      let here = segmentOf payload u i in
+      let here = segmentCut payload u i in
       let rest = segmentsFrom payload u count (suc n) (i + 1) ++ l in
       let not-last : eqb (i + 1) count ≡ false = ne-eqb (i + 1) count (omega arith) in
       ap (λ (t : Bool). if t then (part ++ here) ∷ units [] rest else units (part ++ here) rest) not-last

@@ -53,9 +53,9 @@ controlled false r p = (r, say 5)
 controlled true r p = (record { phase = p; passed = r .passed; oldest = r .oldest; filed = r .filed }, say 0)
 
 -- 'At a break, the new segment being filed already, the channel is inactive and no ack is sent' (9)
-abbrev pub settled : Bool → Receiver → (ℕ → Option Segment) → List Segment → Receiver × Answer
-settled true r filed l = (record { phase = r .phase; passed = l; oldest = r .oldest; filed = filed }, say 0)
-settled false r filed l = (record { phase = shut; passed = l; oldest = r .oldest; filed = filed }, say 9)
+abbrev pub movedAnswer : Bool → Receiver → (ℕ → Option Segment) → List Segment → Receiver × Answer
+movedAnswer true r filed l = (record { phase = r .phase; passed = l; oldest = r .oldest; filed = filed }, say 0)
+movedAnswer false r filed l = (record { phase = shut; passed = l; oldest = r .oldest; filed = filed }, say 9)
 
 -- new: 8 where there is no room
 abbrev pub placed : Limits → Bool → Receiver → ℕ → Segment → Receiver × Answer
@@ -63,7 +63,7 @@ placed c false r i g = (r, say 8)
 placed c true r i g =
     let filed = put (r .filed) i (some g) in
     let m = moved c (c .window) filed (r .passed) in
-    settled (m .1) r filed (m .0)
+    movedAnswer (m .1) r filed (m .0)
 
 -- 'd < k and already held: acknowledged (15), first copy stays'
 abbrev pub inWindow : Limits → Option Segment → Receiver → ℕ → Segment → Receiver × Answer

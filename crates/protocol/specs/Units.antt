@@ -5,7 +5,7 @@ use mathlib.Core.List.{List, [], _∷_, _++_}
 use lib.Dec.{ltb, eqb}
 use lib.ListN.{length}
 use Rattle.laws.specs.Choice.{if_then_else_}
-use Rattle.slots.specs.Units.{segmentsOf, segmentOf}
+use Rattle.slots.specs.Units.{segmentsOf, segmentCut}
 
 -- what the application hands over and takes: its octets
 abbrev pub DataUnit : Type 0
@@ -25,7 +25,7 @@ blank = record { first = false; last = false; octets = [] }
 
 -- the i-th of the unit's `count` segments, of at most `payload` octets
 abbrev pub segmentAt : ℕ → DataUnit → ℕ → ℕ → Segment
-segmentAt payload u count i = record { first = eqb i 0; last = eqb (i + 1) count; octets = segmentOf payload u i }
+segmentAt payload u count i = record { first = eqb i 0; last = eqb (i + 1) count; octets = segmentCut payload u i }
 
 -- n of them, from the i-th on
 unfoldable pub segmentsFrom : ℕ → DataUnit → ℕ → ℕ → ℕ → List Segment

@@ -20,17 +20,17 @@ use Rattle.receiver_data.specs.declared.moving.Moved.{Moved}
 use Rattle.receiver_data.specs.Sorting.{placeAt}
 use Rattle.receiver_data.specs.Moving.{movedOf}
 use Rattle.receiver.specs.Receiving.{ackLength, shutFor}
-use Rattle.receiver_data.specs.Data.{settled, marking, acceptStep, dataBy, awayOf, sortOf, dataStep, filesBy, memBy, lensBy, isFiled, dataMem, dataLens}
+use Rattle.receiver_data.specs.Data.{movedAnswer, marking, acceptStep, dataBy, awayOf, sortOf, dataStep, filesBy, memBy, lensBy, isFiled, dataMem, dataLens}
 use Rattle.channel.specs.Asked.{Ringed}
 use Rattle.receiver_data.proofs.MoveLaws.{move-ringed}
 
 -- ---- a new segment: marked, the start moved, and then one of two answers
 
 module _ (c : Channel) (place flags : ℕ) (k : Channel) (m : Moved) (marked : k ≡ marking c place flags) (moved : m ≡ movedOf (c .limits) (k .marks) (c .window)) where
-  accept-settled : acceptStep c place flags ≡ settled k m
+  accept-settled : acceptStep c place flags ≡ movedAnswer k m
   unfolding acceptStep
   accept-settled =
-      ap (λ (x : Channel). settled x (movedOf (c .limits) (x .marks) (c .window))) (sym marked) ∙ ap (settled k) (sym moved)
+      ap (λ (x : Channel). movedAnswer x (movedOf (c .limits) (x .marks) (c .window))) (sym marked) ∙ ap (movedAnswer k) (sym moved)
 
   pub accept-breaks : m .broken ≡ true → acceptStep c place flags ≡ failing (shutFor (withWindow k (m .window)) brokenFlags) brokenFlags
   accept-breaks e = accept-settled ∙ chosen (m .broken) _ _ e

@@ -21,8 +21,8 @@ use Rattle.receiver_data.specs.Moving.{movedOf}
 use Rattle.receiver.specs.Receiving.{ackLength, shutFor}
 
 -- the new segment is filed at a place, and the start moves; at a break the channel is inactive and no ack is sent
-abbrev pub settled : Channel → Moved → Stepped
-settled c m =
+abbrev pub movedAnswer : Channel → Moved → Stepped
+movedAnswer c m =
     if m .broken then failing (shutFor (withWindow c (m .window)) brokenFlags) brokenFlags
     else doing (withWindow c (m .window)) ackLength
 
@@ -30,7 +30,7 @@ abbrev pub marking : Channel → ℕ → ℕ → Channel
 marking c place flags = withAccepted (withMarks c (set (c .marks) place (markOf flags))) 1
 
 unfoldable pub acceptStep : Channel → ℕ → ℕ → Stepped
-acceptStep c place flags = settled (marking c place flags) (movedOf (c .limits) (marking c place flags .marks) (c .window))
+acceptStep c place flags = movedAnswer (marking c place flags) (movedOf (c .limits) (marking c place flags .marks) (c .window))
 
 -- what each sort of Data answers, d past the start
 abbrev pub dataBy : Sort → Channel → ℕ → ℕ → Stepped

@@ -18,7 +18,7 @@ use Rattle.channel.specs.declared.record.Channel.{Channel}
 use Rattle.channel.specs.declared.answer.Answer.the-variants.{Done, Refused}
 use Rattle.channel.specs.declared.answer.Refusal.the-variants as refusal
 use Rattle.channel.specs.Tables.{mostRecords, eachFit, fitTable}
-use Rattle.table.specs.Lent.{slotsOf, octetsOf}
+use Rattle.table.specs.Lent.{allSlots, allOctets}
 use Rattle.settings.specs.declared.seeing.Seen.{Seen}
 use Rattle.settings.specs.Configuring.{madeTable, settled, configured}
 use Rattle.settings.specs.Seeing.{begun, seen, isSettled}
@@ -31,8 +31,8 @@ pub record Settled (t : List Channel) (mem lens : List ℕ) (s : List Settings) 
   pub few : length s ≤ mostRecords
   pub fit : eachFit s ≡ true
   pub count : length t ≡ length s
-  pub slots : length lens ≡ slotsOf (madeTable s)
-  pub octets : length mem ≡ octetsOf (madeTable s)
+  pub slots : length lens ≡ allSlots (madeTable s)
+  pub octets : length mem ≡ allOctets (madeTable s)
 
 pub settled-is : (t : List Channel) (mem lens : List ℕ) (s : List Settings) → settled t mem lens s ≡ true → Settled t mem lens s
 unfolding settled fitTable
@@ -59,8 +59,8 @@ is-settled t mem lens s h =
       le-leb (length s) mostRecords (h .few),
       h .fit,
       eq-eqb (length t) (length s) (h .count),
-      eq-eqb (length lens) (slotsOf (madeTable s)) (h .slots),
-      eq-eqb (length mem) (octetsOf (madeTable s)) (h .octets),
+      eq-eqb (length lens) (allSlots (madeTable s)) (h .slots),
+      eq-eqb (length mem) (allOctets (madeTable s)) (h .octets),
     )
 
 -- ---- what is seen and tested is that
@@ -83,8 +83,8 @@ module _ (t : List Channel) (mem lens : List ℕ) (s : List Settings) where
         le-leb 1 (length s) (h .some),
         n .sound,
         eq-eqb (length t) (length s) (h .count),
-        eq-eqb (whole .slots) (length lens) (n .slots ∙ zero-add (slotsOf (madeTable s)) ∙ sym (h .slots)),
-        eq-eqb (whole .octets) (length mem) (n .octets ∙ zero-add (octetsOf (madeTable s)) ∙ sym (h .octets)),
+        eq-eqb (whole .slots) (length lens) (n .slots ∙ zero-add (allSlots (madeTable s)) ∙ sym (h .slots)),
+        eq-eqb (whole .octets) (length mem) (n .octets ∙ zero-add (allOctets (madeTable s)) ∙ sym (h .octets)),
       )
 
   from-test : test ≡ true → Settled t mem lens s
@@ -101,8 +101,8 @@ module _ (t : List Channel) (mem lens : List ℕ) (s : List Settings) where
         few = omega (arith, g .few);
         fit = g .fit;
         count = eqb-true _ _ (p2 .1);
-        slots = sym (eqb-true _ _ (p3 .1)) ∙ n .slots ∙ zero-add (slotsOf (madeTable s));
-        octets = sym (eqb-true _ _ (p4 .1)) ∙ n .octets ∙ zero-add (octetsOf (madeTable s));
+        slots = sym (eqb-true _ _ (p3 .1)) ∙ n .slots ∙ zero-add (allSlots (madeTable s));
+        octets = sym (eqb-true _ _ (p4 .1)) ∙ n .octets ∙ zero-add (allOctets (madeTable s));
       }
 
   pub test-settled : test ≡ settled t mem lens s

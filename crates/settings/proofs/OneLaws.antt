@@ -14,21 +14,21 @@ use Rattle.channel.specs.Settings.{fit, fitLimits, clash}
 use Rattle.channel.proofs.SettingsLaws.{fit-is}
 use Rattle.laws.proofs.Choice.{both}
 use Rattle.settings.specs.declared.seeing.Seen.{Seen}
-use Rattle.settings.specs.Seeing.{unsound, addressesAt, taken, noted, seeOne}
+use Rattle.settings.specs.Seeing.{unsound, addressesAt, clashesSeen, noted, seeOne}
 
 -- ---- the addresses of those from the i-th on, to the n-th
 
 module _ (v : Seen) (a : Addresses) (n i : ℕ) where
-  pub taken-none : n ≤ i → taken v a (n - i) i ≡ false
-  unfolding taken
+  pub taken-none : n ≤ i → clashesSeen v a (n - i) i ≡ false
+  unfolding clashesSeen
   taken-none h = let e : n - i ≡ 0 = omega arith in rw e
 
-  pub taken-here : i < n → clash a (addressesAt v i) ≡ true → taken v a (n - i) i ≡ true
-  unfolding taken
+  pub taken-here : i < n → clash a (addressesAt v i) ≡ true → clashesSeen v a (n - i) i ≡ true
+  unfolding clashesSeen
   taken-here h t = let e : n - i ≡ suc (n - (i + 1)) = omega arith in rw (e, t)
 
-  pub taken-more : i < n → clash a (addressesAt v i) ≡ false → taken v a (n - i) i ≡ taken v a (n - (i + 1)) (i + 1)
-  unfolding taken
+  pub taken-more : i < n → clash a (addressesAt v i) ≡ false → clashesSeen v a (n - i) i ≡ clashesSeen v a (n - (i + 1)) (i + 1)
+  unfolding clashesSeen
   taken-more h t = let e : n - i ≡ suc (n - (i + 1)) = omega arith in rw (e, t)
 
 -- ---- one more
@@ -64,10 +64,10 @@ module _ (v : Seen) (s : Settings) (lens : List ℕ) (j : ℕ) where
           one-unfit h = simp (sound, lt-leb 16 j few, le-ltb 4096 (v .slots) slots, le-ltb 2097152 (v .octets) octets, h)
 
           module _ (fits : fit s ≡ true) where
-            pub one-taken : taken v (s .addresses) j 0 ≡ true → seeOne v s lens j ≡ unsound v
+            pub one-taken : clashesSeen v (s .addresses) j 0 ≡ true → seeOne v s lens j ≡ unsound v
             unfolding seeOne
             one-taken h = simp (sound, lt-leb 16 j few, le-ltb 4096 (v .slots) slots, le-ltb 2097152 (v .octets) octets, fits, h)
 
-            pub one-noted : taken v (s .addresses) j 0 ≡ false → seeOne v s lens j ≡ noted v s j
+            pub one-noted : clashesSeen v (s .addresses) j 0 ≡ false → seeOne v s lens j ≡ noted v s j
             unfolding seeOne
             one-noted h = simp (sound, lt-leb 16 j few, le-ltb 4096 (v .slots) slots, le-ltb 2097152 (v .octets) octets, fits, h)

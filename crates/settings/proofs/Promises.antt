@@ -22,7 +22,7 @@ use Rattle.channel.specs.Settings.{fit}
 use Rattle.channel.specs.Tables.{clashes, eachFit}
 use Rattle.channel.proofs.StandingLaws.{is-stands}
 use Rattle.channel.proofs.MadeLaws.{made-stands}
-use Rattle.table.specs.Lent.{slotsOf, eachStands, lawful}
+use Rattle.table.specs.Lent.{allSlots, eachStands, lawful}
 use Rattle.table.specs.Serving.{unset, recordAt}
 use Rattle.table.proofs.ServeLaws.{is-lawful}
 use Rattle.table.proofs.SurveyLaws.{stands-none, stands-both}
@@ -31,8 +31,8 @@ use Rattle.settings.proofs.AgreeLaws.{settled-is}
 
 -- ---- each record that fit settings make stands with its own lengths
 
-slots-first : (s : Settings) (l : List Settings) → slotsOf (madeTable (s ∷ l)) ≡ s .limits .slots + slotsOf (madeTable l)
-unfolding slotsOf
+slots-first : (s : Settings) (l : List Settings) → allSlots (madeTable (s ∷ l)) ≡ s .limits .slots + allSlots (madeTable l)
+unfolding allSlots
 slots-first s l = refl
 
 fit-first : (s : Settings) (l : List Settings) → eachFit (s ∷ l) ≡ true → (fit s ≡ true) × (eachFit l ≡ true)
@@ -41,13 +41,13 @@ fit-first s l e =
     let p = both (fit s && not (clashes (s .addresses) l)) (eachFit l) e in
     (both (fit s) (not (clashes (s .addresses) l)) (p .0) .0, p .1)
 
-made-each : (s : List Settings) (lens : List ℕ) → eachFit s ≡ true → length lens ≡ slotsOf (madeTable s) → eachStands (madeTable s) lens ≡ true
+made-each : (s : List Settings) (lens : List ℕ) → eachFit s ≡ true → length lens ≡ allSlots (madeTable s) → eachStands (madeTable s) lens ≡ true
 made-each [] lens f e = stands-none lens
 made-each (s ∷ l) lens f e =
     let p = fit-first s l f in
     let n = e ∙ slots-first s l in
     let own : length (take (s .limits .slots) lens) ≡ s .limits .slots = length-take-le (s .limits .slots) lens (omega (arith, n)) in
-    let rest : length (drop (s .limits .slots) lens) ≡ slotsOf (madeTable l) = omega (arith, length-drop (s .limits .slots) lens, n) in
+    let rest : length (drop (s .limits .slots) lens) ≡ allSlots (madeTable l) = omega (arith, length-drop (s .limits .slots) lens, n) in
     stands-both (madeOf s) (madeTable l) lens
     (is-stands (madeOf s) (take (s .limits .slots) lens) (made-stands s (take (s .limits .slots) lens) (p .0) own))
     (made-each l (drop (s .limits .slots) lens) (p .1) rest)

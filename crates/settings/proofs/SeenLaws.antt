@@ -18,12 +18,12 @@ use Rattle.channel.specs.declared.record.Addresses.{Addresses}
 use Rattle.channel.specs.declared.record.Settings.{Settings}
 use Rattle.channel.specs.Settings.{fit, clash}
 use Rattle.channel.specs.Tables.{clashes, eachFit}
-use Rattle.table.specs.Lent.{areaOf, slotsOf, octetsOf}
+use Rattle.table.specs.Lent.{areaOf, allSlots, allOctets}
 use Rattle.table.specs.Surveying.{lookedAt}
 use Rattle.table.proofs.Looked.{looked-enough}
 use Rattle.settings.specs.declared.seeing.Seen.{Seen}
 use Rattle.settings.specs.Configuring.{madeTable}
-use Rattle.settings.specs.Seeing.{nowhere, begun, unsound, addressesAt, taken, noted, seeOne}
+use Rattle.settings.specs.Seeing.{nowhere, begun, unsound, addressesAt, clashesSeen, noted, seeOne}
 use Rattle.settings.proofs.OneLaws.{bounded, one-spoilt, one-many, one-unfit, one-taken, one-noted}
 
 -- ---- two clash in either order
@@ -46,14 +46,14 @@ clash-swap a b =
 -- ---- the addresses seen
 
 -- the last of them, apart
-taken-last : (v : Seen) (a : Addresses) (n i : ℕ) → taken v a (suc n) i ≡ (taken v a n i || clash a (addressesAt v (i + n)))
-unfolding taken
+taken-last : (v : Seen) (a : Addresses) (n i : ℕ) → clashesSeen v a (suc n) i ≡ (clashesSeen v a n i || clash a (addressesAt v (i + n)))
+unfolding clashesSeen
 taken-last v a zero i = or-false (clash a (addressesAt v i)) ∙ ap (λ (k : ℕ). clash a (addressesAt v k)) (sym (add-zero i))
 taken-last v a (suc n) i =
     let e : i + 1 + n ≡ i + suc n = omega (arith, add-suc i n) in
     ap (λ (z : Bool). clash a (addressesAt v i) || z) (taken-last v a n (i + 1))
-    ∙ sym (or-assoc (clash a (addressesAt v i)) (taken v a n (i + 1)) (clash a (addressesAt v (i + 1 + n))))
-    ∙ ap (λ (k : ℕ). (clash a (addressesAt v i) || taken v a n (i + 1)) || clash a (addressesAt v k)) e
+    ∙ sym (or-assoc (clash a (addressesAt v i)) (clashesSeen v a n (i + 1)) (clash a (addressesAt v (i + 1 + n))))
+    ∙ ap (λ (k : ℕ). (clash a (addressesAt v i) || clashesSeen v a n (i + 1)) || clash a (addressesAt v k)) e
 
 -- there is a place for each of 16
 abbrev pub Sixteen : Seen → Type 0
@@ -73,14 +73,14 @@ module _ (v : Seen) (s : Settings) (j : ℕ) (places : Sixteen v) (few : j < 16)
   before : (i : ℕ) → i < j → addressesAt (noted v s j) i ≡ addressesAt v i
   before i h = getD-set-other (v .addresses) j i (s .addresses) nowhere (λ e. absurd (omega (arith, h, e)))
 
-  taken-before : (a : Addresses) (n i : ℕ) → i + n ≤ j → taken (noted v s j) a n i ≡ taken v a n i
-  unfolding taken
+  taken-before : (a : Addresses) (n i : ℕ) → i + n ≤ j → clashesSeen (noted v s j) a n i ≡ clashesSeen v a n i
+  unfolding clashesSeen
   taken-before a zero i h = refl
   taken-before a (suc n) i h =
       let k : i + suc n ≡ suc (i + n) = add-suc i n in
       ap₂ (λ (x y : Bool). x || y) (ap (λ (b : Addresses). clash a b) (before i (omega (arith, h, k)))) (taken-before a n (i + 1) (omega (arith, h, k)))
 
-  taken-noted : (a : Addresses) → taken (noted v s j) a (suc j) 0 ≡ (taken v a j 0 || clash a (s .addresses))
+  taken-noted : (a : Addresses) → clashesSeen (noted v s j) a (suc j) 0 ≡ (clashesSeen v a j 0 || clash a (s .addresses))
   taken-noted a =
       let e : 0 + j ≡ j = omega arith in
       taken-last (noted v s j) a j 0
@@ -90,10 +90,10 @@ module _ (v : Seen) (s : Settings) (j : ℕ) (places : Sixteen v) (few : j < 16)
 -- none of these has addresses that one of the first j has
 unfoldable pub free : Seen → ℕ → List Settings → Bool
 free v j [] = true
-free v j (x ∷ l) = not (taken v (x .addresses) j 0) && free v j l
+free v j (x ∷ l) = not (clashesSeen v (x .addresses) j 0) && free v j l
 
 pub free-begun : (l : List Settings) → free begun 0 l ≡ true
-unfolding free taken
+unfolding free clashesSeen
 free-begun [] = refl
 free-begun (x ∷ l) = free-begun l
 
@@ -110,9 +110,9 @@ unfolding free clashes
 free-noted v s j places few [] = refl
 free-noted v s j places few (x ∷ l) =
     ap₂ (λ (t f : Bool). not t && f)
-    (taken-noted v s j places few (x .addresses) ∙ ap (λ (k : Bool). taken v (x .addresses) j 0 || k) (clash-swap (x .addresses) (s .addresses)))
+    (taken-noted v s j places few (x .addresses) ∙ ap (λ (k : Bool). clashesSeen v (x .addresses) j 0 || k) (clash-swap (x .addresses) (s .addresses)))
     (free-noted v s j places few l)
-    ∙ apart (taken v (x .addresses) j 0) (clash (s .addresses) (x .addresses)) (free v j l) (clashes (s .addresses) l)
+    ∙ apart (clashesSeen v (x .addresses) j 0) (clash (s .addresses) (x .addresses)) (free v j l) (clashes (s .addresses) l)
 
 -- ---- from one of the settings on
 
@@ -133,7 +133,7 @@ pub record Good (v : Seen) (j : ℕ) (l : List Settings) : Type 0 where
   pub fit : eachFit l ≡ true
   pub free : free v j l ≡ true
 
-goes-on : (v : Seen) (s : Settings) (lens : List ℕ) (j : ℕ) → Going v j → j < 16 → fit s ≡ true → taken v (s .addresses) j 0 ≡ false
+goes-on : (v : Seen) (s : Settings) (lens : List ℕ) (j : ℕ) → Going v j → j < 16 → fit s ≡ true → clashesSeen v (s .addresses) j 0 ≡ false
     → (seeOne v s lens j ≡ noted v s j) × Going (noted v s j) (suc j)
 goes-on v s lens j g few f t =
     let b = bounded s f in
@@ -150,16 +150,16 @@ goes-on v s lens j g few f t =
 
 -- the first, and those behind it
 good-first : (v : Seen) (s : Settings) (j : ℕ) (l : List Settings) → Going v j → Good v j (s ∷ l)
-    → (j < 16) × (fit s ≡ true) × (taken v (s .addresses) j 0 ≡ false) × Good (noted v s j) (suc j) l
+    → (j < 16) × (fit s ≡ true) × (clashesSeen v (s .addresses) j 0 ≡ false) × Good (noted v s j) (suc j) l
 unfolding eachFit free
 good-first v s j l g h =
     let few : j < 16 = omega (arith, h .few, add-suc j (length l)) in
     let p = both (fit s && not (clashes (s .addresses) l)) (eachFit l) (h .fit) in
     let q = both (fit s) (not (clashes (s .addresses) l)) (p .0) in
-    let r = both (not (taken v (s .addresses) j 0)) (free v j l) (h .free) in (
+    let r = both (not (clashesSeen v (s .addresses) j 0)) (free v j l) (h .free) in (
       few,
       q .0,
-      not-true (taken v (s .addresses) j 0) (r .0),
+      not-true (clashesSeen v (s .addresses) j 0) (r .0),
       record {
         few = omega (arith, h .few, add-suc j (length l));
         fit = p .1;
@@ -167,7 +167,7 @@ good-first v s j l g h =
       },
     )
 
-good-both : (v : Seen) (s : Settings) (j : ℕ) (l : List Settings) → Going v j → j < 16 → fit s ≡ true → taken v (s .addresses) j 0 ≡ false
+good-both : (v : Seen) (s : Settings) (j : ℕ) (l : List Settings) → Going v j → j < 16 → fit s ≡ true → clashesSeen v (s .addresses) j 0 ≡ false
     → Good (noted v s j) (suc j) l → Good v j (s ∷ l)
 unfolding eachFit free
 good-both v s j l g few f t h =
@@ -199,11 +199,11 @@ first-seen lens l v k e =
 -- all are counted
 pub record Counts (w v : Seen) (l : List Settings) : Type 0 where
   pub sound : w .sound ≡ true
-  pub slots : w .slots ≡ v .slots + slotsOf (madeTable l)
-  pub octets : w .octets ≡ v .octets + octetsOf (madeTable l)
+  pub slots : w .slots ≡ v .slots + allSlots (madeTable l)
+  pub octets : w .octets ≡ v .octets + allOctets (madeTable l)
 
 pub sees-good : (lens : List ℕ) (j : ℕ) (v : Seen) (l : List Settings) → Going v j → Good v j l → Counts (foldFrom seeOne lens j v l) v l
-unfolding foldFrom slotsOf octetsOf
+unfolding foldFrom allSlots allOctets
 sees-good lens j v [] g h = record { sound = g .sound; slots = sym (add-zero (v .slots)); octets = sym (add-zero (v .octets)) }
 sees-good lens j v (s ∷ l) g h =
     let p = good-first v s j l g h in
@@ -212,15 +212,15 @@ sees-good lens j v (s ∷ l) g h =
     let e = ap (λ (x : Seen). foldFrom seeOne lens (suc j) x l) (w .0) in
     record {
       sound = ap (λ (x : Seen). x .sound) e ∙ n .sound;
-      slots = ap (λ (x : Seen). x .slots) e ∙ n .slots ∙ add-assoc (v .slots) (s .limits .slots) (slotsOf (madeTable l));
-      octets = ap (λ (x : Seen). x .octets) e ∙ n .octets ∙ add-assoc (v .octets) (areaOf (s .limits)) (octetsOf (madeTable l));
+      slots = ap (λ (x : Seen). x .slots) e ∙ n .slots ∙ add-assoc (v .slots) (s .limits .slots) (allSlots (madeTable l));
+      octets = ap (λ (x : Seen). x .octets) e ∙ n .octets ∙ add-assoc (v .octets) (areaOf (s .limits)) (allOctets (madeTable l));
     }
 
 pub sees-sound : (lens : List ℕ) (j : ℕ) (v : Seen) (l : List Settings) → Going v j → foldFrom seeOne lens j v l .sound ≡ true → Good v j l
 unfolding foldFrom eachFit free
 sees-sound lens j v [] g e = record { few = omega (arith, g .few); fit = refl; free = refl }
 sees-sound lens j v (s ∷ l) g e =
-    go (ltb j 16) refl (fit s) refl (taken v (s .addresses) j 0) refl (λ w x. sees-sound lens (suc j) (noted v s j) l w x)
+    go (ltb j 16) refl (fit s) refl (clashesSeen v (s .addresses) j 0) refl (λ w x. sees-sound lens (suc j) (noted v s j) l w x)
   where
     spoils : seeOne v s lens j ≡ unsound v → Good v j (s ∷ l)
     spoils p =
@@ -228,7 +228,7 @@ sees-sound lens j v (s ∷ l) g e =
         (false≢true
         (sym (ap (λ (w : Seen). w .sound) (stays-spoilt lens (suc j) (unsound v) l refl)) ∙ ap (λ (w : Seen). foldFrom seeOne lens (suc j) w l .sound) (sym p) ∙ e))
 
-    go : (a : Bool) → ltb j 16 ≡ a → (b : Bool) → fit s ≡ b → (c : Bool) → taken v (s .addresses) j 0 ≡ c
+    go : (a : Bool) → ltb j 16 ≡ a → (b : Bool) → fit s ≡ b → (c : Bool) → clashesSeen v (s .addresses) j 0 ≡ c
         → (Going (noted v s j) (suc j) → foldFrom seeOne lens (suc j) (noted v s j) l .sound ≡ true → Good (noted v s j) (suc j) l) → Good v j (s ∷ l)
     go false p b q c r next = spoils (one-many v s lens j (g .sound) (ltb-false j 16 p))
     go true p false q c r next =

@@ -14,7 +14,7 @@ use Rattle.channel.specs.declared.answer.Answer.the-variants.{Done, Refused}
 use Rattle.channel.specs.declared.answer.Refusal.the-variants as refusal
 use Rattle.channel.specs.Record.{madeOf}
 use Rattle.channel.specs.Tables.{fitTable}
-use Rattle.table.specs.Lent.{slotsOf, octetsOf}
+use Rattle.table.specs.Lent.{allSlots, allOctets}
 
 -- the records that settings make, each CLOSED and empty
 abbrev pub madeTable : List Settings → List Channel
@@ -26,8 +26,8 @@ unfoldable pub settled : List Channel → List ℕ → List ℕ → List Setting
 settled t mem lens s =
     fitTable s
     && eqb (length t) (length s)
-    && eqb (length lens) (slotsOf (madeTable s))
-    && eqb (length mem) (octetsOf (madeTable s))
+    && eqb (length lens) (allSlots (madeTable s))
+    && eqb (length mem) (allOctets (madeTable s))
 
 -- of the old table only the number of its records counts
 unfoldable pub configured : List Channel → List ℕ → List ℕ → List Settings → Changed Answer Channel

@@ -32,9 +32,9 @@ abbrev pub addressesAt : Seen → ℕ → Addresses
 addressesAt v i = getD (v .addresses) i nowhere
 
 -- one of the n from the i-th on has such addresses
-unfoldable pub taken : Seen → Addresses → ℕ → ℕ → Bool
-taken v a zero i = false
-taken v a (suc n) i = clash a (addressesAt v i) || taken v a n (i + 1)
+unfoldable pub clashesSeen : Seen → Addresses → ℕ → ℕ → Bool
+clashesSeen v a zero i = false
+clashesSeen v a (suc n) i = clash a (addressesAt v i) || clashesSeen v a n (i + 1)
 
 abbrev pub noted : Seen → Settings → ℕ → Seen
 noted v s j =
@@ -52,7 +52,7 @@ seeOne v s lens j =
     else if ltb 4096 (v .slots) then unsound v
     else if ltb 2097152 (v .octets) then unsound v
     else if not (fit s) then unsound v
-    else if taken v (s .addresses) j 0 then unsound v
+    else if clashesSeen v (s .addresses) j 0 then unsound v
     else noted v s j
 
 abbrev pub seen : List Settings → List ℕ → Seen → Seen

@@ -8,7 +8,7 @@ use table::surveying::MOST_RECORDS;
 use table::surveying::area;
 ghost use mathlib.Core.Path.{_≡_};
 ghost use Prim.Native.Nat.{_≤_, _<_};
-ghost use Rattle.settings.specs.Seeing.{begun, unsound, addressesAt, taken, noted, seeOne};
+ghost use Rattle.settings.specs.Seeing.{begun, unsound, addressesAt, clashesSeen, noted, seeOne};
 
 // Whether all is well so far, the slots and the octets together, and by index the addresses: a slice of structs is walked once, so those before
 // are kept.
@@ -57,7 +57,7 @@ fn addresses_at(v: Seen, i: usize) -> Addresses
 // One of the first n has such addresses.
 fn is_taken(v: Seen, n: usize, a: Addresses) -> bool
     requires { ⌜ n ≤ 16 ⌝ }
-    ensures { λ r. ⌜ r ≡ taken v a n 0 ⌝ }
+    ensures { λ r. ⌜ r ≡ clashesSeen v a n 0 ⌝ }
 {
     let mut i: usize = 0;
     while i < n {

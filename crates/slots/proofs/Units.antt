@@ -11,7 +11,7 @@ use lib.Dec.{eqb}
 use lib.ListN.{length, take, drop, length-take, length-drop}
 use lib.Seq.{take-all, take-add, drop-drop, length-take-le}
 use Rattle.laws.specs.Choice.{if_then_else_}
-use Rattle.slots.specs.Units.{segmentsOf, segmentOf, joined}
+use Rattle.slots.specs.Units.{segmentsOf, segmentCut, joined}
 
 -- one more turn of so many octets
 turn : (i most : ℕ) → (i + 1) * most ≡ i * most + most
@@ -48,10 +48,10 @@ segments-filled most n i = by (eqb n 0)
 
 -- ---- the segments
 
-pub fits : (most : ℕ) (u : List ℕ) (i : ℕ) → length (segmentOf most u i) ≤ most
+pub fits : (most : ℕ) (u : List ℕ) (i : ℕ) → length (segmentCut most u i) ≤ most
 fits most u i = simp length-take (omega arith)
 
-pub full : (most : ℕ) (u : List ℕ) (i : ℕ) → i + 1 < segmentsOf most (length u) → length (segmentOf most u i) ≡ most
+pub full : (most : ℕ) (u : List ℕ) (i : ℕ) → i + 1 < segmentsOf most (length u) → length (segmentCut most u i) ≡ most
 full most u i h =
     length-take-le most (drop (i * most) u) (omega (arith, length-drop (i * most) u, segments-filled most (length u) i h))
 

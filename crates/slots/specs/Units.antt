@@ -10,8 +10,8 @@ abbrev pub segmentsOf : ℕ → ℕ → ℕ
 segmentsOf most n = if eqb n 0 then 1 else (n - 1) / most + 1
 
 -- the octets of the unit u's i-th segment, from 0
-abbrev pub segmentOf : ℕ → List ℕ → ℕ → List ℕ
-segmentOf most u i = take most (drop (i * most) u)
+abbrev pub segmentCut : ℕ → List ℕ → ℕ → List ℕ
+segmentCut most u i = take most (drop (i * most) u)
 
 -- the sequence flags of the i-th of `count` segments: 11 whole, 01 first, 10 last, 00 continuation
 abbrev pub flagsOf : ℕ → ℕ → ℕ
@@ -20,4 +20,4 @@ flagsOf count i = if eqb count 1 then 3 else if eqb i 0 then 1 else if eqb (i + 
 -- the octets of n segments from the i-th on, one after another
 unfoldable pub joined : ℕ → List ℕ → ℕ → ℕ → List ℕ
 joined most u zero i = []
-joined most u (suc n) i = segmentOf most u i ++ joined most u n (i + 1)
+joined most u (suc n) i = segmentCut most u i ++ joined most u n (i + 1)

@@ -16,7 +16,7 @@ use Rattle.slots.specs.Ring.{roundOf}
 use Rattle.slots.proofs.RingLaws.{round-out, round-lt, round-add, round-apart, first-place, next-place}
 use Rattle.slots.specs.Marks.{markOf, ends}
 use Rattle.slots.specs.Slots.{Sized, Slotted, laid, segmentIn}
-use Rattle.slots.specs.Units.{segmentsOf, segmentOf, flagsOf, joined}
+use Rattle.slots.specs.Units.{segmentsOf, segmentCut, flagsOf, joined}
 use Rattle.slots.proofs.SlotLaws.{slot-in, laid-length, laid-on, laid-none, filed-same, filed-other}
 use Rattle.slots.proofs.SlotLaws as one
 use Rattle.slots.proofs.Units.{fits, rejoined}
@@ -352,35 +352,35 @@ module _ (slots count : ℕ) (marks : List ℕ) where
 module _ (slot : ℕ → ℕ) (most slots : ℕ) (u lens : List ℕ) where
   pub filed-lens-more : (n i s : ℕ) → i < n
       → filedLens slot most slots u lens (n - i) i s
-      ≡ filedLens slot most slots u (set lens (slot s) (length (segmentOf most u i))) (n - (i + 1)) (i + 1) (roundOf slots (s + 1))
+      ≡ filedLens slot most slots u (set lens (slot s) (length (segmentCut most u i))) (n - (i + 1)) (i + 1) (roundOf slots (s + 1))
   unfolding filedLens
-  filed-lens-more n i s h = by-more slot (λ (k : ℕ). length (segmentOf most u k)) slots lens n i s h
+  filed-lens-more n i s h = by-more slot (λ (k : ℕ). length (segmentCut most u k)) slots lens n i s h
 
   pub filed-lens-none : (n i s : ℕ) → n ≤ i → filedLens slot most slots u lens (n - i) i s ≡ lens
   unfolding filedLens
-  filed-lens-none n i s h = by-none slot (λ (k : ℕ). length (segmentOf most u k)) slots lens n i s h
+  filed-lens-none n i s h = by-none slot (λ (k : ℕ). length (segmentCut most u k)) slots lens n i s h
 
   pub filed-lens-length : (n j from : ℕ) → length (filedLens slot most slots u lens n j from) ≡ length lens
   unfolding filedLens
-  filed-lens-length n j from = by-length slot (λ (k : ℕ). length (segmentOf most u k)) slots lens n j from
+  filed-lens-length n j from = by-length slot (λ (k : ℕ). length (segmentCut most u k)) slots lens n j from
 
   module _ (total : ℕ) (map : Slotted slot slots total) where
     pub filed-lens-in : (n j from i : ℕ) → from < slots → total ≤ length lens → n ≤ slots → i < n
-        → getD (filedLens slot most slots u lens n j from) (slot (roundOf slots (from + i))) 0 ≡ length (segmentOf most u (j + i))
+        → getD (filedLens slot most slots u lens n j from) (slot (roundOf slots (from + i))) 0 ≡ length (segmentCut most u (j + i))
     unfolding filedLens
-    filed-lens-in n j from i p b k h = by-in slot (λ (k : ℕ). length (segmentOf most u k)) slots total map lens n j from i p b k h
+    filed-lens-in n j from i p b k h = by-in slot (λ (k : ℕ). length (segmentCut most u k)) slots total map lens n j from i p b k h
 
     pub filed-lens-out : (n j from i : ℕ) → from < slots → i < slots → n ≤ i
         → getD (filedLens slot most slots u lens n j from) (slot (roundOf slots (from + i))) 0 ≡ getD lens (slot (roundOf slots (from + i))) 0
     unfolding filedLens
-    filed-lens-out n j from i p b h = by-out slot (λ (k : ℕ). length (segmentOf most u k)) slots total map lens n j from i p b h
+    filed-lens-out n j from i p b h = by-out slot (λ (k : ℕ). length (segmentCut most u k)) slots total map lens n j from i p b h
 
 -- ---- the octets: the memory and the lengths together
 
 module _ (slot : ℕ → ℕ) (most slots : ℕ) (u : List ℕ) where
   pub filed-mem-more : (m : List ℕ) (n i s : ℕ) → i < n
       → filedMem slot most slots u m (n - i) i s
-      ≡ filedMem slot most slots u (laid m (slot s * most) (segmentOf most u i)) (n - (i + 1)) (i + 1) (roundOf slots (s + 1))
+      ≡ filedMem slot most slots u (laid m (slot s * most) (segmentCut most u i)) (n - (i + 1)) (i + 1) (roundOf slots (s + 1))
   unfolding filedMem
   filed-mem-more m n i s h = let e : n - i ≡ suc (n - (i + 1)) = omega arith in rw e
 
@@ -394,8 +394,8 @@ module _ (slot : ℕ → ℕ) (total most slots : ℕ) (u : List ℕ) (map : Slo
   unfolding filedMem filedLens filedBy
   filed-sized m lens zero j from sized p = sized
   filed-sized m lens (suc n) j from sized p =
-      filed-sized (laid m (slot from * most) (segmentOf most u j)) (set lens (slot from) (length (segmentOf most u j))) n (j + 1) (roundOf slots (from + 1))
-      (one.filed-sized total most m lens (slot from) (segmentOf most u j) sized (map .bound from p) (fits most u j))
+      filed-sized (laid m (slot from * most) (segmentCut most u j)) (set lens (slot from) (length (segmentCut most u j))) n (j + 1) (roundOf slots (from + 1))
+      (one.filed-sized total most m lens (slot from) (segmentCut most u j) sized (map .bound from p) (fits most u j))
       (next-lt slots from p)
 
   -- what is filed at another place stays
@@ -408,7 +408,7 @@ module _ (slot : ℕ → ℕ) (total most slots : ℕ) (u : List ℕ) (map : Slo
   filed-octets-out m lens (suc n) j from zero sized p b h short = absurd (omega arith)
   filed-octets-out m lens (suc n) j from (suc i) sized p b h short =
       let next = roundOf slots (from + 1) in
-      let part = segmentOf most u j in
+      let part = segmentCut most u j in
       let m1 = laid m (slot from * most) part in
       let lens1 = set lens (slot from) (length part) in
       let e = next-place slots from i p (omega arith) in
@@ -429,12 +429,12 @@ module _ (slot : ℕ → ℕ) (total most slots : ℕ) (u : List ℕ) (map : Slo
   -- the i-th place holds the i-th segment
   pub filed-octets-in : (m lens : List ℕ) (n j from i : ℕ) → Sized total most m lens → from < slots → n ≤ slots → i < n
       → segmentIn most (filedMem slot most slots u m n j from) (filedLens slot most slots u lens n j from) (slot (roundOf slots (from + i)))
-      ≡ segmentOf most u (j + i)
+      ≡ segmentCut most u (j + i)
   unfolding filedMem filedLens filedBy
   filed-octets-in m lens zero j from i sized p b h = absurd (omega arith)
   filed-octets-in m lens (suc n) j from zero sized p b h =
       let next = roundOf slots (from + 1) in
-      let part = segmentOf most u j in
+      let part = segmentCut most u j in
       let m1 = laid m (slot from * most) part in
       let lens1 = set lens (slot from) (length part) in
       let e = last-place slots from p in
@@ -452,10 +452,10 @@ module _ (slot : ℕ → ℕ) (total most slots : ℕ) (u : List ℕ) (map : Slo
       kept
       ∙ ap (λ (k : ℕ). segmentIn most m1 lens1 (slot k)) e
       ∙ filed-same total most m lens (slot from) part sized (map .bound from p) (fits most u j)
-      ∙ ap (segmentOf most u) z
+      ∙ ap (segmentCut most u) z
   filed-octets-in m lens (suc n) j from (suc i) sized p b h =
       let next = roundOf slots (from + 1) in
-      let part = segmentOf most u j in
+      let part = segmentCut most u j in
       let m1 = laid m (slot from * most) part in
       let lens1 = set lens (slot from) (length part) in
       let z : j + 1 + i ≡ j + suc i = omega arith in
@@ -466,25 +466,25 @@ module _ (slot : ℕ → ℕ) (total most slots : ℕ) (u : List ℕ) (map : Slo
       (next-lt slots from p)
       (omega arith)
       (omega arith)
-      ∙ ap (segmentOf most u) z
+      ∙ ap (segmentCut most u) z
 
 -- ---- segments of a unit, place by place, are the unit's octets
 
 pub octets-joined : (slot : ℕ → ℕ) (most : ℕ) (u m lens : List ℕ) (slots n j from : ℕ) → from < slots → n ≤ slots
-    → ((i : ℕ) → i < n → segmentIn most m lens (slot (roundOf slots (from + i))) ≡ segmentOf most u (j + i))
+    → ((i : ℕ) → i < n → segmentIn most m lens (slot (roundOf slots (from + i))) ≡ segmentCut most u (j + i))
     → octetsIn slot most m lens slots n from ≡ joined most u n j
 unfolding octetsIn joined
 octets-joined slot most u m lens slots zero j from p b each = refl
 octets-joined slot most u m lens slots (suc n) j from p b each =
     let next = roundOf slots (from + 1) in
     let z : j + 0 ≡ j = omega arith in
-    let first : segmentIn most m lens (slot from) ≡ segmentOf most u j =
-    ap (λ (k : ℕ). segmentIn most m lens (slot k)) (sym (first-place slots from p)) ∙ each 0 (omega arith) ∙ ap (segmentOf most u) z in
+    let first : segmentIn most m lens (slot from) ≡ segmentCut most u j =
+    ap (λ (k : ℕ). segmentIn most m lens (slot k)) (sym (first-place slots from p)) ∙ each 0 (omega arith) ∙ ap (segmentCut most u) z in
     ap₂ (λ (a b : List ℕ). a ++ b) first
     (octets-joined slot most u m lens slots n (j + 1) next (next-lt slots from p) (omega arith)
     (λ i h.
     let y : j + suc i ≡ j + 1 + i = omega arith in
-    ap (λ (k : ℕ). segmentIn most m lens (slot k)) (next-place slots from i p (omega arith)) ∙ each (suc i) (omega arith) ∙ ap (segmentOf most u) y))
+    ap (λ (k : ℕ). segmentIn most m lens (slot k)) (next-place slots from i p (omega arith)) ∙ each (suc i) (omega arith) ∙ ap (segmentCut most u) y))
 
 -- a unit that is filed and gathered is the unit
 pub filed-gathered : (slot : ℕ → ℕ) (total most slots : ℕ) (u m lens : List ℕ) (from : ℕ) → Slotted slot slots total → Sized total most m lens
@@ -552,31 +552,31 @@ flags-le count i = by (eqb count 1) (eqb i 0) (eqb (i + 1) count)
 
 -- ---- one segment more filed, in the slot t of the place s, and the place goes on: to file what is left is what it was
 module _ (slot : ℕ → ℕ) (total most slots : ℕ) (u m lens : List ℕ) (n i s t : ℕ) (part m1 lens1 : List ℕ) (next : ℕ)
-    (sized : Sized total most m lens) (p : t < total) (l : i < n) (there : t ≡ slot s) (is : part ≡ segmentOf most u i)
+    (sized : Sized total most m lens) (p : t < total) (l : i < n) (there : t ≡ slot s) (is : part ≡ segmentCut most u i)
     (in-mem : m1 ≡ laid m (t * most) part) (in-lens : lens1 ≡ set lens t (length part)) (on : next ≡ roundOf slots (s + 1)) where
-  mem-is : m1 ≡ laid m (t * most) (segmentOf most u i)
+  mem-is : m1 ≡ laid m (t * most) (segmentCut most u i)
   mem-is = in-mem ∙ ap (laid m (t * most)) is
 
-  lens-is : lens1 ≡ set lens t (length (segmentOf most u i))
+  lens-is : lens1 ≡ set lens t (length (segmentCut most u i))
   lens-is = in-lens ∙ ap (λ (q : List ℕ). set lens t (length q)) is
 
   pub turn-sized : Sized total most m1 lens1
   turn-sized =
       subst (λ (k : List ℕ). Sized total most k lens1) (sym mem-is)
-      (subst (λ (k : List ℕ). Sized total most (laid m (t * most) (segmentOf most u i)) k) (sym lens-is)
-      (one.filed-sized total most m lens t (segmentOf most u i) sized p (fits most u i)))
+      (subst (λ (k : List ℕ). Sized total most (laid m (t * most) (segmentCut most u i)) k) (sym lens-is)
+      (one.filed-sized total most m lens t (segmentCut most u i) sized p (fits most u i)))
 
   pub turn-mem : filedMem slot most slots u m1 (n - (i + 1)) (i + 1) next ≡ filedMem slot most slots u m (n - i) i s
   turn-mem =
       ap₂ (λ (k : List ℕ) (j : ℕ). filedMem slot most slots u k (n - (i + 1)) (i + 1) j)
-      (mem-is ∙ ap (λ (j : ℕ). laid m (j * most) (segmentOf most u i)) there)
+      (mem-is ∙ ap (λ (j : ℕ). laid m (j * most) (segmentCut most u i)) there)
       on
       ∙ sym (filed-mem-more slot most slots u m n i s l)
 
   pub turn-lens : filedLens slot most slots u lens1 (n - (i + 1)) (i + 1) next ≡ filedLens slot most slots u lens (n - i) i s
   turn-lens =
       ap₂ (λ (k : List ℕ) (j : ℕ). filedLens slot most slots u k (n - (i + 1)) (i + 1) j)
-      (lens-is ∙ ap (λ (j : ℕ). set lens j (length (segmentOf most u i))) there)
+      (lens-is ∙ ap (λ (j : ℕ). set lens j (length (segmentCut most u i))) there)
       on
       ∙ sym (filed-lens-more slot most slots u lens n i s l)
 

@@ -8,7 +8,7 @@ use Rattle.laws.specs.Choice.{if_then_else_}
 use Rattle.slots.specs.Ring.{roundOf}
 use Rattle.slots.specs.Marks.{markOf, ends}
 use Rattle.slots.specs.Slots.{laid, segmentIn}
-use Rattle.slots.specs.Units.{segmentOf, flagsOf}
+use Rattle.slots.specs.Units.{segmentCut, flagsOf}
 
 -- ---- where units end, by the marks
 
@@ -58,7 +58,7 @@ octetsIn slot most m lens slots (suc n) from =
 unfoldable pub filedMem : (ℕ → ℕ) → ℕ → ℕ → List ℕ → List ℕ → ℕ → ℕ → ℕ → List ℕ
 filedMem slot most slots u m zero i from = m
 filedMem slot most slots u m (suc n) i from =
-    filedMem slot most slots u (laid m (slot from * most) (segmentOf most u i)) n (i + 1) (roundOf slots (from + 1))
+    filedMem slot most slots u (laid m (slot from * most) (segmentCut most u i)) n (i + 1) (roundOf slots (from + 1))
 
 -- l with n values of f, the i-th where the map has a place, the next where it has the next place
 unfoldable pub filedBy : (ℕ → ℕ) → (ℕ → ℕ) → ℕ → List ℕ → ℕ → ℕ → ℕ → List ℕ
@@ -67,7 +67,7 @@ filedBy slot f slots l (suc n) i from = filedBy slot f slots (set l (slot from) 
 
 -- the lengths, with those of the unit's segments: by slot
 unfoldable pub filedLens : (ℕ → ℕ) → ℕ → ℕ → List ℕ → List ℕ → ℕ → ℕ → ℕ → List ℕ
-filedLens slot most slots u lens n i from = filedBy slot (λ (k : ℕ). length (segmentOf most u k)) slots lens n i from
+filedLens slot most slots u lens n i from = filedBy slot (λ (k : ℕ). length (segmentCut most u k)) slots lens n i from
 
 -- the marks, with those of a unit of `count` segments: by place
 unfoldable pub filedMarks : ℕ → ℕ → List ℕ → ℕ → ℕ → ℕ → List ℕ

@@ -29,7 +29,7 @@ use Rattle.table.specs.declared.surveying.Survey.{Survey}
 use Rattle.table.specs.declared.surveying.Spot.{Spot}
 use Rattle.table.specs.declared.deciding.Decision.{Decision}
 use Rattle.table.specs.Looking.{graded, missing, Chosen, chosenFrom, isFound, chosen as choice}
-use Rattle.table.specs.Lent.{areaOf, partOf, slotsOf, octetsOf, slotAt, octetAt, eachStands, lawful}
+use Rattle.table.specs.Lent.{areaOf, partOf, allSlots, allOctets, slotAt, octetAt, eachStands, lawful}
 use Rattle.table.specs.Serving.{blank, recordAt, ownMem, ownLens, Step, stored, serveOne, indexServed, toldOf}
 use Rattle.table.specs.Surveying.{begun, better, surveyOne, surveyed, isSound, decided, refusedBy, servedBy as served, roles, toldRoles, placed, mine, mineLens, wholly, stepping, Served}
 use Rattle.table.proofs.OneLaws.{decided-bad, decided-found, decided-none}
@@ -41,8 +41,8 @@ use Rattle.table.proofs.SurveyLaws.{each-stands, slots-within, octets-w
 pub record Lawful (t : List Channel) (mem lens : List ℕ) : Type 0 where
   pub some : 1 ≤ length t
   pub few : length t ≤ mostRecords
-  pub slots : length lens ≡ slotsOf t
-  pub octets : length mem ≡ octetsOf t
+  pub slots : length lens ≡ allSlots t
+  pub octets : length mem ≡ allOctets t
   pub stand : eachStands t lens ≡ true
 
 pub lawful-is : (t : List Channel) (mem lens : List ℕ) → lawful t mem lens ≡ true → Lawful t mem lens
@@ -57,7 +57,7 @@ lawful-is t mem lens e =
 pub is-lawful : (t : List Channel) (mem lens : List ℕ) → Lawful t mem lens → lawful t mem lens ≡ true
 unfolding lawful
 is-lawful t mem lens h =
-    simp (le-leb 1 (length t) (h .some), le-leb (length t) 16 (h .few), eq-eqb (length lens) (slotsOf t) (h .slots), eq-eqb (length mem) (octetsOf t) (h .octets), h .stand)
+    simp (le-leb 1 (length t) (h .some), le-leb (length t) 16 (h .few), eq-eqb (length lens) (allSlots t) (h .slots), eq-eqb (length mem) (allOctets t) (h .octets), h .stand)
 
 starts : (look : Look) → Going (begun look) 0
 starts look = record { sound = refl; few = omega arith; slots = omega arith; octets = omega arith; rank = omega arith }
@@ -89,7 +89,7 @@ module _ (look : Look) (t : List Channel) (lens : List ℕ) where
       from-law : Lawful t mem lens → isSound v (length t) (length mem) (length lens) ≡ true
       from-law h =
           let e = seen-good (h .few) (h .stand) in
-          simp (e, le-leb 1 (length t) (h .some), eq-eqb (0 + slotsOf t) (length lens) (zero-add (slotsOf t) ∙ sym (h .slots)), eq-eqb (0 + octetsOf t) (length mem) (zero-add (octetsOf t) ∙ sym (h .octets)))
+          simp (e, le-leb 1 (length t) (h .some), eq-eqb (0 + allSlots t) (length lens) (zero-add (allSlots t) ∙ sym (h .slots)), eq-eqb (0 + allOctets t) (length mem) (zero-add (allOctets t) ∙ sym (h .octets)))
 
       from-sound : isSound v (length t) (length mem) (length lens) ≡ true → Lawful t mem lens
       from-sound s =
@@ -101,8 +101,8 @@ module _ (look : Look) (t : List Channel) (lens : List ℕ) where
           record {
             some = leb-true _ _ (p1 .0);
             few = q .0;
-            slots = sym (eqb-true _ _ (p2 .1)) ∙ ap (λ (w : Survey). w .slots) e ∙ zero-add (slotsOf t);
-            octets = sym (eqb-true _ _ (p3 .1)) ∙ ap (λ (w : Survey). w .octets) e ∙ zero-add (octetsOf t);
+            slots = sym (eqb-true _ _ (p2 .1)) ∙ ap (λ (w : Survey). w .slots) e ∙ zero-add (allSlots t);
+            octets = sym (eqb-true _ _ (p3 .1)) ∙ ap (λ (w : Survey). w .octets) e ∙ zero-add (allOctets t);
             stand = q .1;
           }
 
@@ -161,13 +161,13 @@ module _ (look : Look) (t : List Channel) (mem lens : List ℕ) (h : Lawful t me
 
   pub found-slot : choice look t .rank < 3 → whole .spot .slot ≡ slotAt t (choice look t .at)
   found-slot f =
-      ap (λ (x : Spot). x .slot) (found-spot f) ∙ spot-lies look 0 0 0 t .slot ∙ zero-add (slotsOf (take (far look 0 t) t))
-      ∙ ap (λ (k : ℕ). slotsOf (take k t)) (sym at-far)
+      ap (λ (x : Spot). x .slot) (found-spot f) ∙ spot-lies look 0 0 0 t .slot ∙ zero-add (allSlots (take (far look 0 t) t))
+      ∙ ap (λ (k : ℕ). allSlots (take k t)) (sym at-far)
 
   pub found-octet : choice look t .rank < 3 → whole .spot .octet ≡ octetAt t (choice look t .at)
   found-octet f =
-      ap (λ (x : Spot). x .octet) (found-spot f) ∙ spot-lies look 0 0 0 t .octet ∙ zero-add (octetsOf (take (far look 0 t) t))
-      ∙ ap (λ (k : ℕ). octetsOf (take k t)) (sym at-far)
+      ap (λ (x : Spot). x .octet) (found-spot f) ∙ spot-lies look 0 0 0 t .octet ∙ zero-add (allOctets (take (far look 0 t) t))
+      ∙ ap (λ (k : ℕ). allOctets (take k t)) (sym at-far)
 
   pub found-below : choice look t .rank < 3 → choice look t .at < length t
   found-below f = rw at-far (chosen-suits look 0 t f .0)

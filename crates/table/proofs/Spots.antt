@@ -15,7 +15,7 @@ use Rattle.channel.specs.declared.record.Channel.{Channel}
 use Rattle.table.specs.declared.looking.Look.{Look}
 use Rattle.table.specs.declared.surveying.Spot.{Spot}
 use Rattle.table.specs.Looking.{graded, Chosen, chosenFrom}
-use Rattle.table.specs.Lent.{areaOf, slotsOf, octetsOf}
+use Rattle.table.specs.Lent.{areaOf, allSlots, allOctets}
 use Rattle.table.specs.Serving.{blank}
 use Rattle.table.specs.Surveying.{better}
 
@@ -78,11 +78,11 @@ chosen-at look j (c ∷ t) = go (leb (graded look j c) (chosenFrom look (j + 1) 
 -- where it lies
 pub record Lies (look : Look) (j s o : ℕ) (t : List Channel) : Type 0 where
   pub at : spotFrom look j s o t .at ≡ j + far look j t
-  pub slot : spotFrom look j s o t .slot ≡ s + slotsOf (take (far look j t) t)
-  pub octet : spotFrom look j s o t .octet ≡ o + octetsOf (take (far look j t) t)
+  pub slot : spotFrom look j s o t .slot ≡ s + allSlots (take (far look j t) t)
+  pub octet : spotFrom look j s o t .octet ≡ o + allOctets (take (far look j t) t)
 
 pub spot-lies : (look : Look) (j s o : ℕ) (t : List Channel) → Lies look j s o t
-unfolding spotFrom chosenFrom far slotsOf octetsOf
+unfolding spotFrom chosenFrom far allSlots allOctets
 spot-lies look j s o [] = record { at = sym (add-zero j); slot = sym (add-zero s); octet = sym (add-zero o) }
 spot-lies look j s o (c ∷ t) =
     go (leb (graded look j c) (chosenFrom look (j + 1) t .rank)) refl

@@ -18,7 +18,7 @@ use Rattle.channel.proofs.SettingsLaws.{fit-is}
 use Rattle.channel.proofs.StandingLaws.{stands-is}
 use Rattle.table.specs.declared.surveying.Survey.{Survey}
 use Rattle.table.specs.declared.surveying.Spot.{Spot}
-use Rattle.table.specs.Lent.{areaOf, partOf, slotsOf, octetsOf, eachStands}
+use Rattle.table.specs.Lent.{areaOf, partOf, allSlots, allOctets, eachStands}
 use Rattle.table.specs.Serving.{blank}
 use Rattle.table.specs.Surveying.{unsound, better, spotHere, noted, surveyOne}
 use Rattle.table.proofs.OneLaws.{one-spoilt, one-many, one-lacks, one-stands}
@@ -38,24 +38,24 @@ stands-both c t lens e e2 = ap₂ (λ (x y : Bool). x && y) e e2
 
 -- each stands with its own part
 pub each-stands : (t : List Channel) (lens : List ℕ) → eachStands t lens ≡ true → (k : ℕ) → k < length t
-    → standing (getD t k blank) (partOf (slotsOf (take k t)) (getD t k blank .limits .slots) lens) ≡ true
-unfolding slotsOf
+    → standing (getD t k blank) (partOf (allSlots (take k t)) (getD t k blank .limits .slots) lens) ≡ true
+unfolding allSlots
 each-stands [] lens e k h = absurd (not-suc-le-zero h)
 each-stands (c ∷ t) lens e zero h = stands-first c t lens e .0
 each-stands (c ∷ t) lens e (suc k) h =
     let d = getD t k blank in
-    ap (λ (l : List ℕ). standing d (take (d .limits .slots) l)) (sym (drop-drop (slotsOf (take k t)) (c .limits .slots) lens))
+    ap (λ (l : List ℕ). standing d (take (d .limits .slots) l)) (sym (drop-drop (allSlots (take k t)) (c .limits .slots) lens))
     ∙ each-stands t (drop (c .limits .slots) lens) (stands-first c t lens e .1) k (le-of-suc-le-suc h)
 
 -- its part lies within the whole
-pub slots-within : (t : List Channel) (k : ℕ) → k < length t → slotsOf (take k t) + getD t k blank .limits .slots ≤ slotsOf t
-unfolding slotsOf
+pub slots-within : (t : List Channel) (k : ℕ) → k < length t → allSlots (take k t) + getD t k blank .limits .slots ≤ allSlots t
+unfolding allSlots
 slots-within [] k h = absurd (not-suc-le-zero h)
 slots-within (c ∷ t) zero h = omega arith
 slots-within (c ∷ t) (suc k) h = omega (arith, slots-within t k (le-of-suc-le-suc h))
 
-pub octets-within : (t : List Channel) (k : ℕ) → k < length t → octetsOf (take k t) + areaOf (getD t k blank .limits) ≤ octetsOf t
-unfolding octetsOf
+pub octets-within : (t : List Channel) (k : ℕ) → k < length t → allOctets (take k t) + areaOf (getD t k blank .limits) ≤ allOctets t
+unfolding allOctets
 octets-within [] k h = absurd (not-suc-le-zero h)
 octets-within (c ∷ t) zero h = omega arith
 octets-within (c ∷ t) (suc k) h = omega (arith, octets-within t k (le-of-suc-le-suc h))
@@ -104,8 +104,8 @@ finally v j t =
     record {
       look = v .look;
       sound = true;
-      slots = v .slots + slotsOf t;
-      octets = v .octets + octetsOf t;
+      slots = v .slots + allSlots t;
+      octets = v .octets + allOctets t;
       spot = better (v .spot) (spotFrom (v .look) j (v .slots) (v .octets) t);
     }
 
@@ -115,7 +115,7 @@ stands-none lens = refl
 
 -- with no record left it is what it was
 none : (v : Survey) (j : ℕ) → Going v j → v ≡ finally v j []
-unfolding slotsOf octetsOf spotFrom
+unfolding allSlots allOctets spotFrom
 none v j g =
     ap (λ (b : Bool). record { look = v .look; sound = b; slots = v .slots; octets = v .octets; spot = v .spot }) (g .sound)
     ∙ ap (λ (s : ℕ). record { look = v .look; sound = true; slots = s; octets = v .octets; spot = v .spot }) (sym (add-zero (v .slots)))
@@ -125,15 +125,15 @@ none v j g =
 
 -- the record counted, and those behind it: counted together
 noted-finally : (v : Survey) (c : Channel) (j : ℕ) (t : List Channel) → finally (noted v c j) (suc j) t ≡ finally v j (c ∷ t)
-unfolding slotsOf octetsOf spotFrom
+unfolding allSlots allOctets spotFrom
 noted-finally v c j t =
     let one : suc j ≡ j + 1 = omega arith in
     let rest : ℕ → Spot = λ i. spotFrom (v .look) i (v .slots + c .limits .slots) (v .octets + areaOf (c .limits)) t in
     let spots : better (better (v .spot) (spotHere v c j)) (rest (suc j)) ≡ better (v .spot) (spotFrom (v .look) j (v .slots) (v .octets) (c ∷ t)) =
     ap (λ (i : ℕ). better (better (v .spot) (spotHere v c j)) (rest i)) one ∙ weighed (v .spot) (spotHere v c j) (rest (j + 1)) in
-    ap (λ (s : ℕ). record { look = v .look; sound = true; slots = s; octets = v .octets + areaOf (c .limits) + octetsOf t; spot = better (better (v .spot) (spotHere v c j)) (rest (suc j)) }) (add-assoc (v .slots) (c .limits .slots) (slotsOf t))
-    ∙ ap (λ (o : ℕ). record { look = v .look; sound = true; slots = v .slots + (c .limits .slots + slotsOf t); octets = o; spot = better (better (v .spot) (spotHere v c j)) (rest (suc j)) }) (add-assoc (v .octets) (areaOf (c .limits)) (octetsOf t))
-    ∙ ap (λ (x : Spot). record { look = v .look; sound = true; slots = v .slots + (c .limits .slots + slotsOf t); octets = v .octets + (areaOf (c .limits) + octetsOf t); spot = x }) spots
+    ap (λ (s : ℕ). record { look = v .look; sound = true; slots = s; octets = v .octets + areaOf (c .limits) + allOctets t; spot = better (better (v .spot) (spotHere v c j)) (rest (suc j)) }) (add-assoc (v .slots) (c .limits .slots) (allSlots t))
+    ∙ ap (λ (o : ℕ). record { look = v .look; sound = true; slots = v .slots + (c .limits .slots + allSlots t); octets = o; spot = better (better (v .spot) (spotHere v c j)) (rest (suc j)) }) (add-assoc (v .octets) (areaOf (c .limits)) (allOctets t))
+    ∙ ap (λ (x : Spot). record { look = v .look; sound = true; slots = v .slots + (c .limits .slots + allSlots t); octets = v .octets + (areaOf (c .limits) + allOctets t); spot = x }) spots
 
 -- every record stands, and there are not too many
 pub survey-good : (lens : List ℕ) (j : ℕ) (v : Survey) (t : List Channel) → Going v j → j + length t ≤ 16

@@ -15,13 +15,13 @@ abbrev pub areaOf : Limits → ℕ
 areaOf l = l .slots * l .payload
 
 -- the slots and the octets of all records together
-unfoldable pub slotsOf : List Channel → ℕ
-slotsOf [] = 0
-slotsOf (c ∷ t) = c .limits .slots + slotsOf t
+unfoldable pub allSlots : List Channel → ℕ
+allSlots [] = 0
+allSlots (c ∷ t) = c .limits .slots + allSlots t
 
-unfoldable pub octetsOf : List Channel → ℕ
-octetsOf [] = 0
-octetsOf (c ∷ t) = areaOf (c .limits) + octetsOf t
+unfoldable pub allOctets : List Channel → ℕ
+allOctets [] = 0
+allOctets (c ∷ t) = areaOf (c .limits) + allOctets t
 
 -- ---- a channel's own part
 
@@ -31,10 +31,10 @@ partOf from n l = take n (drop from l)
 
 -- where the lengths and the octets of the record at index i begin: behind those before it
 abbrev pub slotAt : List Channel → ℕ → ℕ
-slotAt t i = slotsOf (take i t)
+slotAt t i = allSlots (take i t)
 
 abbrev pub octetAt : List Channel → ℕ → ℕ
-octetAt t i = octetsOf (take i t)
+octetAt t i = allOctets (take i t)
 
 -- ---- the test for 13
 
@@ -48,6 +48,6 @@ unfoldable pub lawful : List Channel → List ℕ → List ℕ → Bool
 lawful t mem lens =
     leb 1 (length t)
     && leb (length t) mostRecords
-    && eqb (length lens) (slotsOf t)
-    && eqb (length mem) (octetsOf t)
+    && eqb (length lens) (allSlots t)
+    && eqb (length mem) (allOctets t)
     && eachStands t lens

@@ -5,7 +5,7 @@ use mathlib.Core.Path.{ap}
 use Rattle.walks_lending.proofs.DoorTaking.{door-taking-meets}
 use Rattle.walks.specs.Serving.{leaves, saying}
 use Rattle.node.specs.declared.request.Request.the-variants.{Transfer}
-use Rattle.node.specs.Calls.{servedIndex, transferred}
+use Rattle.node.specs.Calls.{servedIndex, transferCall}
 use Rattle.host.specs.Said.{saidOf, saidAt}
 use Rattle.host.proofs.Types.{door, index}
 use Rattle.host.proofs.asking.transfer_asked as ask
@@ -27,7 +27,7 @@ unfolding code.routine tablesOf
 peat-transfer-spec 𝓤 H 𝓜 𝓖 𝓡 =
     entered 𝓤 H (tripleOf 𝓤 H (𝓖 .A) this.signature (this.spec 𝓤 H (𝓖 .A) (𝓜 .mem) (𝓡 .run)))
     (tables 𝓤 H 𝓜 𝓡 code.env .C) (tables 𝓤 H 𝓜 𝓡 code.env .Λ) #host·calls·peat-transfer code.function (code.unfolded 𝓤 H 𝓜 𝓡)
-    (door-taking-meets door index (λ ys m l i x r zs m′ l′. leaves r zs m′ l′ [] ≡ saidAt (servedIndex ys m l (Transfer i) x []) (transferred ys m l i x)) Transfer
+    (door-taking-meets door index (λ ys m l i x r zs m′ l′. leaves r zs m′ l′ [] ≡ saidAt (servedIndex ys m l (Transfer i) x []) (transferCall ys m l i x)) Transfer
     (λ ys m l i x r zs m′ l′ e. ap (saying saidOf) e)
     ask-def.name serve-def.name said-of-def.name 𝓤 H (𝓖 .A) (givenOf 𝓤 H 𝓜 𝓖) (tablesOf 𝓤 H 𝓜 (tables 𝓤 H 𝓜 𝓡 code.env))
     (cited 𝓤 H (tripleOf 𝓤 H (𝓖 .A) ask.signature (ask.spec 𝓤 H (𝓖 .A) (𝓜 .mem) (𝓡 .run))) 𝓜 𝓡 code.env ask-def.name ask-def.routine code.calls-host·asking·transfer-asked (ask-thm.met 𝓤 H 𝓜 𝓖 𝓡))

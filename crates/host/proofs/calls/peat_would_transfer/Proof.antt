@@ -9,7 +9,7 @@ use Rattle.walks.specs.Serving.{Called, changes}
 use Rattle.channel.specs.declared.record.Channel.{Channel}
 use Rattle.table.specs.declared.deciding.Told.{Told}
 use Rattle.node.specs.declared.request.Request.the-variants.{WouldTransfer}
-use Rattle.node.specs.Calls.{servedIndex, wouldAnswer}
+use Rattle.node.specs.Calls.{servedIndex, questionCall}
 use Rattle.keeps.proofs.Staying.{question-stays, question-changes-nothing}
 use Rattle.host.specs.Said.{saidOf, toldAt}
 use Rattle.host.proofs.Types.{door, index}
@@ -32,7 +32,7 @@ unfolding code.routine tablesOf
 peat-would-transfer-spec 𝓤 H 𝓜 𝓖 𝓡 =
     entered 𝓤 H (tripleOf 𝓤 H (𝓖 .A) this.signature (this.spec 𝓤 H (𝓖 .A) (𝓜 .mem) (𝓡 .run)))
     (tables 𝓤 H 𝓜 𝓡 code.env .C) (tables 𝓤 H 𝓜 𝓡 code.env .Λ) #host·calls·peat-would-transfer code.function (code.unfolded 𝓤 H 𝓜 𝓡)
-    (door-two-meets door index index (λ ys m l i j r zs m′ l′. (changes r zs ≡ toldAt (servedIndex ys m l (WouldTransfer i j) [] []) (wouldAnswer ys m l i j)) × (zs ≡ ys) × (m′ ≡ m) × (l′ ≡ l)) WouldTransfer
+    (door-two-meets door index index (λ ys m l i j r zs m′ l′. (changes r zs ≡ toldAt (servedIndex ys m l (WouldTransfer i j) [] []) (questionCall ys m l i j)) × (zs ≡ ys) × (m′ ≡ m) × (l′ ≡ l)) WouldTransfer
     (λ ys m l i j r zs m′ l′ e. (ap (λ (w : Called Told Channel). changes (saidOf (w .answer)) (w .table)) e, ap (λ (w : Called Told Channel). w .table) e ∙ question-changes-nothing ys m l [] [] i j, ap (λ (w : Called Told Channel). w .mem) e ∙ question-stays ys m l [] [] i j .0, ap (λ (w : Called Told Channel). w .lens) e ∙ question-stays ys m l [] [] i j .1))
     ask-def.name serve-def.name said-of-def.name 𝓤 H (𝓖 .A) (givenOf 𝓤 H 𝓜 𝓖) (tablesOf 𝓤 H 𝓜 (tables 𝓤 H 𝓜 𝓡 code.env))
     (cited 𝓤 H (tripleOf 𝓤 H (𝓖 .A) ask.signature (ask.spec 𝓤 H (𝓖 .A) (𝓜 .mem) (𝓡 .run))) 𝓜 𝓡 code.env ask-def.name ask-def.routine code.calls-host·asking·would-asked (ask-thm.met 𝓤 H 𝓜 𝓖 𝓡))

@@ -6,7 +6,7 @@ use Prim.Native.Nat.{ℕ, _-_, _≤_}
 use native.Mathlib.Omega.{arith}
 use Rattle.channel.specs.declared.record.Addresses.{Addresses}
 use Rattle.channel.specs.Settings.{clash}
-use Rattle.settings.specs.Seeing.{addressesAt, taken}
+use Rattle.settings.specs.Seeing.{addressesAt, clashesSeen}
 use Rattle.settings.proofs.OneLaws.{taken-none, taken-here, taken-more}
 use Rattle.settings.proofs.seeing.is_taken.Statement.{statement}
 use Rattle.settings.proofs.seeing.is_taken.Tie as tie
@@ -16,13 +16,13 @@ use Rattle.channel.proofs.settings.is_clash.Reads as is-clash-reads
 use Rattle.settings.proofs.seeing.addresses_at.Reads as addresses-at-reads
 
 abbrev Inv-loop : tie.InvT-loop
-Inv-loop v n a i₀ i = (i ≤ n) × (taken v a (n - i) i ≡ taken v a n 0)
+Inv-loop v n a i₀ i = (i ≤ n) × (clashesSeen v a (n - i) i ≡ clashesSeen v a n 0)
 
 abbrev μ-loop : tie.MeasureT-loop
 μ-loop v n a i₀ i = n - i
 
 loop-holds : tie.Need-loop-holds Inv-loop μ-loop
-loop-holds c = let a = c .args in let e : a .n - 0 ≡ a .n = omega arith in (omega arith, ap (λ (k : ℕ). taken (a .v) (a .a) k 0) e)
+loop-holds c = let a = c .args in let e : a .n - 0 ≡ a .n = omega arith in (omega arith, ap (λ (k : ℕ). clashesSeen (a .v) (a .a) k 0) e)
 
 addresses-at-requires : tie.Need-addresses-at-requires Inv-loop μ-loop
 addresses-at-requires c κs = omega arith

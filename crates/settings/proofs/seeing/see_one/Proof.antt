@@ -5,7 +5,7 @@ use mathlib.Core.Bool.{true, false}
 use borrow.Author.Tests.{not-true, not-false}
 use native.Mathlib.Omega.{arith}
 use Rattle.channel.specs.Settings.{fit}
-use Rattle.settings.specs.Seeing.{taken}
+use Rattle.settings.specs.Seeing.{clashesSeen}
 use Rattle.settings.proofs.OneLaws.{bounded, one-spoilt, one-many, one-slots, one-octets, one-unfit, one-taken, one-noted}
 use borrow.Author.Needs.{needs}
 use Rattle.settings.proofs.seeing.see_one.Statement.{statement}
@@ -54,13 +54,13 @@ spoilt-requires-5 : tie.Need-spoilt-requires-5
 spoilt-requires-5 c κs = search needs
 
 returns-6 : tie.Need-returns-6
-returns-6 c = let a = c .before .before .before .before .before .before .before .before .before .before .before .before .before .args in let f : fit (a .s) ≡ true = sym (c .before .before .before .before .is-fit .ensures) ∙ not-false _ (c .before .before .before .if5 .left) in let t : taken (a .v) (a .s .addresses) (a .j) 0 ≡ true = sym (c .before .before .is-taken .ensures) ∙ c .before .if6 .taken in c .spoilt5 .ensures ∙ sym (one-taken (a .v) (a .s) (a .lens .now) (a .j) (not-false _ (c .before .before .before .before .before .before .before .before .before .before .if1 .left)) (c .before .before .before .before .before .before .before .before .before .if2 .left) (c .before .before .before .before .before .before .before .if3 .left) (c .before .before .before .before .before .if4 .left) f t)
+returns-6 c = let a = c .before .before .before .before .before .before .before .before .before .before .before .before .before .args in let f : fit (a .s) ≡ true = sym (c .before .before .before .before .is-fit .ensures) ∙ not-false _ (c .before .before .before .if5 .left) in let t : clashesSeen (a .v) (a .s .addresses) (a .j) 0 ≡ true = sym (c .before .before .is-taken .ensures) ∙ c .before .if6 .taken in c .spoilt5 .ensures ∙ sym (one-taken (a .v) (a .s) (a .lens .now) (a .j) (not-false _ (c .before .before .before .before .before .before .before .before .before .before .if1 .left)) (c .before .before .before .before .before .before .before .before .before .if2 .left) (c .before .before .before .before .before .before .before .if3 .left) (c .before .before .before .before .before .if4 .left) f t)
 
 note-requires : tie.Need-note-requires
 note-requires c κs = let a = c .before .before .before .before .before .before .before .before .before .before .before .before .args in let f : fit (a .s) ≡ true = sym (c .before .before .before .is-fit .ensures) ∙ not-false _ (c .before .before .if5 .left) in let b = bounded (a .s) f in (c .before .before .before .before .before .before .before .before .if2 .left, b .0, b .1, omega (arith, c .before .before .before .before .before .before .if3 .left), c .before .before .before .before .if4 .left)
 
 returns-7 : tie.Need-returns-7
-returns-7 c = let a = c .before .before .before .before .before .before .before .before .before .before .before .before .before .args in let f : fit (a .s) ≡ true = sym (c .before .before .before .before .is-fit .ensures) ∙ not-false _ (c .before .before .before .if5 .left) in let t : taken (a .v) (a .s .addresses) (a .j) 0 ≡ false = sym (c .before .before .is-taken .ensures) ∙ c .before .if6 .left in c .note .ensures ∙ sym (one-noted (a .v) (a .s) (a .lens .now) (a .j) (not-false _ (c .before .before .before .before .before .before .before .before .before .before .if1 .left)) (c .before .before .before .before .before .before .before .before .before .if2 .left) (c .before .before .before .before .before .before .before .if3 .left) (c .before .before .before .before .before .if4 .left) f t)
+returns-7 c = let a = c .before .before .before .before .before .before .before .before .before .before .before .before .before .args in let f : fit (a .s) ≡ true = sym (c .before .before .before .before .is-fit .ensures) ∙ not-false _ (c .before .before .before .if5 .left) in let t : clashesSeen (a .v) (a .s .addresses) (a .j) 0 ≡ false = sym (c .before .before .is-taken .ensures) ∙ c .before .if6 .left in c .note .ensures ∙ sym (one-noted (a .v) (a .s) (a .lens .now) (a .j) (not-false _ (c .before .before .before .before .before .before .before .before .before .before .if1 .left)) (c .before .before .before .before .before .before .before .before .before .if2 .left) (c .before .before .before .before .before .before .before .if3 .left) (c .before .before .before .before .before .if4 .left) f t)
 
 pub see-one-spec : {M : Type 1} → statement M
 see-one-spec =
