@@ -184,7 +184,7 @@ module _
 
       filing-keeps : (r : List Segment) → Moved c (sender .line) (sender .next) (receiver .passed) r
           → (b : Bool) → (b ≡ true → f (length r) ≡ none)
-          → Inv c acc cnt back tak Out (λ j. ackedBy (ReceiverCall.arrival o q g) (Receiving.settled b receiver f r .1) j (Back j)) sender (Receiving.settled b receiver f r .0)
+          → Inv c acc cnt back tak Out (λ j. ackedBy (ReceiverCall.arrival o q g) (Receiving.movedAnswer b receiver f r .1) j (Back j)) sender (Receiving.movedAnswer b receiver f r .0)
       filing-keeps r m b end =
           let copied : Copy c (sender .line) (sender .next) r f
           = record {
@@ -206,7 +206,7 @@ module _
           in
           let empty : receiver .filed (length (receiver .passed)) ≡ none = v .gap .early (open-early (receiver .phase) e) in
           let go : (t : Bool) → b ≡ t
-          → Inv c acc cnt back tak Out (λ j. ackedBy (ReceiverCall.arrival o q g) (Receiving.settled t receiver f r .1) j (Back j)) sender (Receiving.settled t receiver f r .0)
+          → Inv c acc cnt back tak Out (λ j. ackedBy (ReceiverCall.arrival o q g) (Receiving.movedAnswer t receiver f r .1) j (Back j)) sender (Receiving.movedAnswer t receiver f r .0)
           = λ t. elim t [
             | true ↦ λ y.
                 let got : (j : ℕ) → Back′ j → f j ≡ none → j < length r

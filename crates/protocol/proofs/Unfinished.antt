@@ -75,7 +75,7 @@ module _ (c : Limits) (some-segments : 1 ≤ c .segments) where
       in go (f (length l))
 
   module _ (r : Receiver) (h : Short (r .passed)) where
-    settled-short : (b : Bool) (f : ℕ → Option Segment) (l : List Segment) → Short l → Short (Receiving.settled b r f l .0 .passed)
+    settled-short : (b : Bool) (f : ℕ → Option Segment) (l : List Segment) → Short l → Short (Receiving.movedAnswer b r f l .0 .passed)
     settled-short true f l p = p
     settled-short false f l p = p
 
