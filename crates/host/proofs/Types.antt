@@ -1,4 +1,5 @@
 -- The plain types of the calls, as the walks take them.
+use mathlib.Core.Path.{_≡_}
 use mir.Syntax.{w64}
 use Rattle.channel.proofs.record.Settings as X
 use Rattle.channel.proofs.record.Settings.Laws as X′
