@@ -1,4 +1,4 @@
--- WHAT THE WALKS OF THE FUNCTIONS THAT LEND ON ALL THAT THEY ARE LENT SHARE (`LentCall.antt` and the others of this crate). Whatever its parameters,
+-- WHAT THE WALKS OF THE FUNCTIONS THAT LEND ON ALL THAT THEY ARE LENT SHARE (`LentSweeping.antt`, `LentMaking.antt`, `Door.antt`). Whatever its parameters,
 -- such a function passes them all, whole, to a call `perform` that has the same, and the answer to a covered function `turn`, and gives back what
 -- `turn` gives. So what it is passed is what `perform` asks, and what `perform` leaves of it is what it has to leave: neither is taken apart.
 --     Part             a parameter: its slot in a signature, its machine values, and that what it owns tells them
