@@ -98,7 +98,8 @@ PeatSaid peat_next_packet(PeatChannel *table, size_t records, uint8_t *memory, s
  * and with 14 the index is that of no channel, below that of the channel found.
  *   13      as above
  *   11      the reply buffer has under 12 octets, whatever came: length is 12
- *   1, 2, 4, 3  the packet is refused alone; 3 also for another node's destination or protocol ID
+ *   1, 2, 4, 3  the packet is refused alone; 3 also for Data with flags first or continuation and no payload, and for another node's
+ *           destination or protocol ID
  *   14      no record has its channel number and source: Data and Control look for a receiver, Acks for a sender
  *   3       Data with a payload over P
  *   5       the state does not allow it
@@ -128,11 +129,12 @@ PeatSaid peat_tick(PeatChannel *table, size_t records, const uint8_t *memory, si
 /* The check sum of any octets: x^16+x^12+x^5+1, all ones at the start, top bit first, not inverted. Nothing is written. */
 uint16_t peat_crc(const uint8_t *octets, size_t count);
 
-/* Reads a packet where it lies: 1, 2, 4, 3 in this order, else 0. Nothing is written. */
+/* Reads a packet where it lies: 1, 2, 4, 3 in this order, else 0. Nothing is written. 3 is also for Data that does not end its unit (flags
+ * first or continuation) and has no payload. */
 PeatReading peat_read_packet(const uint8_t *packet, size_t count);
 
-/* Writes a packet: 4, 3 (also a payload over 65,535 octets), 11 in this order and out as it was, with 11 its whole length being told; else
- * 0, the packet at the front of out and its octets past it as they were. */
+/* Writes a packet: 4, 3 (as when read, and for a payload over 65,535 octets), 11 in this order and out as it was, with 11 its whole length
+ * being told; else 0, the packet at the front of out and its octets past it as they were. */
 PeatWriting peat_write_packet(PeatFields fields, const uint8_t *payload, size_t payload_count, uint8_t *out, size_t count);
 
 #ifdef __cplusplus

@@ -15,8 +15,10 @@ use Rattle.channel.specs.Places.{slotOf}
 use Rattle.packet.specs.declared.kinds.Kind.the-variants.{Data, Open, Close}
 use Rattle.packet.specs.Kinds.{codeOf, kindOf, isData}
 use Rattle.packet.specs.declared.fields.Fields.{Fields}
+use Rattle.packet.specs.declared.reading.Read.the-variants.{Found}
 use Rattle.packet.specs.declared.writing.Written.the-variants as written
 use Rattle.packet.specs.Layout.{payloadAt, wholeLength, fieldsAt}
+use Rattle.packet.specs.Reading.{readOf}
 use Rattle.packet.specs.Writing.{afterWrite}
 use Rattle.packet.proofs.WriteLaws.{write-done}
 use Rattle.packet.proofs.ReadLaws.{accepted}
@@ -87,8 +89,9 @@ module _ (c : Channel) (mem lens : List ℕ) (rank : ℕ) where
 
 -- ---- the packet
 
--- these octets are the packet of the rank
+-- these octets are the packet of the rank, and are read as that
 pub record Carries (node : Node) (c : Channel) (mem lens : List ℕ) (rank : ℕ) (packet : List ℕ) : Type 0 where
+  pub read : readOf packet ≡ Found (nextFields node c rank) (payloadAt (nextFields node c rank)) (length (nextPayload c lens mem rank))
   pub fields : fieldsAt packet ≡ nextFields node c rank
   pub payload : payloadIn packet ≡ nextPayload c lens mem rank
 
@@ -130,7 +133,7 @@ module _ (node : Node) (c : Channel) (mem lens : List ℕ) (a : Asked c mem lens
           in (
             subst (λ (f : Fields). Plain f (length (nextPayload c lens mem rank))) (sym (next-data node c rank some))
                 (data-plain node (c .addresses) (getD (c .marks) (placeAt c i) 0 - 1) ((c .window .start + i) % 256) (length (nextPayload c lens mem rank))
-                (omega (arith, there .mark)) (omega (arith, p, there .short, there .most))),
+                (omega (arith, there .mark)) (omega (arith, p, there .short, there .most)) (λ z. omega (arith, there .ends (sym p ∙ z)))),
             ap (outgoingLength (c .addresses)) (sym p),
           )
 
@@ -145,7 +148,7 @@ module _ (node : Node) (c : Channel) (mem lens : List ℕ) (a : Asked c mem lens
       let packet = take (wholeLength f (length p)) (afterWrite (written.Done (wholeLength f (length p))) f p out) in
       let got = accepted packet f (payloadAt f) (length p) (back .answer) in
       subst (λ (n : ℕ). Carries node c mem lens rank (take n (afterWrite (written.Done n) f p out))) (sym (plain .1))
-      (record { fields = got .fields; payload = ap (λ (n : ℕ). take n (drop (payloadAt f) packet)) (got .payload) ∙ back .payload })
+      (record { read = back .answer; fields = got .fields; payload = ap (λ (n : ℕ). take n (drop (payloadAt f) packet)) (got .payload) ∙ back .payload })
 
   -- a buffer that is too small, and one in which the packet is written
   pub hand-cases : (P : Worked Stepped → Type 0) (out : List ℕ)

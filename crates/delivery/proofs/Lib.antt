@@ -17,6 +17,7 @@ pub mod HostNow
 pub mod HostRequests
 pub mod HostUnits
 pub mod Replies
+pub mod Readable
 pub mod Run
 pub mod SubscriberArrivals
 pub mod SubscriberCalls

@@ -1,4 +1,5 @@
--- Demand 3 of the real calls: `Delivery` is the statement, the others are what it is said with.
+-- Demand 3 of the real calls: `Delivery` is the statement, `Calls` and `History` are what it is said with. `Readable` stands beside it.
 pub mod Calls
 pub mod History
 pub mod Delivery
+pub mod Readable

@@ -52,8 +52,12 @@ flags-small k g = go (isData k)
 payload-small : (k : Kind) (g x : ℕ) → payloadAllowed k g x ≡ true → x < 65536
 payload-small k g x = go (isData k)
   where
-    go : (t : Bool) → (if t then leb x 65535 else eqb x 0) ≡ true → x < 65536
-    go true e = omega (arith, leb-true x 65535 e)
+    counted : (z : Bool) → eqb x 0 ≡ z → (if z then leb 2 g else leb x 65535) ≡ true → x < 65536
+    counted true z e = omega (arith, eqb-true x 0 z)
+    counted false z e = omega (arith, leb-true x 65535 e)
+
+    go : (t : Bool) → (if t then (if eqb x 0 then leb 2 g else leb x 65535) else eqb x 0) ≡ true → x < 65536
+    go true e = counted (eqb x 0) refl e
     go false e = omega (arith, eqb-true x 0 e)
 
 pub sound : (f : Fields) (x : ℕ) → lacking f ≡ false → strange f x ≡ false → Sound f x

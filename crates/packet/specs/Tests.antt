@@ -13,7 +13,10 @@ use Rattle.packet.specs.declared.kinds.Kind.{Kind}
 use Rattle.packet.specs.Kinds.{kindOf, isData, carried}
 use Rattle.packet.specs.Layout.{least, wholeLength, fieldsAt, lengthAt}
 
--- the sequence flags of a packet that is whole (000, Table 4-1)
+-- the sequence flags of a segment that ends its unit, 10 if others came before it, 11 if it is the whole (000, Table 4-1)
+abbrev pub flagsLast : ℕ
+flagsLast = 2
+
 abbrev pub flagsWhole : ℕ
 flagsWhole = 3
 
@@ -38,9 +41,10 @@ lacking f = not (eqb (f .secondary) 0) || not (eqb (f .prefix) 0) || not (carrie
 abbrev pub flagsAllowed : Kind → ℕ → Bool
 flagsAllowed kind flags = if isData kind then leb flags flagsWhole else eqb flags flagsWhole
 
--- Data carries what two octets can count, every other packet nothing (000, 4.2.4.1)
+-- Data carries what two octets can count, and nothing only where it ends its unit (document 02, A8); every other packet carries nothing
+-- (000, 4.2.4.1)
 abbrev pub payloadAllowed : Kind → ℕ → ℕ → Bool
-payloadAllowed kind flags x = if isData kind then leb x 65535 else eqb x 0
+payloadAllowed kind flags x = if isData kind then (if eqb x 0 then leb flagsLast flags else leb x 65535) else eqb x 0
 
 unfoldable pub strange : Fields → ℕ → Bool
 strange f x =

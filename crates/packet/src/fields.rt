@@ -93,11 +93,14 @@ fn allows_flags(kind: Kind, flags: u8) -> bool
     flags == WHOLE
 }
 
-// The flags are not looked at in the base; they are what decides once empty middles are refused.
+// No empty middles: a segment that does not end its unit carries something.
 fn allows_payload(kind: Kind, flags: u8, length: usize) -> bool
     ensures { λ r. ⌜ r ≡ payloadAllowed kind flags length ⌝ }
 {
     if is_data(kind) {
+        if length == 0 {
+            return LAST <= flags;
+        }
         return length <= 65535;
     }
     length == 0

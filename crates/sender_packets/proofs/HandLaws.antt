@@ -10,7 +10,7 @@ use borrow.Author.Tests.{lt-ltb, le-ltb, le-leb, eq-eqb, ne-eqb, ltb-true, eqb-t
 use lib.Dec.{ltb, eqb}
 use lib.ListN.{length, getD}
 use Rattle.laws.specs.Choice.{if_then_else_}
-use Rattle.laws.proofs.Choice.{chosen, passed-by, not-first, both}
+use Rattle.laws.proofs.Choice.{chosen, passed-by, not-first, both, either-way}
 use Rattle.slots.specs.Ring.{roundOf}
 use Rattle.slots.specs.Slots.{segmentIn}
 use Rattle.channel.specs.Places.{slotOf}
@@ -19,7 +19,7 @@ use Rattle.packet.specs.declared.kinds.Kind.the-variants.{Data, Open, Close}
 use Rattle.packet.specs.declared.writing.Written.the-variants as written
 use Rattle.packet.specs.Kinds.{kindOf}
 use Rattle.packet.specs.Layout.{wholeLength}
-use Rattle.packet.specs.Tests.{lacking, strange, flagsWhole}
+use Rattle.packet.specs.Tests.{lacking, strange, flagsLast, flagsWhole}
 use Rattle.packet.specs.Writing.{afterWrite}
 use Rattle.channel.specs.declared.record.Node.{Node}
 use Rattle.channel.specs.declared.record.Addresses.{Addresses}
@@ -187,12 +187,16 @@ module _ (node : Node) (a : Addresses) where
     unfolding lacking kindOf
     data-base = refl
 
-    data-strange : flags ≤ 3 → x ≤ 1024 → strange (outgoingOf node a Data flags number) x ≡ false
+    -- one that does not end its unit is not empty
+    data-strange : flags ≤ 3 → x ≤ 1024 → (x ≡ 0 → flagsLast ≤ flags) → strange (outgoingOf node a Data flags number) x ≡ false
     unfolding strange kindOf
-    data-strange h k = simp (le-leb flags 3 h, le-leb x 65535 (omega arith))
+    data-strange h k some =
+        either-way (eqb x 0)
+        (λ e. simp (le-leb flags 3 h, e, le-leb flagsLast flags (some (eqb-true x 0 e))))
+        (λ e. simp (le-leb flags 3 h, e, le-leb x 65535 (omega arith)))
 
-    pub data-plain : flags ≤ 3 → x ≤ 1024 → Plain (outgoingOf node a Data flags number) x
-    data-plain h k = record { base = data-base; plain = data-strange h k; short = k }
+    pub data-plain : flags ≤ 3 → x ≤ 1024 → (x ≡ 0 → flagsLast ≤ flags) → Plain (outgoingOf node a Data flags number) x
+    data-plain h k some = record { base = data-base; plain = data-strange h k some; short = k }
 
 -- ---- the hand-out of each rank
 

@@ -21,7 +21,7 @@ use Rattle.slots.proofs.SlotLaws.{slot-in}
 use Rattle.channel.proofs.PlaceLaws.{slot-bound}
 use Rattle.store.proofs.Laws.{segment-length}
 use Rattle.sender_packets.proofs.HandLaws.{data-plain}
-use Rattle.sender.proofs.AskedLaws.{place-lt, mark-set, mark-fits}
+use Rattle.sender.proofs.AskedLaws.{place-lt, mark-set, mark-ends, mark-fits}
 
 -- where the segment lies: its mark by its place s, its length by its slot t, and its octets within the memory
 pub record Lying (c : Channel) (mem lens : List ℕ) (s t : ℕ) : Type 0 where
@@ -30,6 +30,7 @@ pub record Lying (c : Channel) (mem lens : List ℕ) (s t : ℕ) : Type 0 where
   pub least : 1 ≤ getD (c .marks) s 0
   pub mark : getD (c .marks) s 0 ≤ 4
   pub short : getD lens t 0 ≤ c .limits .payload
+  pub ends : getD lens t 0 ≡ 0 → 3 ≤ getD (c .marks) s 0
   pub inside : t * c .limits .payload + c .limits .payload ≤ length mem
   pub small : t * c .limits .payload + c .limits .payload ≤ 131072
   pub some : t < length lens
@@ -53,6 +54,7 @@ lying c mem lens a i l s t e f =
           least = pos-of-ne-zero (mark-set c lens h i l);
           mark = m .0;
           short = m .1;
+          ends = mark-ends c lens h i l;
           inside = omega (arith, slot-in (slotOf c (placeAt c i)) (c .limits .slots) (c .limits .payload) b, a .sized .exact);
           small = omega (
             arith,
@@ -92,7 +94,8 @@ module _ (c : Channel) (mem lens : List ℕ) (a : Asked c mem lens) (i s t : ℕ
     part-plain =
         let y = lying c mem lens a i l s t e f in
         subst (λ (x : Fields). Plain x (length part)) (sym is)
-        (data-plain node (c .addresses) (getD (c .marks) s 0 - 1) number (length part) (omega (arith, y .mark)) (omega (arith, part-length, y .short, y .most)))
+        (data-plain node (c .addresses) (getD (c .marks) s 0 - 1) number (length part) (omega (arith, y .mark)) (omega (arith, part-length, y .short, y .most))
+        (λ z. omega (arith, y .ends (sym part-length ∙ z))))
 
     pub part-step : (after : Channel) (k : ℕ) → sentStep c after (length part) k ≡ sentStep c after (getD lens (slotOf c (placeAt c i)) 0) k
     part-step after k = ap (λ (x : ℕ). sentStep c after x k) (part-length ∙ ap (λ (p : ℕ). getD lens p 0) (f ∙ ap (slotOf c) e))

@@ -37,21 +37,42 @@ fn say_sum(sum: u16) {
 // The flags of a first, middle, last and whole segment, on Data; and every other packet of the base.
 fn packet_controls() {
     say(b"Packet Control of a first, middle, last, whole segment:");
-    say_control(1, 0);
-    say_control(0, 0);
-    say_control(2, 0);
-    say_control(3, 0);
+    say_segment(1);
+    say_segment(0);
+    say_segment(2);
+    say_segment(3);
+    say(b"\nThe same with no payload, written: answers");
+    say_empty(1);
+    say_empty(0);
+    say_empty(2);
+    say_empty(3);
     say(b"\nPacket Control of a Data Ack, Open, Close, Control Ack:");
-    say_control(3, 1);
-    say_control(3, 2);
-    say_control(3, 3);
-    say_control(3, 7);
+    say_control(1);
+    say_control(2);
+    say_control(3);
+    say_control(7);
     say(b"\n");
 }
 
-fn say_control(flags: u8, kind: u8) {
+fn say_segment(flags: u8) {
+    let mut out = [0u8; 13];
+    packet::write_packet(fields(flags, 0), b"x", &mut out);
+    say(b" ");
+    say_octet(out[2]);
+}
+
+// An empty segment is written only where it ends its unit (document 02, A8).
+fn say_empty(flags: u8) {
     let mut out = [0u8; 12];
-    packet::write_packet(fields(flags, kind), b"", &mut out);
+    say(b" ");
+    say_number(
+        packet::written_number(packet::write_packet(fields(flags, 0), b"", &mut out)) as u64,
+    );
+}
+
+fn say_control(kind: u8) {
+    let mut out = [0u8; 12];
+    packet::write_packet(fields(3, kind), b"", &mut out);
     say(b" ");
     say_octet(out[2]);
 }

@@ -20,6 +20,8 @@ pub struct Faults {
     pub reserved: bool,
     /// 3: a payload on a type that is not Data.
     pub payload: bool,
+    /// 3: Data with flags 01 or 00 and no payload.
+    pub empty: bool,
 }
 
 /// How far a subfield's wrong value may reach.
@@ -34,15 +36,15 @@ pub enum Reach {
 impl Faults {
     /// Every combination of clauses.
     pub fn all() -> impl Iterator<Item = Faults> {
-        (0..128).map(Faults::of_number)
+        (0..=255).map(Faults::of_number)
     }
 
     /// Half the time none, else one alone or any combination: of all the
     /// combinations few are without test 4.
     pub fn some(noise: &mut Noise) -> Faults {
         let number = match noise.below(4) {
-            0 => 1 << noise.below(7),
-            1 => noise.below(128) as u8,
+            0 => 1 << noise.below(8),
+            1 => noise.octet(),
             _ => 0,
         };
         Faults::of_number(number)
@@ -50,6 +52,8 @@ impl Faults {
 
     fn of_number(number: u8) -> Faults {
         let bit = |place: u8| number >> place & 1 == 1;
+        // Only Data with flags that it may have can be empty where it must not.
+        let other_type_or_flags = bit(2) || bit(4) || bit(6);
         Faults {
             secondary: bit(0),
             prefix: bit(1),
@@ -58,6 +62,7 @@ impl Faults {
             flags: bit(4),
             reserved: bit(5),
             payload: bit(6),
+            empty: bit(7) && !other_type_or_flags,
         }
     }
 
@@ -65,7 +70,7 @@ impl Faults {
     pub fn answer(self) -> u32 {
         if self.secondary || self.prefix || self.kind {
             4
-        } else if self.version || self.flags || self.reserved || self.payload {
+        } else if self.version || self.flags || self.reserved || self.payload || self.empty {
             3
         } else {
             0
@@ -92,8 +97,11 @@ impl Faults {
 
     /// A payload length for fields with these faults, about as long as said.
     pub fn payload_length(self, fields: &Fields, about: usize) -> usize {
-        if fields.kind == kind::DATA {
-            about
+        let unfinished = [flags::FIRST, flags::CONTINUATION].contains(&fields.flags);
+        if self.empty {
+            0
+        } else if fields.kind == kind::DATA {
+            about.max(usize::from(unfinished))
         } else if self.payload {
             about.max(1)
         } else {
@@ -108,6 +116,8 @@ impl Faults {
             noise.one_of(&[kind::HEARTBEAT, kind::HEARTBEAT_ACK, kind::FLOW_CONTROL])
         } else if self.kind {
             noise.octet().max(8)
+        } else if self.empty {
+            DATA
         } else if self.payload || (self.flags && only_bits) || noise.one_in(2) {
             // On Data no payload is wrong, nor are flags of two bits.
             noise.one_of(&[DATA_ACK, OPEN, CLOSE, CONTROL_ACK])
@@ -121,6 +131,8 @@ impl Faults {
             subfield(self.flags, flags::WHOLE, 2, reach, noise)
         } else if self.flags {
             noise.octet().max(4)
+        } else if self.empty {
+            noise.one_of(&[flags::FIRST, flags::CONTINUATION])
         } else {
             noise.octet() & 0b11
         }

@@ -122,14 +122,16 @@ fn shape(settings: &Settings, sight: &Sight, breaks: bool, noise: &mut Noise) ->
         (false, true) => flags::LAST,
         (false, false) => flags::CONTINUATION,
     };
-    (flags, noise.below(most + 1))
+    // A segment that does not end its unit is not empty (document 02, A8).
+    let least = usize::from(!ends);
+    (flags, noise.below(most + 1).max(least))
 }
 
 /// A clause that a packet breaks, and its name.
 pub type Clause = (&'static str, fn(&mut Vec<u8>, &mut Noise));
 
 /// Every clause of the tests 1, 2, 4, 3 and 14 that a packet alone can break.
-pub const CLAUSES: [Clause; 13] = [
+pub const CLAUSES: [Clause; 14] = [
     ("clause: under 12 octets", |packet, noise| {
         packet.truncate(noise.below(12));
     }),
@@ -166,6 +168,12 @@ pub const CLAUSES: [Clause; 13] = [
     ),
     ("clause: reserved bits", |packet, _| {
         set(packet, 8, |one| one | 0x80)
+    }),
+    ("clause: an empty middle", |packet, noise| {
+        let flags = noise.below(2) as u8;
+        packet.splice(10..packet.len() - 2, []);
+        packet[3..5].copy_from_slice(&[0, 0]);
+        set(packet, 2, |one| one & !0x1F | flags << 3);
     }),
     ("clause: an Ack with payload", |packet, noise| {
         packet.splice(10..packet.len() - 2, [noise.octet()]);

@@ -175,7 +175,8 @@ fn what_the_proved_writer_writes_the_proved_reader_reads() {
     let noise = &mut Noise::new(0x5057_1E06);
     for _ in 0..5_000 {
         let fields = check::to_proved(&Faults::default().fields(Reach::Bits, noise));
-        let about = noise.below(400);
+        let least = usize::from(fields.flags < flags::LAST);
+        let about = noise.below(400).max(least);
         let length = if fields.kind == kind::DATA { about } else { 0 };
         let payload = noise.octets(length);
         let room = 12 + length + noise.below(9);

@@ -151,7 +151,7 @@ fn test_base(fields: &Fields) -> Result<(), Refusal> {
 
 /// Test 3: the other header fields, the payload length among them. Only Data
 /// has a payload in the base (000, 4.2.4.1), or flags other than 11 (000,
-/// 4.2.3.4.4).
+/// 4.2.3.4.4). Data with flags 01 or 00 has a payload (document 02, A8).
 fn test_header(fields: &Fields, payload: usize) -> Result<(), Refusal> {
     let data = fields.kind == kind::DATA;
     let flags_fit = if data {
@@ -159,8 +159,9 @@ fn test_header(fields: &Fields, payload: usize) -> Result<(), Refusal> {
     } else {
         fields.flags == flags::WHOLE
     };
+    let unfinished = [flags::FIRST, flags::CONTINUATION].contains(&fields.flags);
     let payload_fits = if data {
-        payload <= MOST_PAYLOAD
+        payload <= MOST_PAYLOAD && !(unfinished && payload == 0)
     } else {
         payload == 0
     };

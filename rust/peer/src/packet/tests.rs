@@ -96,6 +96,20 @@ fn every_base_type_without_payload_is_read() {
 }
 
 #[test]
+fn an_empty_segment_ends_its_unit() {
+    for unfinished in [flags::FIRST, flags::CONTINUATION] {
+        let full = written(&data(unfinished), b"x");
+        let emptied = [&full[..10], &full[11..]].concat();
+        let empty = changed(&emptied, &[(3, 0), (4, 0)]);
+        assert_eq!(read(&empty), Err(Refusal::Header));
+        assert_eq!(refused(data(unfinished), b"", 12), Refusal::Header);
+    }
+    for ends in [flags::LAST, flags::WHOLE] {
+        assert_eq!(read(&written(&data(ends), b"")).unwrap().length, 0);
+    }
+}
+
+#[test]
 fn octets_past_the_packet_stay() {
     let mut out = [NOISE; 20];
     assert_eq!(write(&data(flags::WHOLE), b"abc", &mut out), Ok(15));

@@ -79,7 +79,8 @@ impl Player {
             let length = noise.below(6);
             let all = [flags::WHOLE, flags::FIRST, flags::LAST, flags::CONTINUATION];
             let flags = all[noise.below(4).min(noise.below(4)).min(noise.below(4))];
-            data(0, channel, kind, number, flags, &noise.octets(length))
+            let least = usize::from(flags < flags::LAST);
+            data(0, channel, kind, number, flags, &noise.octets(length.max(least)))
         } else {
             let named = kind == DATA_ACK || noise.percent(3);
             let number = if named { number } else { 0 };

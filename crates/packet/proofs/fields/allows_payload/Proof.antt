@@ -12,10 +12,13 @@ is-data-requires : tie.Need-is-data-requires
 is-data-requires c κs = search needs
 
 returns : tie.Need-returns
-returns c = rw (← c .before .is-data .ensures, c .if1 .taken) (search settle)
+returns c = rw (← c .before .before .is-data .ensures, c .before .if1 .taken) (search settle)
 
 returns-2 : tie.Need-returns-2
-returns-2 c = rw (← c .before .is-data .ensures, c .if1 .left) (search settle)
+returns-2 c = rw (← c .before .before .is-data .ensures, c .before .if1 .taken) (search settle)
+
+returns-3 : tie.Need-returns-3
+returns-3 c = rw (← c .before .is-data .ensures, c .if1 .left) (search settle)
 
 pub allows-payload-spec : {M : Type 1} → statement M
-allows-payload-spec = tie.close (tie.spec is-data-requires returns returns-2)
+allows-payload-spec = tie.close (tie.spec is-data-requires returns returns-2 returns-3)

@@ -112,17 +112,37 @@ fn the_room_is_tested_before_the_flags() {
     assert_eq!(rig.node.state(0), Some(State::Open));
 }
 
-/// Empty first and middle segments are fine, and so are short ones: a receiver
-/// does not ask that all but the last have P octets.
+/// Short first and middle segments are fine: a receiver does not ask that all
+/// but the last have P octets. The last may be empty.
 #[test]
 fn segments_of_any_length() {
     let mut rig = Rig::receiving(RECEIVING);
     let segments = [
-        data(1, FIRST, b""),
-        data(2, CONTINUATION, b"abc"),
-        data(3, CONTINUATION, b""),
-        data(4, LAST, b"d"),
+        data(1, FIRST, b"a"),
+        data(2, CONTINUATION, b"bcd"),
+        data(3, CONTINUATION, b"e"),
+        data(4, LAST, b""),
     ];
     assert_eq!(segments.map(|packet| rig.arrive(&packet)), [0; 4]);
-    assert_eq!(rig.take(0), Ok(b"abcd".to_vec()));
+    assert_eq!(rig.take(0), Ok(b"abcde".to_vec()));
+}
+
+/// An empty first or middle segment is refused before its channel is looked
+/// for, and fills no slot (document 02, A8).
+#[test]
+fn no_empty_middles() {
+    let mut rig = Rig::receiving(RECEIVING);
+    let empty = |number, unfinished| {
+        let mut packet = data(number, LAST, b"");
+        packet[2] = packet[2] & !0x18 | unfinished << 3;
+        let body = packet.len() - 2;
+        let trailer = crate::crc::crc(&packet[..body]).to_be_bytes();
+        packet[body..].copy_from_slice(&trailer);
+        packet
+    };
+    assert_eq!(rig.arrive(&empty(1, FIRST)), 3);
+    assert_eq!(rig.arrive(&data(1, FIRST, b"a")), 0);
+    assert_eq!(rig.arrive(&empty(2, CONTINUATION)), 3);
+    assert_eq!(rig.arrive(&data(2, LAST, b"b")), 0);
+    assert_eq!(rig.take(0), Ok(b"ab".to_vec()));
 }

@@ -1,0 +1,49 @@
+-- No packet that a call hands out, and no reply, is refused by the reader: of every table, every memory and every buffer.
+-- Assumes nothing.
+use mathlib.Core.Path.{_≡_, refl, ap, _∙_}
+use mathlib.Core.List.{List}
+use mathlib.Core.Logic.{_⊎_, inl, inr, ⊎-elim}
+use Prim.Native.Nat.{ℕ}
+use native.Mathlib.Omega.{arith}
+use lib.ListN.{length, take}
+use Rattle.packet.specs.Reading.{readNumber}
+use Rattle.walks.specs.Serving.{Worked}
+use Rattle.channel.specs.declared.record.Node.{Node}
+use Rattle.channel.specs.declared.record.Channel.{Channel}
+use Rattle.channel.specs.declared.step.Stepped.{Stepped}
+use Rattle.channel.specs.Asked.{Asked}
+use Rattle.table.specs.declared.looking.Look.the-variants as look
+use Rattle.table.specs.Looking.{chosen as choice}
+use Rattle.table.specs.Serving.{recordAt, ownMem, ownLens, stored}
+use Rattle.requests.specs.Handing.{nextFor}
+use Rattle.requests.proofs.HandLaws.{ready-is}
+use Rattle.arrivals.specs.Finding.{lookOf}
+use Rattle.arrivals.specs.Arriving.{arrivalFor}
+use Rattle.node.specs.Calls.{nextPacketCall, arrivalCall}
+use Rattle.keeps.proofs.Serving.{servedAt, serve-cases}
+use Rattle.delivery.specs.Readable.{HandOutRead, ReplyRead}
+use Rattle.delivery.proofs.Handed.{hand-cases}
+use Rattle.delivery.proofs.Replies.{arrival-wrote}
+
+module _ (t : List Channel) (mem lens : List ℕ) (node : Node) (out : List ℕ) where
+  pub hand-out-read : HandOutRead (nextPacketCall t mem lens node out)
+  unfolding stored
+  hand-out-read =
+      serve-cases look.Ready (nextFor node) t mem lens out HandOutRead (λ e. absurd (omega (arith, e))) (λ e. absurd (omega (arith, e)))
+      (λ h below g.
+      let i = servedAt look.Ready (nextFor node) t mem lens out in
+      let asked : Asked (recordAt t i) (ownMem t i mem) (ownLens t i lens) = record { standing = g .standing; sized = g .sized } in
+      hand-cases node (recordAt t i) (ownMem t i mem) (ownLens t i lens) asked (choice look.Ready t .rank)
+      (ready-is (recordAt t i) (choice look.Ready t .rank) (g .suits) (g .found) .1)
+      (λ (w : Worked Stepped). HandOutRead (stored t mem lens i w)) out
+      (λ e. absurd (omega (arith, e)))
+      (λ n o carries e. ap readNumber (carries .read)))
+
+  pub reply-read : (packet : List ℕ) → ReplyRead (arrivalCall t mem lens node packet out)
+  unfolding stored
+  reply-read packet =
+      serve-cases (lookOf node packet (length out)) (arrivalFor node packet) t mem lens out ReplyRead (inl refl) (inl refl)
+      (λ h below g.
+      let i = servedAt (lookOf node packet (length out)) (arrivalFor node packet) t mem lens out in
+      ⊎-elim (λ e. inl e) (⊎-elim (λ a. inr (ap readNumber (a .read))) (λ a. inr (ap readNumber (a .1 .read))))
+      (arrival-wrote node packet out i (choice (lookOf node packet (length out)) t .rank) (recordAt t i) (ownMem t i mem) (ownLens t i lens) g))
