@@ -1,4 +1,6 @@
 pub mod Eight
+pub mod Falls
 pub mod Over
+pub mod Table
 pub mod Words
 pub mod Xor

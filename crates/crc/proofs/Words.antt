@@ -56,13 +56,13 @@ fall-twice-additive =
     (sum-additive (λ w. bitXor w (w / 2 ^ 8)) (λ w. w / 2 ^ 22)
     (sum-additive (λ w. w) (λ w. w / 2 ^ 8) same-additive (down-additive 8)) (down-additive 22)) (down-additive 32)
 
-fall-four-additive : Additive fallFour
+pub fall-four-additive : Additive fallFour
 unfolding fallFour
 fall-four-additive =
     sum-additive (λ w. bitXor w (w / 2 ^ 16)) (λ w. w / 2 ^ 44)
     (sum-additive (λ w. w) (λ w. w / 2 ^ 16) same-additive (down-additive 16)) (down-additive 44)
 
-fall-eight-additive : Additive fallEight
+pub fall-eight-additive : Additive fallEight
 unfolding fallEight
 fall-eight-additive = sum-additive (λ w. w) (λ w. w / 2 ^ 32) same-additive (down-additive 32)
 
@@ -72,7 +72,7 @@ spread-additive =
     sum-additive (λ t. bitXor t (t * 2 ^ 5 % 2 ^ 16)) (λ t. t * 2 ^ 12 % 2 ^ 16)
     (sum-additive (λ t. t) (λ t. t * 2 ^ 5 % 2 ^ 16) same-additive (shl-additive 5 16)) (shl-additive 12 16)
 
-folded-additive : Additive folded
+pub folded-additive : Additive folded
 unfolding folded
 folded-additive =
     after-additive fallOnce (λ w. spread (fallEight (fallFour (fallTwice w)) % 2 ^ 16)) fall-once-additive
@@ -81,7 +81,7 @@ folded-additive =
     (after-additive fallEight (λ w. spread (w % 2 ^ 16)) fall-eight-additive
     (after-additive (λ w. w % 2 ^ 16) spread (low-additive 16) spread-additive))))
 
-folded-lt : (w : ℕ) → folded w < 2 ^ 16
+pub folded-lt : (w : ℕ) → folded w < 2 ^ 16
 unfolding folded spread
 folded-lt w =
     let t = fallEight (fallFour (fallTwice (fallOnce w))) % 2 ^ 16 in
@@ -91,7 +91,7 @@ folded-lt w =
 
 -- ---- where they agree
 
-below : (f : ℕ → ℕ) (k : ℕ) → Additive f → AdditiveBelow k f
+pub below : (f : ℕ → ℕ) (k : ℕ) → Additive f → AdditiveBelow k f
 below f k h a b ha hb = h a b
 
 -- a register of 16 bits, folded, is the register 16 bits later
@@ -119,7 +119,7 @@ moved =
     refl
 
 -- an octet alone is as if it were added at the register's top
-low-octet : (b : ℕ) → b < 2 ^ 8 → folded b ≡ shifts 8 (b * 2 ^ 8)
+pub low-octet : (b : ℕ) → b < 2 ^ 8 → folded b ≡ shifts 8 (b * 2 ^ 8)
 unfolding agree folded fallOnce fallTwice fallFour fallEight spread shifts shiftOne
 low-octet =
     agreed folded (λ b. shifts 8 (b * 2 ^ 8)) 8 (below folded 8 folded-additive)

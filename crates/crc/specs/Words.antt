@@ -4,7 +4,7 @@
 -- A word of 64 bits stands for a polynomial, its top bit first. Times x^16, it is to be brought below x^16. Each x^16 is x^12 + x^5 + 1 (`poly`), so
 -- a bit of the word falls back onto the bits 4, 11 and 16 below it, and what falls there falls on. Past the word's low end lies the register.
 use Prim.Native.Nat.{ℕ, _+_, _*_, _/_, _%_, _^_}
-use mathlib.Core.List.{List}
+use mathlib.Core.List.{List, [], _∷_}
 use lib.Bits.{bitXor}
 use lib.ListN.{getD}
 
@@ -35,3 +35,16 @@ folded w = spread (fallEight (fallFour (fallTwice (fallOnce w))) % 2 ^ 16)
 -- the four octets from place i on as one number, the first at the top
 unfoldable pub fourAt : List ℕ → ℕ → ℕ
 fourAt s i = ((getD s i 0 * 256 + getD s (i + 1) 0) * 256 + getD s (i + 2) 0) * 256 + getD s (i + 3) 0
+
+-- the eight octets from place i on as one number
+unfoldable pub wordAt : List ℕ → ℕ → ℕ
+wordAt s i = fourAt s i * 2 ^ 32 + fourAt s (i + 4)
+
+-- one word more: the register is added at its top
+unfoldable pub wordInto : ℕ → ℕ → ℕ
+wordInto r w = folded (bitXor (r * 2 ^ 48) w)
+
+-- words one after the other, from the register r on
+unfoldable pub wordsInto : ℕ → List ℕ → ℕ
+wordsInto r [] = r
+wordsInto r (w ∷ l) = wordsInto (wordInto r w) l

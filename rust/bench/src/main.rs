@@ -83,12 +83,29 @@ fn each_call(channels: usize, rounds: usize) {
 }
 
 fn check_sums(rounds: usize) {
-    println!("\nNanoseconds a check sum       ours        peer  bit by bit   ratio to peer  to bit by bit");
+    print!("\nNanoseconds a check sum");
+    for kind in sums::KINDS {
+        print!(" {kind:>11}");
+    }
+    println!("   ratio to each of the others, and to 8 x 256 without the call (0 octets)");
+    let mut call = None;
     for length in sums::LENGTHS {
-        let [ours, plain, bits] = best(rounds, || sums::round(length));
+        let times = best(rounds, || sums::round(length));
+        let [ours, others @ ..] = times;
         let name = format!("{length} octets");
-        print!("{name:<22} {ours:>11.0} {plain:>11.0} {bits:>11.0}");
-        println!(" {:>15.3} {:>14.3}", plain / ours, bits / ours);
+        print!("{name:<23}");
+        for time in times {
+            print!(" {time:>11.0}");
+        }
+        for other in others {
+            print!(" {:>8.2}", other / ours);
+        }
+        let [call_ours, .., call_tables] = *call.get_or_insert(times);
+        if length > 0 {
+            let [.., tables] = others;
+            print!(" {:>8.2}", (tables - call_tables) / (ours - call_ours));
+        }
+        println!();
     }
     let [copy] = best(rounds, || [calls::record_copied()]);
     let size = std::mem::size_of::<proved::record::Channel>();
