@@ -76,7 +76,7 @@ typedef struct PeatAddresses {
 
 /* What the settings fix. */
 typedef struct PeatLimits {
-    size_t window;    /* k: a power of two, 1 to 64 */
+    size_t window;    /* k: a power of two, 1 to 128 */
     size_t slots;     /* k to 128 */
     size_t payload;   /* P, the most payload octets: 1 to 1,024 */
     size_t segments;  /* M, the most segments in a unit: 1 to slots */

@@ -4,11 +4,10 @@ use mathlib.Core.Path.{_≡_}
 use mathlib.Core.Bool.{Bool, true, false}
 use Prim.Native.Nat.{ℕ, _≤_}
 use native.Mathlib.Nat.{le-trans}
-use lib.Dec.{lit≤}
 use borrow.Author.Tests.{leb-true}
 use Rattle.laws.proofs.Choice.{both}
 use Rattle.channel.specs.declared.record.Limits.{Limits}
-use Rattle.channel.specs.Settings.{mostWindow, fitWindow, fitUnits, fitTimers, fitLimits, Fit}
+use Rattle.channel.specs.Settings.{fitWindow, fitUnits, fitTimers, fitLimits, Fit}
 
 pub fit-is : (l : Limits) → fitLimits l ≡ true → Fit l
 unfolding fitLimits fitWindow fitUnits fitTimers
@@ -18,15 +17,14 @@ fit-is l e =
     let w = both _ _ (q .0) in
     let w2 = both _ _ (w .0) in
     let w3 = both _ _ (w2 .0) in
-    let w4 = both _ _ (w3 .0) in
     let u = both _ _ (q .1) in
     let u2 = both _ _ (u .0) in
     let u3 = both _ _ (u2 .0) in
     let t = both _ _ (p .1) in
     let t2 = both _ _ (t .0) in
     record {
-      some = leb-true _ _ (w4 .0);
-      window = le-trans (leb-true (l .window) mostWindow (w4 .1)) (lit≤ tt);
+      some = leb-true _ _ (w3 .0);
+      window = le-trans (leb-true (l .window) (l .slots) (w2 .1)) (leb-true (l .slots) 128 (w .1));
       slots = leb-true _ _ (w2 .1);
       most = leb-true _ _ (w .1);
       octet = leb-true _ _ (u3 .0);

@@ -8,16 +8,15 @@ use Rattle.channel.specs.declared.record.Limits.{Limits}
 use Rattle.channel.specs.declared.record.Settings.{Settings}
 use Rattle.channel.specs.Record.{receives}
 
--- house cap: the most for the window. Every law of the window holds to 128
+-- the most for the window (document 02, A1; 000, 4.4.4.3): a sender and its receiver tell numbers apart up to it
 abbrev pub mostWindow : ℕ
-mostWindow = 64
+mostWindow = 128
 
--- window k a power of two, 1 to 64 (what divides 128 is a power of two); slots from k to 128
+-- window k a power of two, 1 to 128 (what divides 128 is a power of two); slots from k to 128
 unfoldable pub fitWindow : Limits → Bool
 fitWindow l =
     leb 1 (l .window)
-    && leb (l .window) mostWindow
-    && eqb (128 % l .window) 0
+    && eqb (mostWindow % l .window) 0
     && leb (l .window) (l .slots)
     && leb (l .slots) 128
 

@@ -6,8 +6,8 @@ use crate::record::Settings;
 ghost use mathlib.Core.Path.{_≡_};
 ghost use Rattle.channel.specs.Settings.{fitWindow, fitUnits, fitTimers, fitLimits, fit, clash};
 
-// The most that settings allow for the window; every law of the window holds to 128.
-const MOST_WINDOW: usize = 64;
+// The most that settings allow for the window.
+const MOST_WINDOW: usize = 128;
 
 pub fn is_fit(s: Settings) -> bool
     ensures { λ r. ⌜ r ≡ fit s ⌝ }
@@ -37,10 +37,7 @@ fn fits_window(l: Limits) -> bool
     if l.window < 1 {
         return false;
     }
-    if MOST_WINDOW < l.window {
-        return false;
-    }
-    if 128 % l.window != 0 {
+    if MOST_WINDOW % l.window != 0 {
         return false;
     }
     if l.slots < l.window {

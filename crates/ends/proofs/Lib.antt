@@ -15,3 +15,4 @@ pub mod Receivers
 pub mod ReceiverRefusals
 pub mod Rings
 pub mod Starred
+pub mod Windows

@@ -28,9 +28,13 @@ pub fn say_numbers() {
     say(b", of 65 ");
     say_transfer(&long);
     say(b"\nk 64, segment 1 repeated: at start 193 it is answered ");
-    say_repeated(193);
+    say_repeated(64, 193);
     say(b", at 194 ");
-    say_repeated(194);
+    say_repeated(64, 194);
+    say(b"\nk 128, segment 1 repeated: at start 129 it is answered ");
+    say_repeated(128, 129);
+    say(b", at 130 ");
+    say_repeated(128, 130);
     say(b"\n");
 }
 
@@ -50,11 +54,11 @@ fn say_transfer(body: &[u8]) {
 }
 
 // What the first segment is answered where it comes again, the window having moved on to a start.
-fn say_repeated(start: u8) {
+fn say_repeated(window: usize, start: u8) {
     let mut mem = [0u8; 4096];
     let mut lens = [0u16; 256];
     let mut out = [0u8; 64];
-    let moved = moved_to(start, &mut mem, &mut lens);
+    let moved = moved_to(window, start, &mut mem, &mut lens);
     let again = empty_packet(DATA, 1);
     let kept = ask(moved, ARRIVAL, &again, &mut mem, &mut lens, &mut out);
     let told = kept.told;
@@ -63,8 +67,8 @@ fn say_repeated(start: u8) {
 }
 
 // A receiver that was sent units of one empty segment, and has given each away.
-fn moved_to(start: u8, mem: &mut [u8], lens: &mut [u16]) -> [Channel; 2] {
-    let closed = facing(64, 128);
+fn moved_to(window: usize, start: u8, mem: &mut [u8], lens: &mut [u16]) -> [Channel; 2] {
+    let closed = facing(window, 128);
     let enabled = does(closed, OPEN, b"\x01", mem, lens);
     let opened = arrives(enabled, OPENS, 0, mem, lens);
     let mut table = opened;

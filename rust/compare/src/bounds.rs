@@ -19,15 +19,17 @@ const NODE: Node = Node {
 pub type Bound = (&'static str, fn(&mut Vec<Settings>));
 
 /// Each bound of document 01, one at a time: all else is good.
-pub const REFUSED: [Bound; 13] = [
+pub const REFUSED: [Bound; 14] = [
     ("settings: window 0", |table| table[0].window = 0),
     ("settings: window not a power of two", |table| {
         table[0].window = 3;
         table[0].slots = 8;
     }),
-    ("settings: window over 64", |table| {
-        table[0].window = 128;
-        table[0].slots = 128;
+    ("settings: window 96", |table| {
+        (table[0].window, table[0].slots) = (96, 128);
+    }),
+    ("settings: window over 128", |table| {
+        (table[0].window, table[0].slots) = (256, 128);
     }),
     ("settings: slots under the window", |table| {
         table[0].window = 8;
@@ -55,12 +57,15 @@ pub const REFUSED: [Bound; 13] = [
 ];
 
 /// Changes that lie just within the bounds.
-pub const ACCEPTED: [Bound; 7] = [
+pub const ACCEPTED: [Bound; 8] = [
     ("settings: window and slots 1", |table| {
         (table[0].window, table[0].slots, table[0].most_segments) = (1, 1, 1);
     }),
     ("settings: window 64, slots 128", |table| {
         (table[0].window, table[0].slots) = (64, 128);
+    }),
+    ("settings: window 128, slots 128", |table| {
+        (table[0].window, table[0].slots) = (128, 128);
     }),
     ("settings: P 1", |table| table[0].most_payload = 1),
     ("settings: P 1,024", |table| table[0].most_payload = 1_024),

@@ -28,7 +28,7 @@ pub fn is_lawful(table: &[Channel], octets: usize, lengths: &[u16]) -> bool {
 /// `fitLimits`: such as settings allow.
 fn fits(limits: &Limits) -> bool {
     limits.window.is_power_of_two()
-        && limits.window <= 64
+        && limits.window <= 128
         && (limits.window..=128).contains(&limits.slots)
         && (1..=1_024).contains(&limits.payload)
         && (1..=limits.slots).contains(&limits.segments)

@@ -16,7 +16,7 @@ pub enum Size {
     Small,
     /// Up to 16 records.
     Wide,
-    /// Windows up to 64, slots up to 128, payloads up to 1,024 octets.
+    /// Windows up to 128, slots up to 128, payloads up to 1,024 octets.
     Large,
 }
 
@@ -58,7 +58,7 @@ pub fn two_tables(size: Size, noise: &mut Noise) -> [Vec<Settings>; 2] {
 pub fn limits(size: Size, noise: &mut Noise) -> Settings {
     let large = size == Size::Large;
     let window: u32 = if large {
-        noise.one_of(&[16, 32, 64, 64])
+        noise.one_of(&[16, 32, 64, 128])
     } else {
         noise.one_of(&[1, 2, 4, 4, 8])
     };

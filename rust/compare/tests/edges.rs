@@ -153,7 +153,7 @@ fn the_longest_timers() {
 #[test]
 fn the_largest_table_and_the_longest_unit() {
     let largest = |channel| Settings {
-        window: 64,
+        window: 128,
         slots: 128,
         most_payload: 1_024,
         most_segments: 128,

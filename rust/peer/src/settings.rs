@@ -65,7 +65,7 @@ pub struct Settings {
     pub channel: u16,
     /// The logical address of the other end.
     pub remote: u8,
-    /// The window k, a power of two, 1 to 64.
+    /// The window k, a power of two, 1 to 128 (document 02, A1).
     pub window: u32,
     /// The slots, k to 128.
     pub slots: u32,
@@ -86,7 +86,7 @@ impl Settings {
     /// Whether every number lies in its range.
     fn in_range(&self) -> bool {
         self.window.is_power_of_two()
-            && self.window <= 64
+            && self.window <= 128
             && (self.window..=128).contains(&self.slots)
             && (1..=1_024).contains(&self.most_payload)
             && (1..=self.slots).contains(&self.most_segments)

@@ -31,7 +31,7 @@ pub struct Addresses {
 #[repr(C)]
 #[derive(Clone, Copy, Debug, Default, PartialEq, Eq)]
 pub struct Limits {
-    /// Window k: a power of two, 1 to 64.
+    /// Window k: a power of two, 1 to 128.
     pub window: usize,
     /// Slots: k to 128.
     pub slots: usize,

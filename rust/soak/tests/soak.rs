@@ -35,7 +35,7 @@ const STORMY: Weather = Weather {
 
 /// Window, slots, P and M: the least slots, slots that do not divide 256, units
 /// of one segment up to all slots, and the largest window.
-const SHAPES: [[usize; 4]; 9] = [
+const SHAPES: [[usize; 4]; 10] = [
     [1, 1, 3, 1],
     [1, 3, 1, 3],
     [2, 5, 4, 5],
@@ -45,6 +45,7 @@ const SHAPES: [[usize; 4]; 9] = [
     [8, 13, 1, 2],
     [16, 100, 2, 9],
     [64, 128, 4, 20],
+    [128, 128, 4, 20],
 ];
 
 fn limits([window, slots, payload, segments]: [usize; 4], retries: u16) -> Limits {

@@ -137,11 +137,24 @@ mod tests {
         assert_eq!(place(1, 194, 64), Place::InWindow(257));
     }
 
+    /// "At 128 every number is in the window or behind it"; at 64 some are in
+    /// neither (document 02, A1).
+    #[test]
+    fn no_number_is_elsewhere_at_128() {
+        let elsewhere = |window| {
+            let all = places(1, window, &(0..=255).collect::<Vec<u8>>());
+            all.iter().filter(|&&one| one == Place::Invalid).count()
+        };
+        assert_eq!((elsewhere(64), elsewhere(128)), (128, 0));
+        assert_eq!(place(1, 129, 128), Place::Behind);
+        assert_eq!(place(1, 130, 128), Place::InWindow(257));
+    }
+
     /// Every number has one place, and each window has k numbers in it and k
     /// behind it.
     #[test]
     fn k_numbers_in_the_window_and_k_behind() {
-        for window in [1, 2, 4, 8, 16, 32, 64] {
+        for window in [1, 2, 4, 8, 16, 32, 64, 128] {
             for start in 1..600 {
                 let all = places(start, window, &(0..=255).collect::<Vec<u8>>());
                 let behind = all.iter().filter(|&&place| place == Place::Behind);

@@ -46,7 +46,7 @@ impl Window {
     }
 
     /// "A Data Ack for a number sent, in the window and not yet acknowledged,
-    /// is recorded [..]. Any other ack is ignored". At most 64 numbers in a
+    /// is recorded [..]. Any other ack is ignored". At most 128 numbers in a
     /// row cannot be equal modulo 256.
     pub(super) fn acknowledge(&mut self, number: u8, window: u32) -> Result<(), Refusal> {
         let meant = self

@@ -5,7 +5,7 @@ fn accepted(settings: Settings) -> bool {
     test_table(&[settings]).is_ok()
 }
 
-/// "window k a power of two, 1 to 64"
+/// "window k a power of two", and "allow k up to 128" (document 02, A1)
 #[test]
 fn window() {
     let with = |window| Settings {
@@ -14,7 +14,7 @@ fn window() {
         ..SENDING
     };
     let good: Vec<u32> = (0..300).filter(|&k| accepted(with(k))).collect();
-    assert_eq!(good, [1, 2, 4, 8, 16, 32, 64]);
+    assert_eq!(good, [1, 2, 4, 8, 16, 32, 64, 128]);
 }
 
 /// "slots from k to 128"

@@ -12,12 +12,12 @@ returns : tie.Need-returns
 unfolding fitWindow
 returns c = search settle
 
+rem-if2 : tie.Need-rem-if2
+rem-if2 c = search needs
+
 returns-2 : tie.Need-returns-2
 unfolding fitWindow
 returns-2 c = search settle
-
-rem-if3 : tie.Need-rem-if3
-rem-if3 c = search needs
 
 returns-3 : tie.Need-returns-3
 unfolding fitWindow
@@ -27,9 +27,5 @@ returns-4 : tie.Need-returns-4
 unfolding fitWindow
 returns-4 c = search settle
 
-returns-5 : tie.Need-returns-5
-unfolding fitWindow
-returns-5 c = search settle
-
 pub fits-window-spec : {M : Type 1} → statement M
-fits-window-spec = tie.close (tie.spec returns returns-2 rem-if3 returns-3 returns-4 returns-5)
+fits-window-spec = tie.close (tie.spec returns rem-if2 returns-2 returns-3 returns-4)

@@ -14,10 +14,10 @@ use Rattle.vectors.proofs.asking.facing.Reads as facing-reads
 use Rattle.vectors.proofs.numbers.arrives.Reads as arrives-reads
 
 abbrev Inv-loop : tie.InvT-loop
-Inv-loop start mem₀ lens₀ table₀ number₀ t12 mem lens table number = (start < 256) × (length mem ≡ length mem₀) × (length lens ≡ length lens₀)
+Inv-loop window start mem₀ lens₀ table₀ number₀ t12 mem lens table number = (start < 256) × (length mem ≡ length mem₀) × (length lens ≡ length lens₀)
 
 abbrev μ-loop : tie.MeasureT-loop
-μ-loop start mem₀ lens₀ table₀ number₀ t12 mem lens table number = start - number
+μ-loop window start mem₀ lens₀ table₀ number₀ t12 mem lens table number = start - number
 
 facing-requires : tie.Need-facing-requires Inv-loop μ-loop
 facing-requires c κs = search needs

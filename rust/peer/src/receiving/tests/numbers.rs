@@ -102,6 +102,40 @@ fn a_repeat_that_comes_too_late() {
     assert_eq!(answers, [15, 9, 9, 0]);
 }
 
+/// Document 02, A1: at k 128 a repeat of segment 1 is behind at start 129; one
+/// later it would pass as new, unless a unit is untaken.
+#[test]
+fn a_repeat_at_a_window_of_128() {
+    let settings = Settings {
+        window: 128,
+        slots: 128,
+        ..RECEIVING
+    };
+    let answers = [129, 130].map(|start| {
+        let mut rig = started_at(settings, start);
+        wholes(&mut rig, [1])[0]
+    });
+    assert_eq!(answers, [15, 0]);
+    let mut untaken = started_at(settings, 129);
+    assert_eq!(wholes(&mut untaken, [129, 1]), [0, 8]);
+}
+
+/// The ring is full, and the window start's slot is the oldest segment's.
+#[test]
+fn a_window_of_128_with_128_untaken() {
+    let settings = Settings {
+        window: 128,
+        slots: 128,
+        ..RECEIVING
+    };
+    let mut rig = Rig::receiving(settings);
+    let filling = std::array::from_fn::<u8, 128, _>(|place| place as u8 + 1);
+    assert_eq!(wholes(&mut rig, filling), [0; 128]);
+    assert_eq!(wholes(&mut rig, [129, 128, 1]), [8, 15, 15]);
+    rig.take(0).unwrap();
+    assert_eq!(wholes(&mut rig, [129, 130]), [0, 8]);
+}
+
 /// Trap: "Taking number 0 for Control only: Data number 0 follows 255."
 #[test]
 fn data_number_0_follows_255() {
