@@ -1,3 +1,4 @@
 pub mod RingLaws
+pub mod PackedLaws
 pub mod SlotLaws
 pub mod Units

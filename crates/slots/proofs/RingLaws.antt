@@ -5,7 +5,6 @@ use mathlib.Core.Logic.{_⊎_, inl, inr, ⊎-elim}
 use mathlib.Core.List.{List, [], _∷_}
 use Prim.Native.Nat.{ℕ, zero, suc, _+_, _-_, _≤_, _<_, zero-le}
 use native.Mathlib.Nat.{add-zero}
-use native.Mathlib.Numerals.{add-one}
 use native.Mathlib.Omega.{arith}
 use borrow.Author.Tests.{lt-ltb, le-ltb, eq-eqb, ne-eqb, eqb-true, eqb-false}
 use lib.Dec.{eqb}
@@ -106,18 +105,12 @@ pub run-step : (m : List ℕ) (slots n s : ℕ) → (getD m s 0 ≡ 0 → ⊥)
 unfolding runOf
 run-step m slots n s h = simp (ne-eqb _ _ h)
 
-pub run-more : (m : List ℕ) (slots n i s : ℕ) → i < n → (getD m s 0 ≡ 0 → ⊥)
-    → runOf m slots (n - i) s ≡ runOf m slots (n - (i + 1)) (roundOf slots (s + 1)) + 1
-run-more m slots n i s l h =
-    let e : n - i ≡ suc (n - (i + 1)) = omega arith in
-    ap (λ (k : ℕ). runOf m slots k s) e ∙ run-step m slots (n - (i + 1)) s h ∙ sym (add-one _)
-
 pub run-none : (m : List ℕ) (slots n i s : ℕ) → n ≤ i → runOf m slots (n - i) s ≡ 0
 unfolding runOf
 run-none m slots n i s h = let e : n - i ≡ 0 = omega arith in rw e
 
 -- whether the mark is set
-mark-cases : (m : List ℕ) (s : ℕ) → (getD m s 0 ≡ 0) ⊎ (getD m s 0 ≡ 0 → ⊥)
+pub mark-cases : (m : List ℕ) (s : ℕ) → (getD m s 0 ≡ 0) ⊎ (getD m s 0 ≡ 0 → ⊥)
 mark-cases m s = either-way (eqb (getD m s 0) 0) (λ e. inl (eqb-true _ _ e)) (λ e. inr (eqb-false _ _ e))
 
 pub run-le : (m : List ℕ) (slots n from : ℕ) → runOf m slots n from ≤ n

@@ -1,4 +1,5 @@
 pub mod Ring
+pub mod Packed
 pub mod Marks
 pub mod Slots
 pub mod Units

@@ -2,6 +2,8 @@
 ghost use mathlib.Core.Path.{_≡_};
 ghost use Prim.Native.Nat.{_<_, _≤_};
 ghost use Rattle.slots.specs.Ring.{roundOf, backOf, runOf, cleared};
+use super::packed::least;
+use super::packed::row;
 
 // A place on the ring, at most one turn past its end.
 pub fn round(x: usize, slots: usize) -> usize
@@ -26,11 +28,13 @@ pub fn run(marks: &[u8; 128], slots: usize, n: usize, from: usize) -> usize
     let mut count: usize = 0;
     let mut s = from;
     while count < n {
-        if marks[s] == 0 {
-            return count;
+        let span = least(n - count, slots - s);
+        let k = row(marks, s, span);
+        if k < span {
+            return count + k;
         }
-        count += 1;
-        s = round(s + 1, slots);
+        count += span;
+        s = round(s + span, slots);
     }
     count
 }
