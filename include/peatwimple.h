@@ -5,7 +5,7 @@
  *   - each pointer is good for its count of elements, and aligned; with a count of 0 it is not followed;
  *   - what a call may change (a pointer without const) overlaps nothing else that is lent to the same call;
  *   - no other thread uses what is lent while the call runs. Calls on other tables may run at the same time;
- *   - the stack has room: 16 KB do. Up to 11.3 KB was measured for a call (tests/c/stack.c), which is no proved bound.
+ *   - the stack has room: 16 KB do. Up to 13.7 KB was measured for a call (tests/c/stack.c), which is no proved bound.
  * Any octets, any records, any counts may be lent: what is wrong is refused by number and never undefined.
  *
  * A node is lent in three parts, the same ones in every call:
@@ -20,7 +20,12 @@
  * memory or lengths: the other calls that take them without const go through the same function, and leave them as they were.
  *
  * With 11 the answer's length says how many octets were wanted, and none was written: what is to be read from a buffer, or sent, is told
- * by 0 and 15 alone. */
+ * by 0 and 15 alone.
+ *
+ * A packet has 12 + N + X octets: N, 0 to 15, are of the prefix of its source address, X of its payload. What goes out has the own prefix of
+ * its channel, and begins with the other node's logical address. The destination identifiers before that (000, 4.2.2.1), by which it is led
+ * to another region, are the driver's: the library neither writes nor reads them. They are the octets of the channel's remote prefix, and
+ * the answer's index names the channel, of a next packet and of a reply. */
 #ifndef PEATWIMPLE_H
 #define PEATWIMPLE_H
 
@@ -37,7 +42,8 @@ extern "C" {
 
 /* Makes the table afresh, one record of each of the settings, CLOSED and empty. It reads no old record, and alone may drop held units. The
  * memory and lengths are only measured: their octets may be anything.
- *   13  not 1 to 16 settings; not as many as records; one out of its bounds; two with equal addresses; memory or lengths not of their size
+ *   13  not 1 to 16 settings; not as many as records; one out of its bounds, a prefix too; two that agree in channel, remote, direction and
+ *       remote prefix; memory or lengths not of their size
  *   0   else */
 PeatSaid peat_settings(PeatChannel *table, size_t records, const uint8_t *memory, size_t octets, const uint16_t *lengths, size_t slots,
                        const PeatSettings *settings, size_t count);
@@ -86,7 +92,7 @@ PeatSaid peat_reclaim(PeatChannel *table, size_t records, uint8_t *memory, size_
                       size_t index, uint8_t *out, size_t count);
 
 /* The packet that goes out next: Control before resent Data before new Data; among channels of equal rank the lowest index; within a
- * channel the lowest segment. 12 + P octets hold any packet of a channel.
+ * channel the lowest segment. 12 + N + P octets hold any packet of a channel whose own prefix has N.
  *   13      as above
  *   12      no sender has a packet ready; the index is that of no channel
  *   11      the one that goes next is longer than the buffer, and is still ready: length tells its octets, index whose it is
@@ -94,13 +100,15 @@ PeatSaid peat_reclaim(PeatChannel *table, size_t records, uint8_t *memory, size_
 PeatSaid peat_next_packet(PeatChannel *table, size_t records, uint8_t *memory, size_t octets, uint16_t *lengths, size_t slots,
                           PeatNode node, uint8_t *out, size_t count);
 
-/* A packet that came in: any octets, any number of them. The packet is only read. With 0 or 15 and length 12 the reply is to be sent. Up to
- * and with 14 the index is that of no channel, below that of the channel found.
+/* A packet that came in: any octets, any number of them. The packet is only read. With 0 or 15 and a length other than 0 the reply is to be
+ * sent: it has 12 + N octets, N being those of the channel's own prefix. Up to and with 14 the index is that of no channel, below that of the
+ * channel found.
  *   13      as above
  *   11      the reply buffer has under 12 octets, whatever came: length is 12
  *   1, 2, 4, 3  the packet is refused alone; 3 also for Data with flags first or continuation and no payload, and for another node's
  *           destination or protocol ID
- *   14      no record has its channel number and source: Data and Control look for a receiver, Acks for a sender
+ *   14      no record has its channel number, source and prefix: Data and Control look for a receiver, Acks for a sender
+ *   11      Data, Open or Close, and the reply buffer has under 12 + N octets, whatever would be answered: length is 12 + N
  *   3       Data with a payload over P
  *   5       the state does not allow it
  *   16      an ack that nothing waits for
@@ -130,12 +138,14 @@ PeatSaid peat_tick(PeatChannel *table, size_t records, const uint8_t *memory, si
 uint16_t peat_crc(const uint8_t *octets, size_t count);
 
 /* Reads a packet where it lies: 1, 2, 4, 3 in this order, else 0. Nothing is written. 3 is also for Data that does not end its unit (flags
- * first or continuation) and has no payload. */
+ * first or continuation) and has no payload. Every prefix that a packet can announce is read: one that is not all there is 1. */
 PeatReading peat_read_packet(const uint8_t *packet, size_t count);
 
-/* Writes a packet: 4, 3 (as when read, and for a payload over 65,535 octets), 11 in this order and out as it was, with 11 its whole length
- * being told; else 0, the packet at the front of out and its octets past it as they were. */
-PeatWriting peat_write_packet(PeatFields fields, const uint8_t *payload, size_t payload_count, uint8_t *out, size_t count);
+/* Writes a packet with this prefix and this payload: 4 (as when read, and for a prefix over 15 octets), 3 (as when read, and for a payload
+ * over 65,535 octets), 11 in this order and out as it was, with 11 its whole length being told; else 0, the packet at the front of out and its
+ * octets past it as they were. */
+PeatWriting peat_write_packet(PeatFields fields, const uint8_t *prefix, size_t prefix_count, const uint8_t *payload, size_t payload_count,
+                              uint8_t *out, size_t count);
 
 #ifdef __cplusplus
 }

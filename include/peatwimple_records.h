@@ -10,10 +10,10 @@
 /* Answers (document 01, Answer numbers). */
 enum {
     PEAT_DONE = 0,       /* done */
-    PEAT_SHORT = 1,      /* under 12 octets, or not 12 + X */
+    PEAT_SHORT = 1,      /* under 12 octets, or not 12 + N + X */
     PEAT_DAMAGED = 2,    /* the check sum is wrong */
     PEAT_STRANGE = 3,    /* another header field is unexpected, or the payload is too long, or there is one where none may be */
-    PEAT_LACKING = 4,    /* secondary header, prefix, or a type that the base lacks */
+    PEAT_LACKING = 4,    /* secondary header, a type that the base lacks, or, to be written, a prefix of over 15 octets */
     PEAT_STATE = 5,      /* the state, or the direction, does not allow it */
     PEAT_LONG = 6,       /* the unit has over M segments */
     PEAT_NO_ROOM = 7,    /* slots held and slots needed are over the slots */
@@ -55,7 +55,8 @@ enum { PEAT_CONTINUATION = 0, PEAT_FIRST = 1, PEAT_LAST = 2, PEAT_WHOLE = 3 };
 #define PEAT_PROTOCOL 5   /* the protocol ID of SpaceWire-R (000, 4.2.3.3), unless the node is set otherwise */
 #define PEAT_RECORDS 16   /* most records in a table */
 #define PEAT_SLOTS 128    /* slots that a record has a mark for, used or not */
-#define PEAT_ACK_OCTETS 12 /* room that a reply needs */
+#define PEAT_PREFIX 15    /* most octets of a prefix */
+#define PEAT_ACK_OCTETS 12 /* room that every reply buffer needs; of a channel whose own prefix has N octets a reply needs 12 + N */
 
 /* ---- records ----
  * The caller fills PeatSettings and PeatNode. PeatChannel is made by peat_settings and changed by the calls alone; its phase's state and
@@ -67,11 +68,23 @@ typedef struct PeatNode {
     uint8_t protocol; /* protocol ID */
 } PeatNode;
 
-/* Which channel it is, to which node, and whether this end sends or receives. No two records of a table may agree in all three. */
+/* What stands before the source address in packets from another region (000, 4.2.3.9.2): length octets, 0 to 15, and 0 in every octet past
+ * them. All zeros, PEAT_NO_PREFIX where one is initialised, is no prefix. */
+typedef struct PeatPrefix {
+    uint8_t length;
+    uint8_t octets[PEAT_PREFIX];
+} PeatPrefix;
+
+#define PEAT_NO_PREFIX {0, {0}}
+
+/* Which channel it is, to which node, and whether this end sends or receives. No two records of a table may agree in channel, remote,
+ * direction and remote_prefix; the own prefix tells none apart. */
 typedef struct PeatAddresses {
     uint16_t channel;
     uint8_t remote; /* the other node's logical address */
     uint8_t direction;
+    PeatPrefix remote_prefix; /* what packets from the other node have, and the driver puts before those to it */
+    PeatPrefix own_prefix;    /* what packets to the other node have */
 } PeatAddresses;
 
 /* What the settings fix. */
@@ -147,7 +160,7 @@ typedef struct PeatSaid {
 
 /* ---- the packet alone ---- */
 
-/* The header's fields but for the payload length, which is that of the payload. */
+/* The header's fields but for the lengths of prefix and payload, which are those of the prefix and of the payload. */
 typedef struct PeatFields {
     uint8_t destination;
     uint8_t protocol;
@@ -158,15 +171,16 @@ typedef struct PeatFields {
     uint16_t channel;
     uint8_t number;
     uint8_t reserved;
-    uint8_t prefix;
     uint8_t source;
 } PeatFields;
 
-/* With 0 the fields, where the payload begins in the packet, and how many octets it has; else zeros. */
+/* With 0 the fields, how many octets the prefix has, which stand from octet 9 on, where the payload begins in the packet, and how many octets
+ * it has; else zeros. */
 typedef struct PeatReading {
     uint32_t answer;
     PeatFields fields;
-    size_t start;
+    size_t prefix;
+    size_t start; /* 10 + prefix */
     size_t length;
 } PeatReading;
 

@@ -28,7 +28,7 @@ static PeatSaid expect(const char *what, PeatSaid said) {
 }
 
 static void make(End *end, uint8_t own, uint8_t remote, uint8_t direction) {
-    PeatSettings settings = {{7, remote, direction}, {4, SLOTS, PAYLOAD, 4, 10, 50, 2}};
+    PeatSettings settings = {{7, remote, direction, PEAT_NO_PREFIX, PEAT_NO_PREFIX}, {4, SLOTS, PAYLOAD, 4, 10, 50, 2}};
     end->node.address = own;
     end->node.protocol = PEAT_PROTOCOL;
     expect("settings", peat_settings(LENT(end), &settings, 1));

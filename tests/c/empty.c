@@ -6,6 +6,7 @@
 #include "peatwimple.h"
 
 static const PeatNode NODE = {64, PEAT_PROTOCOL};
+static const PeatFields FIELDS = {64, PEAT_PROTOCOL, PEAT_VERSION, 0, PEAT_WHOLE, PEAT_DATA, 1, 1, 0, 65};
 
 static int says(PeatSaid said, uint32_t number, size_t index) {
     return said.number == number && said.reason == 0 && said.length == 0 && said.confirmed == 0 && said.index == index;
@@ -25,6 +26,7 @@ static void nothing_is_lent(void) {
     CHECK(says(peat_arrival(NONE, NODE, NULL, 0, NULL, 0), PEAT_SETTINGS, 0));
     CHECK(says(peat_tick(NONE), PEAT_SETTINGS, 0));
     CHECK(peat_read_packet(NULL, 0).answer == PEAT_SHORT);
+    CHECK(peat_write_packet(FIELDS, NULL, 0, NULL, 0, NULL, 0).length == 12);
 }
 
 #define LENT table, 17, memory, sizeof memory, lengths, 4
@@ -62,8 +64,8 @@ static size_t exchange(PeatChannel *table, uint8_t memory[4], uint16_t *lengths)
 
 static void an_empty_unit(void) {
     static const PeatSettings settings[2] = {
-        {{1, 64, PEAT_SENDS}, {1, 2, 1, 1, 9, 9, 0}},
-        {{1, 64, PEAT_RECEIVES}, {1, 2, 1, 1, 9, 9, 0}},
+        {{1, 64, PEAT_SENDS, PEAT_NO_PREFIX, PEAT_NO_PREFIX}, {1, 2, 1, 1, 9, 9, 0}},
+        {{1, 64, PEAT_RECEIVES, PEAT_NO_PREFIX, PEAT_NO_PREFIX}, {1, 2, 1, 1, 9, 9, 0}},
     };
     static PeatChannel table[2];
     uint8_t memory[4] = {0};

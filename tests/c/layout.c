@@ -20,10 +20,15 @@ static void what_the_caller_fills(void) {
     WHOLE(Node);
     FIELD(Node, address);
     FIELD(Node, protocol);
+    WHOLE(Prefix);
+    FIELD(Prefix, length);
+    FIELD(Prefix, octets);
     WHOLE(Addresses);
     FIELD(Addresses, channel);
     FIELD(Addresses, remote);
     FIELD(Addresses, direction);
+    FIELD(Addresses, remote_prefix);
+    FIELD(Addresses, own_prefix);
     WHOLE(Limits);
     FIELD(Limits, window);
     FIELD(Limits, slots);
@@ -89,11 +94,11 @@ static void packet_alone(void) {
     FIELD(Fields, channel);
     FIELD(Fields, number);
     FIELD(Fields, reserved);
-    FIELD(Fields, prefix);
     FIELD(Fields, source);
     WHOLE(Reading);
     FIELD(Reading, answer);
     FIELD(Reading, fields);
+    FIELD(Reading, prefix);
     FIELD(Reading, start);
     FIELD(Reading, length);
     WHOLE(Writing);

@@ -29,7 +29,7 @@ static void make(void) {
     PeatSettings settings[RECORDS];
     size_t index;
     for (index = 0; index < RECORDS; index++) {
-        PeatSettings one = {{(uint16_t)(index + 1), 64, PEAT_SENDS}, {2, SLOTS, PAYLOAD, 2, 1, 1, 0}};
+        PeatSettings one = {{(uint16_t)(index + 1), 64, PEAT_SENDS, PEAT_NO_PREFIX, PEAT_NO_PREFIX}, {2, SLOTS, PAYLOAD, 2, 1, 1, 0}};
         settings[index] = one;
     }
     settings[3].addresses.channel = 3;
@@ -40,11 +40,11 @@ static void make(void) {
 
 /* The Ack that the other end of this sender's channel would write. */
 static void ack_of(size_t index, uint8_t kind, uint8_t number, uint8_t ack[PEAT_ACK_OCTETS]) {
-    PeatFields fields = {64, PEAT_PROTOCOL, PEAT_VERSION, 0, PEAT_WHOLE, 0, 0, 0, 0, 0, 64};
+    PeatFields fields = {64, PEAT_PROTOCOL, PEAT_VERSION, 0, PEAT_WHOLE, 0, 0, 0, 0, 64};
     fields.kind = kind;
     fields.channel = (uint16_t)(index + 1);
     fields.number = number;
-    CHECK(peat_write_packet(fields, NULL, 0, ack, PEAT_ACK_OCTETS).answer == PEAT_DONE);
+    CHECK(peat_write_packet(fields, NULL, 0, NULL, 0, ack, PEAT_ACK_OCTETS).answer == PEAT_DONE);
 }
 
 static void open_all(void) {

@@ -1,5 +1,6 @@
 /* How much stack the calls take, as the header says: each runs on a stack of its own, filled beforehand with an octet that then tells how far
- * down it was written. Prints the most that a call took, over a table of 16 records with 128 slots each; fails over what the header names. */
+ * down it was written. Prints the most that a call took, over a table of 16 records with 128 slots each and the longest prefixes; fails over
+ * what the header names. */
 #define _XOPEN_SOURCE 700
 #include <string.h>
 #include <ucontext.h>
@@ -16,13 +17,14 @@ static PeatSettings settings[RECORDS];
 static PeatChannel table[RECORDS];
 static uint8_t memory[OCTETS];
 static uint16_t lengths[LENGTHS];
-static uint8_t packet[12 + PAYLOAD], reply[PEAT_ACK_OCTETS], unit[3 * PAYLOAD];
+static uint8_t packet[12 + PEAT_PREFIX + PAYLOAD], reply[PEAT_ACK_OCTETS + PEAT_PREFIX], unit[3 * PAYLOAD];
 
 /* What the last call answered, and the octets of the packet that was handed out last. */
 static uint32_t answer;
 static size_t packet_octets;
 
 #define LENT table, RECORDS, memory, OCTETS, lengths, LENGTHS
+#define LONGEST {PEAT_PREFIX, {1, 2, 3, 4, 5, 6, 7, 8, 9, 10, 11, 12, 13, 14, 15}}
 
 /* The last record sends to the first, and what they exchange goes through every step that files, sends, acknowledges and gathers. */
 static void settle(void) { answer = peat_settings(LENT, settings, RECORDS).number; }
@@ -67,7 +69,7 @@ static size_t taken_by(void (*call)(void)) {
 static void make(void) {
     size_t index;
     for (index = 0; index < RECORDS; index++) {
-        PeatSettings one = {{(uint16_t)index, 64, PEAT_RECEIVES}, {64, SLOTS, PAYLOAD, 3, 9, 9, 3}};
+        PeatSettings one = {{(uint16_t)index, 64, PEAT_RECEIVES, LONGEST, LONGEST}, {64, SLOTS, PAYLOAD, 3, 9, 9, 3}};
         settings[index] = one;
     }
     settings[RECORDS - 1].addresses.channel = 0;

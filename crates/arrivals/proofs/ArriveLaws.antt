@@ -5,101 +5,106 @@ use mathlib.Core.Bool.{Bool, true, false, true≢false}
 use mathlib.Core.List.{List}
 use Prim.Native.Nat.{ℕ, _≤_, _<_}
 use native.Mathlib.Nat.{lt-irrefl}
+use borrow.Author.Tests.{lt-ltb, le-ltb}
 use lib.ListN.{length}
 use Rattle.laws.proofs.Choice.{either-way, passed-by}
 use Rattle.packet.specs.declared.fields.Fields.{Fields}
 use Rattle.packet.specs.declared.kinds.Kind.{Kind}
 use Rattle.packet.specs.Kinds.{kindOf}
-use Rattle.packet.specs.Layout.{wholeLength, fieldsAt, lengthAt}
+use Rattle.packet.specs.Layout.{payloadAt, wholeLength, fieldsAt, prefixAt, lengthAt, payloadIn}
 use Rattle.packet.proofs.Tests.{whole, sound}
 use Rattle.walks.specs.Serving.{works}
 use Rattle.channel.specs.declared.record.Addresses.{Addresses}
+use Rattle.channel.specs.declared.record.Prefix.{Prefix}
 use Rattle.channel.specs.declared.record.Node.{Node}
 use Rattle.channel.specs.declared.record.Channel.{Channel}
 use Rattle.channel.specs.declared.answer.Refusal.the-variants as refusal
 use Rattle.channel.specs.Steps.{refusing}
-use Rattle.receiver.specs.Receiving.{ackLength}
 use Rattle.table.specs.declared.looking.Look.{Look}
-use Rattle.table.specs.declared.looking.Look.the-variants.{Index, Packet, Ready, Nobody}
+use Rattle.table.specs.declared.looking.Sought.{Sought}
+use Rattle.table.specs.declared.looking.Sought.the-variants.{Index, Packet, Ready, Nobody}
 use Rattle.table.specs.declared.deciding.Decision.{Decision}
-use Rattle.table.specs.Looking.{same, addressed, graded}
+use Rattle.table.specs.Looking.{same, addressed, gradedBy, graded}
 use Rattle.table.specs.Surveying.{stepping}
-use Rattle.arrivals.specs.Finding.{lookOf}
-use Rattle.arrivals.proofs.FindLaws.{found-packet}
-use Rattle.arrivals.specs.Data.{unfit}
-use Rattle.arrivals.proofs.DataLaws.{reply-fits}
-use Rattle.arrivals.specs.Arriving.{arriveAs, arriveBy, payloadIn, arrivalFor, Framed}
+use Rattle.arrivals.specs.Finding.{lookOf, prefixRead}
+use Rattle.arrivals.proofs.FindLaws.{found, found-packet}
+use Rattle.arrivals.specs.Data.{replyLength, unfit}
+use Rattle.arrivals.specs.Arriving.{arriveAs, arriveBy, arrivalFor, Framed}
 
 -- ---- what is looked for
 
 -- a record that suits a packet has its addresses
-addressed-is : (f : Fields) (a : Addresses) → addressed f a < 3 → same a f ≡ true
-addressed-is f a h =
-    either-way (same a f) (λ e. e) (λ e. absurd (lt-irrefl 3 (subst (λ (k : ℕ). k < 3) (passed-by (same a f) 0 3 e) h)))
+addressed-is : (f : Fields) (q : Prefix) (a : Addresses) → addressed f q a < 3 → same a f q ≡ true
+addressed-is f q a h =
+    either-way (same a f q) (λ e. e) (λ e. absurd (lt-irrefl 3 (subst (λ (k : ℕ). k < 3) (passed-by (same a f q) 0 3 e) h)))
+
+-- an arrival that was found a channel looks for its packet
+sought-is : (node : Node) (s : List ℕ) (room at : ℕ) (c : Channel) (look : Look) → look ≡ lookOf node s room → graded look at c < 3 → look ≡ found s
+sought-is node s room at c look e h = e ∙ found-packet node s room at c (subst (λ (l : Look). graded l at c < 3) e h) .3
 
 -- what the step asks of the packet
-pub framed : (node : Node) (s out : List ℕ) (at : ℕ) (c : Channel) (look : Look) (f : Fields) (x : ℕ)
-    → look ≡ lookOf node s (length out) → graded look at c < 3 → look ≡ Packet f x → Framed c f x s out
-framed node s out at c look f x e h p =
+pub framed : (node : Node) (s out : List ℕ) (at : ℕ) (c : Channel) (look : Look) (f : Fields) (start x : ℕ)
+    → look ≡ lookOf node s (length out) → graded look at c < 3 → look .sought ≡ Packet f start x → Framed c f start x s out
+framed node s out at c look f start x e h p =
     let q = found-packet node s (length out) at c (subst (λ (l : Look). graded l at c < 3) e h) in
-    let same : Packet f x ≡ Packet (fieldsAt s) (lengthAt s) = sym p ∙ e ∙ q .3 in
-    let ef : f ≡ fieldsAt s = ap (fieldsIn f) same in
-    let ex : x ≡ lengthAt s = ap (countIn x) same in
+    let is = sought-is node s (length out) at c look e h in
+    let same-packet : Packet f start x ≡ Packet (fieldsAt s) (payloadAt (prefixAt s)) (lengthAt s) = sym p ∙ ap (λ (l : Look). l .sought) is in
+    let ef : f ≡ fieldsAt s = cc in
+    let es : start ≡ payloadAt (prefixAt s) = cc in
+    let ex : x ≡ lengthAt s = cc in
+    let suits = addressed-is f (look .prefix) (c .addresses) (subst (λ (l : Sought). gradedBy l (look .prefix) at c < 3) p h) in
     record {
-      ours = addressed-is f (c .addresses) (subst (λ (l : Look). graded l at c < 3) p h);
+      ours = subst (λ (l : Look). same (c .addresses) f (l .prefix) ≡ true) is suits;
       fields = ef;
+      start = es;
       count = ex;
-      whole = ap (wholeLength f) ex ∙ sym (whole s (q .1 .short));
-      flags = subst (λ (k : Fields). k .flags < 4) (sym ef) (sound (fieldsAt s) (lengthAt s) (q .1 .lacking) (q .1 .strange) .flags);
+      whole = ap (wholeLength (prefixAt s)) ex ∙ sym (whole s (q .1 .short));
+      flags = subst (λ (k : Fields). k .flags < 4) (sym ef) (sound (fieldsAt s) (prefixAt s) (lengthAt s) (q .1 .lacking) (q .1 .strange) .flags);
       room = q .0;
     }
-  where
-    fieldsIn : Fields → Look → Fields
-    fieldsIn f (Index i) = f
-    fieldsIn f (Packet g x) = g
-    fieldsIn f Ready = f
-    fieldsIn f (Nobody why) = f
-
-    countIn : ℕ → Look → ℕ
-    countIn n (Index i) = n
-    countIn n (Packet g x) = x
-    countIn n Ready = n
-    countIn n (Nobody why) = n
 
 -- no arrival looks for anything else
-pub not-index : (node : Node) (s : List ℕ) (room at i : ℕ) (c : Channel) (look : Look) → look ≡ lookOf node s room → graded look at c < 3 → look ≡ Index i → ⊥
+pub not-index : (node : Node) (s : List ℕ) (room at i : ℕ) (c : Channel) (look : Look) → look ≡ lookOf node s room → graded look at c < 3
+    → look .sought ≡ Index i → ⊥
 not-index node s room at i c look e h p =
-    true≢false (ap isIndex (sym p ∙ e ∙ found-packet node s room at c (subst (λ (l : Look). graded l at c < 3) e h) .3))
+    true≢false (ap isIndex (sym p ∙ ap (λ (l : Look). l .sought) (sought-is node s room at c look e h)))
   where
-    isIndex : Look → Bool
+    isIndex : Sought → Bool
     isIndex (Index i) = true
-    isIndex (Packet g x) = false
+    isIndex (Packet g start x) = false
     isIndex Ready = false
     isIndex (Nobody why) = false
 
-pub not-ready : (node : Node) (s : List ℕ) (room at : ℕ) (c : Channel) (look : Look) → look ≡ lookOf node s room → graded look at c < 3 → look ≡ Ready → ⊥
+pub not-ready : (node : Node) (s : List ℕ) (room at : ℕ) (c : Channel) (look : Look) → look ≡ lookOf node s room → graded look at c < 3
+    → look .sought ≡ Ready → ⊥
 not-ready node s room at c look e h p =
-    true≢false (ap isReady (sym p ∙ e ∙ found-packet node s room at c (subst (λ (l : Look). graded l at c < 3) e h) .3))
+    true≢false (ap isReady (sym p ∙ ap (λ (l : Look). l .sought) (sought-is node s room at c look e h)))
   where
-    isReady : Look → Bool
+    isReady : Sought → Bool
     isReady (Index i) = false
-    isReady (Packet g x) = false
+    isReady (Packet g start x) = false
     isReady Ready = true
     isReady (Nobody why) = false
 
 -- ---- one law for each test, and one for all kinds
 
-module _ (node : Node) (f : Fields) (x : ℕ) (p : List ℕ) (c : Channel) (rank : ℕ) (mem lens out : List ℕ) (room : ackLength ≤ length out) where
-  pub by-unfit : unfit c f x ≡ true → arriveBy node f x p c rank mem lens out ≡ works (refusing c refusal.Strange) mem lens out
+module _ (node : Node) (f : Fields) (x : ℕ) (p : List ℕ) (c : Channel) (rank : ℕ) (mem lens out : List ℕ) where
+  pub by-small : (k : Kind) → kindOf (f .kind) ≡ k → length out < replyLength c k
+      → arriveBy node f x p c rank mem lens out ≡ works (refusing c (refusal.Small (replyLength c k))) mem lens out
   unfolding arriveBy
-  by-unfit e = simp (reply-fits c (kindOf (f .kind)) (length out) room, e)
+  by-small k e h = rw (e, lt-ltb (length out) (replyLength c k) h)
 
-  pub by-kind : unfit c f x ≡ false → (k : Kind) → kindOf (f .kind) ≡ k → arriveBy node f x p c rank mem lens out ≡ arriveAs k node f p c rank mem lens out
-  unfolding arriveBy
-  by-kind fit k e =
-      passed-by _ _ _ (reply-fits c (kindOf (f .kind)) (length out) room)
-      ∙ passed-by (unfit c f x) _ _ fit
-      ∙ ap (λ (z : Kind). arriveAs z node f p c rank mem lens out) e
+  module _ (room : replyLength c (kindOf (f .kind)) ≤ length out) where
+    pub by-unfit : unfit c f x ≡ true → arriveBy node f x p c rank mem lens out ≡ works (refusing c refusal.Strange) mem lens out
+    unfolding arriveBy
+    by-unfit e = simp (le-ltb (length out) (replyLength c (kindOf (f .kind))) room, e)
+
+    pub by-kind : unfit c f x ≡ false → (k : Kind) → kindOf (f .kind) ≡ k → arriveBy node f x p c rank mem lens out ≡ arriveAs k node f p c rank mem lens out
+    unfolding arriveBy
+    by-kind fit k e =
+        passed-by _ _ _ (le-ltb (length out) (replyLength c (kindOf (f .kind))) room)
+        ∙ passed-by (unfit c f x) _ _ fit
+        ∙ ap (λ (z : Kind). arriveAs z node f p c rank mem lens out) e
 
 -- the arrival's step, by the fields that were read
 pub arrival-by : (node : Node) (f : Fields) (x : ℕ) (s : List ℕ) (c : Channel) (d : Decision) (mem lens out : List ℕ) → f ≡ fieldsAt s → x ≡ lengthAt s

@@ -4,7 +4,7 @@ use mathlib.Core.Path.{_≡_, sym, ap, _∙_}
 use mathlib.Core.Bool.{Bool, true, false, _&&_}
 use mathlib.Core.List.{List}
 use Prim.Native.Nat.{ℕ, _≤_}
-use borrow.Author.Tests.{le-ltb, ltb-false}
+use borrow.Author.Tests.{ltb-false}
 use borrow.Rule.Slice.PartMut.{putMid}
 use lib.Dec.{ltb}
 use lib.ListN.{length, take, drop}
@@ -17,7 +17,6 @@ use Rattle.channel.specs.declared.record.Node.{Node}
 use Rattle.channel.specs.declared.record.Channel.{Channel}
 use Rattle.channel.specs.declared.step.Stepped.{Stepped}
 use Rattle.channel.specs.Record.{receives}
-use Rattle.receiver.specs.Receiving.{ackLength}
 use Rattle.receiver_data.specs.Data.{dataStep, dataMem, dataLens}
 use Rattle.ends.proofs.ReceiverKeeps.{data-sized}
 use Rattle.table.specs.declared.deciding.Decision.{Decision}
@@ -25,11 +24,7 @@ use Rattle.table.specs.Lent.{areaOf}
 use Rattle.table.specs.Surveying.{mine, mineLens, stepping, Served}
 use Rattle.table.proofs.Parts.{parts-filed}
 use Rattle.arrivals.specs.Replying.{repliedBy}
-use Rattle.arrivals.specs.Data.{replyLength, unfit, dataFor}
-
--- in the base every reply buffer has room once an arrival is looked at: the first test asks for as much
-pub reply-fits : (c : Channel) (k : Kind) (n : ℕ) → ackLength ≤ n → ltb n (replyLength c k) ≡ false
-reply-fits c k n h = le-ltb n (replyLength c k) h
+use Rattle.arrivals.specs.Data.{unfit, dataFor}
 
 -- Data that is fit has at most P octets
 pub fit-payload : (c : Channel) (f : Fields) (x : ℕ) → unfit c f x ≡ false → kindOf (f .kind) ≡ Data → x ≤ c .limits .payload

@@ -5,22 +5,23 @@ use Prim.Native.Nat.{ℕ, _≤_, _<_}
 use mathlib.Core.Bool.{true, false}
 use mathlib.Core.List.{List}
 use lib.Dec.{ltb}
-use lib.ListN.{length, take, drop}
+use lib.ListN.{length}
 use Rattle.laws.specs.Choice.{if_then_else_}
 use Rattle.packet.specs.declared.fields.Fields.{Fields}
 use Rattle.packet.specs.declared.kinds.Kind.{Kind}
 use Rattle.packet.specs.declared.kinds.Kind.the-variants.{Data, DataAck, Open, Close, ControlAck, Lacking}
 use Rattle.packet.specs.Kinds.{kindOf}
-use Rattle.packet.specs.Layout.{payloadAt, wholeLength, fieldsAt, lengthAt}
+use Rattle.packet.specs.Layout.{least, payloadAt, wholeLength, fieldsAt, prefixAt, lengthAt, payloadIn}
 use Rattle.walks.specs.Serving.{works}
 use Rattle.channel.specs.declared.record.Node.{Node}
 use Rattle.channel.specs.declared.record.Channel.{Channel}
 use Rattle.channel.specs.declared.answer.Refusal.the-variants as refusal
 use Rattle.channel.specs.Steps.{refusing}
 use Rattle.sender_acks.specs.Acks.{controlAckStep, dataAckStep}
-use Rattle.receiver.specs.Receiving.{ackLength, controlStep}
+use Rattle.receiver.specs.Receiving.{controlStep}
 use Rattle.table.specs.Looking.{same}
 use Rattle.table.specs.Serving.{Step}
+use Rattle.arrivals.specs.Finding.{prefixRead}
 use Rattle.arrivals.specs.Replying.{replying}
 use Rattle.arrivals.specs.Data.{replyLength, unfit, dataFor}
 
@@ -40,18 +41,19 @@ arriveBy node f x payload c rank mem lens out =
     else if unfit c f x then works (refusing c refusal.Strange) mem lens out
     else arriveAs (kindOf (f .kind)) node f payload c rank mem lens out
 
--- the payload is read where it lies
-abbrev pub payloadIn : List ℕ → List ℕ
-payloadIn s = take (lengthAt s) (drop (payloadAt (fieldsAt s)) s)
-
 unfoldable pub arrivalFor : Node → List ℕ → Step
 arrivalFor node s = arriveBy node (fieldsAt s) (lengthAt s) (payloadIn s)
 
+-- the reply fits
+abbrev pub Replies : Channel → Kind → List ℕ → Type 0
+Replies c kind out = replyLength c kind ≤ length out
+
 -- what the reader, the lookup and the reply buffer have shown, as the step asks it
-pub record Framed (c : Channel) (f : Fields) (x : ℕ) (s out : List ℕ) : Type 0 where
-  pub ours : same (c .addresses) f ≡ true
+pub record Framed (c : Channel) (f : Fields) (from x : ℕ) (s out : List ℕ) : Type 0 where
+  pub ours : same (c .addresses) f (prefixRead s) ≡ true
   pub fields : f ≡ fieldsAt s
+  pub start : from ≡ payloadAt (prefixAt s)
   pub count : x ≡ lengthAt s
-  pub whole : wholeLength f x ≡ length s
+  pub whole : wholeLength (prefixAt s) x ≡ length s
   pub flags : f .flags < 4
-  pub room : ackLength ≤ length out
+  pub room : least ≤ length out

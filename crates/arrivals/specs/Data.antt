@@ -5,17 +5,25 @@ use mathlib.Core.List.{List}
 use lib.Dec.{ltb}
 use Rattle.packet.specs.declared.fields.Fields.{Fields}
 use Rattle.packet.specs.declared.kinds.Kind.{Kind}
+use Rattle.packet.specs.declared.kinds.Kind.the-variants.{Data, DataAck, Open, Close, ControlAck, Lacking}
 use Rattle.packet.specs.Kinds.{kindOf, isData}
+use Rattle.packet.specs.Layout.{least}
 use Rattle.channel.specs.declared.record.Node.{Node}
 use Rattle.channel.specs.declared.record.Channel.{Channel}
-use Rattle.channel.specs.Steps.{outgoingLength}
+use Rattle.receiver.specs.Receiving.{ackLength}
 use Rattle.receiver_data.specs.Data.{dataStep, dataMem, dataLens}
 use Rattle.table.specs.Serving.{Step}
 use Rattle.arrivals.specs.Replying.{replying}
 
--- the octets of the reply to a packet of a kind that arrives for a channel: an Ack, which has no payload
+-- the octets that the reply to a packet of a kind needs: an Ack carries the own prefix; where no reply is due, as to an Ack, those that are asked
+-- for first
 abbrev pub replyLength : Channel → Kind → ℕ
-replyLength c kind = outgoingLength (c .addresses) 0
+replyLength c Data = ackLength (c .addresses)
+replyLength c DataAck = least
+replyLength c Open = ackLength (c .addresses)
+replyLength c Close = ackLength (c .addresses)
+replyLength c ControlAck = least
+replyLength c (Lacking code) = least
 
 -- Data payload over P
 unfoldable pub unfit : Channel → Fields → ℕ → Bool

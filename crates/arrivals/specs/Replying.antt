@@ -12,13 +12,14 @@ use Rattle.channel.specs.declared.record.Channel.{Channel}
 use Rattle.channel.specs.declared.answer.Answer.{Answer}
 use Rattle.channel.specs.declared.answer.Answer.the-variants.{Done, Repeated, Inactive, Refused}
 use Rattle.channel.specs.declared.step.Stepped.{Stepped}
+use Rattle.channel.specs.Prefixes.{prefixOf}
 use Rattle.channel.specs.Steps.{outgoingOf}
 use Rattle.receiver.specs.Receiving.{ackLength, ackKind}
 
 -- the reply: with 0 and 15 an Ack at its front, with 9 and every refusal as it was
 abbrev pub repliedBy : Answer → Node → Addresses → Bool → ℕ → List ℕ → List ℕ
-repliedBy (Done n u) node a ofData number out = packetOf (outgoingOf node a (ackKind ofData) flagsWhole number) [] ++ drop ackLength out
-repliedBy (Repeated n) node a ofData number out = packetOf (outgoingOf node a (ackKind ofData) flagsWhole number) [] ++ drop ackLength out
+repliedBy (Done n u) node a ofData number out = packetOf (outgoingOf node a (ackKind ofData) flagsWhole number) (prefixOf (a .own)) [] ++ drop (ackLength a) out
+repliedBy (Repeated n) node a ofData number out = packetOf (outgoingOf node a (ackKind ofData) flagsWhole number) (prefixOf (a .own)) [] ++ drop (ackLength a) out
 repliedBy (Inactive why) node a ofData number out = out
 repliedBy (Refused why) node a ofData number out = out
 

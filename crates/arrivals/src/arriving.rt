@@ -10,27 +10,28 @@ use channel::Stepped;
 use channel::step::refused;
 use packet::Fields;
 use packet::Kind;
-use packet::fields::HEAD;
 use packet::kinds::kind_of;
 use table::Decision;
-use table::Look;
+use table::Sought;
 ghost use mathlib.Core.Path.{_≡_};
 ghost use Prim.Native.Nat.{_≤_};
-ghost use mathlib.Core.Bool.{false};
+ghost use mathlib.Core.Bool.{true, false};
 ghost use lib.ListN.{length};
 ghost use Rattle.packet.specs.Kinds.{kindOf};
+ghost use Rattle.packet.specs.Layout.{payloadIn};
 ghost use Rattle.walks.specs.Serving.{works};
 ghost use Rattle.channel.specs.Asked.{Ringed};
+ghost use Rattle.channel.specs.Prefixes.{fitPrefix};
 ghost use Rattle.receiver.specs.Receiving.{ackLength, controlStep};
 ghost use Rattle.table.specs.Surveying.{Served, stepping};
 ghost use Rattle.arrivals.specs.Finding.{lookOf};
 ghost use Rattle.arrivals.specs.Data.{unfit};
 ghost use Rattle.arrivals.specs.Replying.{repliedBy};
-ghost use Rattle.arrivals.specs.Arriving.{Framed, arriveAs, payloadIn, arrivalFor};
+ghost use Rattle.arrivals.specs.Arriving.{Framed, Replies, arriveAs, arrivalFor};
 
 // An Open, or else a Close, changes the record alone, and is acknowledged where the answer is 0 or 15.
 fn arrive_control(c: Channel, node: Node, opens: bool, number: u8, out: &mut [u8]) -> Stepped
-    requires { ⌜ (Ringed (c .limits) (c .window)) × (ackLength ≤ length (now out)) ⌝ }
+    requires { ⌜ (Ringed (c .limits) (c .window)) × (fitPrefix (c .addresses .own) ≡ true) × (ackLength (c .addresses) ≤ length (now out)) ⌝ }
     ensures { λ r. ⌜ (r ≡ controlStep c opens number) × (now (out .exit) ≡ repliedBy (controlStep c opens number .answer) node (c .addresses) false number (now (out .entry))) ⌝ }
 {
     let s = receiver::control_step(c, opens, number);
@@ -46,19 +47,20 @@ fn arrive_as(
     d: Decision,
     node: Node,
     f: Fields,
+    start: usize,
     length: usize,
     mem: &mut [u8],
     lens: &mut [u16],
     packet: &[u8],
     out: &mut [u8],
 ) -> Stepped
-    requires { ⌜ (Served c d (now mem) (now lens)) × (Framed c f length (now packet) (now out)) × (kindOf (f .kind) ≡ kind) × (unfit c f length ≡ false) ⌝ }
+    requires { ⌜ (Served c d (now mem) (now lens)) × (Framed c f start length (now packet) (now out)) × (kindOf (f .kind) ≡ kind) × (Replies c kind (now out)) × (unfit c f length ≡ false) ⌝ }
     ensures { λ r. ⌜ works r (now (mem .exit)) (now (lens .exit)) (now (out .exit)) ≡ stepping (arriveAs kind node f (payloadIn (now (packet .entry)))) c d (now (mem .entry)) (now (lens .entry)) (now (out .entry)) ⌝ }
 {
     match kind {
         Kind::Data => {
-            let end = HEAD + length;
-            arrive_data(c, d, node, f, &packet[HEAD..end], mem, lens, out)
+            let end = start + length;
+            arrive_data(c, d, node, f, &packet[start..end], mem, lens, out)
         }
         Kind::DataAck => sender_acks::data_ack_step(c, f.number),
         Kind::Open => arrive_control(c, node, true, f.number, out),
@@ -68,19 +70,20 @@ fn arrive_as(
     }
 }
 
-// What only the channel tells is tested first. In the base its reply always fits: `look_of` has asked for as much.
+// What only the channel tells is tested first: room for its reply, with the own prefix, and a payload over P.
 fn arrive(
     c: Channel,
     d: Decision,
     node: Node,
     f: Fields,
+    start: usize,
     length: usize,
     mem: &mut [u8],
     lens: &mut [u16],
     packet: &[u8],
     out: &mut [u8],
 ) -> Stepped
-    requires { ⌜ (Served c d (now mem) (now lens)) × (Framed c f length (now packet) (now out)) ⌝ }
+    requires { ⌜ (Served c d (now mem) (now lens)) × (Framed c f start length (now packet) (now out)) ⌝ }
     ensures { λ r. ⌜ works r (now (mem .exit)) (now (lens .exit)) (now (out .exit)) ≡ stepping (arrivalFor node (now (packet .entry))) c d (now (mem .entry)) (now (lens .entry)) (now (out .entry)) ⌝ }
 {
     let kind = kind_of(f.kind);
@@ -91,7 +94,7 @@ fn arrive(
     if is_unfit(c, f, length) {
         return refused(c, Refusal::Strange);
     }
-    arrive_as(kind, c, d, node, f, length, mem, lens, packet, out)
+    arrive_as(kind, c, d, node, f, start, length, mem, lens, packet, out)
 }
 
 // The channel was found for this packet: nothing else is looked for in an arrival.
@@ -108,12 +111,15 @@ pub fn arrive_step(
     ensures { λ r. ⌜ works r (now (mem .exit)) (now (lens .exit)) (now (out .exit)) ≡ stepping (arrivalFor node (now (packet .entry))) c d (now (mem .entry)) (now (lens .entry)) (now (out .entry)) ⌝ }
 {
     let look = d.look;
-    match look {
-        Look::Packet { fields, length } => {
-            arrive(c, d, node, fields, length, mem, lens, packet, out)
-        }
-        Look::Index(_) => refused(c, Refusal::NoChannel),
-        Look::Ready => refused(c, Refusal::NoChannel),
-        Look::Nobody(_) => refused(c, Refusal::NoChannel),
+    let sought = look.sought;
+    match sought {
+        Sought::Packet {
+            fields,
+            start,
+            length,
+        } => arrive(c, d, node, fields, start, length, mem, lens, packet, out),
+        Sought::Index(_) => refused(c, Refusal::NoChannel),
+        Sought::Ready => refused(c, Refusal::NoChannel),
+        Sought::Nobody(_) => refused(c, Refusal::NoChannel),
     }
 }

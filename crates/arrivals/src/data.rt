@@ -8,6 +8,7 @@ use packet::Kind;
 use packet::fields::LEAST;
 use packet::kinds::is_data;
 use packet::kinds::kind_of;
+use receiver::leaving::ack_length;
 use table::Decision;
 use table::surveying::area;
 ghost use mathlib.Core.Path.{_≡_};
@@ -19,11 +20,18 @@ ghost use Rattle.receiver.specs.Receiving.{ackLength};
 ghost use Rattle.table.specs.Surveying.{Served, stepping};
 ghost use Rattle.arrivals.specs.Data.{replyLength, unfit, dataFor};
 
-// The octets of the reply to a packet of a kind: an Ack, which has no payload.
+// The octets that the reply to a packet of a kind needs: an Ack carries the own prefix, and to an Ack no reply is due.
 pub fn reply_length(c: Channel, kind: Kind) -> usize
     ensures { λ r. ⌜ r ≡ replyLength c kind ⌝ }
 {
-    LEAST
+    match kind {
+        Kind::Data => ack_length(c.addresses),
+        Kind::DataAck => LEAST,
+        Kind::Open => ack_length(c.addresses),
+        Kind::Close => ack_length(c.addresses),
+        Kind::ControlAck => LEAST,
+        Kind::Lacking(_) => LEAST,
+    }
 }
 
 // What a channel cannot take, though the packet is sound: a payload over P.
@@ -47,7 +55,7 @@ pub fn arrive_data(
     lens: &mut [u16],
     out: &mut [u8],
 ) -> Stepped
-    requires { ⌜ (Served c d (now mem) (now lens)) × (c .addresses .direction ≡ receives) × (f .flags < 4) × (length (now payload) ≤ c .limits .payload) × (ackLength ≤ length (now out)) ⌝ }
+    requires { ⌜ (Served c d (now mem) (now lens)) × (c .addresses .direction ≡ receives) × (f .flags < 4) × (length (now payload) ≤ c .limits .payload) × (ackLength (c .addresses) ≤ length (now out)) ⌝ }
     ensures { λ r. ⌜ works r (now (mem .exit)) (now (lens .exit)) (now (out .exit)) ≡ stepping (dataFor node f (now (payload .entry))) c d (now (mem .entry)) (now (lens .entry)) (now (out .entry)) ⌝ }
 {
     let octet = d.spot.octet;

@@ -1,4 +1,5 @@
 pub mod PlaceLaws
+pub mod PrefixLaws
 pub mod SettingsLaws
 pub mod StandingLaws
 pub mod MadeLaws

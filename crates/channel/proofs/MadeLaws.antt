@@ -15,7 +15,7 @@ use Rattle.channel.specs.declared.record.Lone.{Lone}
 use Rattle.channel.specs.declared.record.Window.{Window}
 use Rattle.channel.specs.declared.record.Channel.{Channel}
 use Rattle.channel.specs.Record.{sends, enabled, madeOf, freshPhase, freshWindow, noMarks}
-use Rattle.channel.specs.Settings.{fit, fitLimits}
+use Rattle.channel.specs.Settings.{fit, fitAddresses, fitLimits}
 use Rattle.channel.specs.Places.{slotOf}
 use Rattle.channel.specs.Standing.{named, inRing, inFlight, sided, asking, slotFit, Standing}
 use Rattle.channel.specs.Steps.{enabledOf}
@@ -75,7 +75,7 @@ fresh-sided direction state = either IsTrue (eqb direction sends) _ true (either
 pub made-stands : (s : Settings) (lens : List ℕ) → fit s ≡ true → length lens ≡ s .limits .slots → Standing (madeOf s) lens
 unfolding fit named
 made-stands s lens f e =
-    let p = both (leb (s .addresses .direction) 1) _ f in
+    let p = both (fitAddresses (s .addresses)) _ f in
     fresh-stands (madeOf s) lens refl refl (p .1) e (simp (p .0)) (fresh-sided (s .addresses .direction) 0)
     (asking-closed (s .addresses .direction) (madeOf s .phase) refl)
 
@@ -88,5 +88,5 @@ enabled-stands c lens control small a h =
     let n2 = both _ _ (n .0) in
     let n3 = both _ _ (n2 .0) in
     let n4 = both _ _ (n3 .0) in
-    let n5 = both (leb (c .addresses .direction) 1) _ (n4 .0) in
+    let n5 = both (fitAddresses (c .addresses)) _ (n4 .0) in
     fresh-stands (enabledOf c control) lens refl refl (h .fit) (h .count) (simp (n5 .0, le-leb _ _ small)) (fresh-sided (c .addresses .direction) 1) a

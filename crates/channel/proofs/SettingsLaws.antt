@@ -1,13 +1,16 @@
 -- What fit settings have shown.
 -- Assumes nothing.
 use mathlib.Core.Path.{_≡_}
-use mathlib.Core.Bool.{Bool, true, false}
+use mathlib.Core.Bool.{Bool, true, false, _&&_}
 use Prim.Native.Nat.{ℕ, _≤_}
 use native.Mathlib.Nat.{le-trans}
 use borrow.Author.Tests.{leb-true}
+use lib.Dec.{leb}
 use Rattle.laws.proofs.Choice.{both}
+use Rattle.channel.specs.declared.record.Addresses.{Addresses}
 use Rattle.channel.specs.declared.record.Limits.{Limits}
-use Rattle.channel.specs.Settings.{fitWindow, fitUnits, fitTimers, fitLimits, Fit}
+use Rattle.channel.specs.Settings.{fitWindow, fitUnits, fitTimers, fitLimits, fitAddresses, Fit}
+use Rattle.channel.specs.Prefixes.{fitPrefix}
 
 pub fit-is : (l : Limits) → fitLimits l ≡ true → Fit l
 unfolding fitLimits fitWindow fitUnits fitTimers
@@ -35,3 +38,14 @@ fit-is l e =
       closing = leb-true _ _ (t2 .1);
       retries = leb-true _ _ (t .1);
     }
+
+-- ---- addresses that are fit: the direction has a meaning, and so have both prefixes
+
+module _ (a : Addresses) (e : fitAddresses a ≡ true) where
+  pub directed : a .direction ≤ 1
+  unfolding fitAddresses
+  directed = leb-true _ _ (both _ _ (both _ _ e .0) .0)
+
+  pub own-fit : fitPrefix (a .own) ≡ true
+  unfolding fitAddresses
+  own-fit = both (leb (a .direction) 1 && fitPrefix (a .prefix)) (fitPrefix (a .own)) e .1

@@ -20,7 +20,9 @@ use Rattle.channel.specs.declared.record.Phase.{Phase}
 use Rattle.channel.specs.declared.record.Window.{Window}
 use Rattle.channel.specs.Standing.{named, inRing, inFlight, asking, rested, marked, oldestOf, slotFit, slotsFit, standing, Standing, Counted}
 use Rattle.channel.specs.Asked.{Ringed}
-use Rattle.channel.proofs.SettingsLaws.{fit-is}
+use Rattle.channel.specs.Prefixes.{fitPrefix}
+use Rattle.channel.specs.Settings.{fitAddresses}
+use Rattle.channel.proofs.SettingsLaws.{fit-is, own-fit}
 
 module _ (slot : ℕ → ℕ) (sending : Bool) (most : ℕ) (marks lens : List ℕ) where
   pub slots-none : (n i : ℕ) → n ≤ i → slotsFit slot sending most marks lens (n - i) i ≡ true
@@ -135,7 +137,7 @@ counted-flight l w k =
 
 -- the small numbers
 pub record Named (c : Channel) : Type 0 where
-  pub direction : c .addresses .direction ≤ 1
+  pub addresses : fitAddresses (c .addresses) ≡ true
   pub state : c .phase .state ≤ 3
   pub reason : c .phase .reason ≤ 5
   pub kept : c .phase .kept ≤ 1
@@ -151,7 +153,7 @@ named-is c e =
     let n2 = both _ _ (n3 .0) in
     let n1 = both _ _ (n2 .0) in
     record {
-      direction = leb-true _ _ (n1 .0);
+      addresses = n1 .0;
       state = leb-true _ _ (n1 .1);
       reason = leb-true _ _ (n2 .1);
       kept = leb-true _ _ (n3 .1);
@@ -163,13 +165,17 @@ pub is-named : (c : Channel) → Named c → named c ≡ true
 unfolding named
 is-named c n =
     simp (
-      le-leb _ _ (n .direction),
+      n .addresses,
       le-leb _ _ (n .state),
       le-leb _ _ (n .reason),
       le-leb _ _ (n .kept),
       le-leb _ _ (n .accepted),
       le-leb _ _ (n .control),
     )
+
+-- the own prefix of a record that stands is fit
+pub own-fits : (c : Channel) (lens : List ℕ) → Standing c lens → fitPrefix (c .addresses .own) ≡ true
+own-fits c lens h = own-fit (c .addresses) (named-is c (h .named) .addresses)
 
 -- ---- out of OPEN
 

@@ -1,3 +1,4 @@
+pub mod Prefixes
 pub mod Record
 pub mod Places
 pub mod Answers

@@ -7,6 +7,7 @@ use Rattle.channel.specs.declared.record.Addresses.{Addresses}
 use Rattle.channel.specs.declared.record.Limits.{Limits}
 use Rattle.channel.specs.declared.record.Settings.{Settings}
 use Rattle.channel.specs.Record.{receives}
+use Rattle.channel.specs.Prefixes.{fitPrefix, samePrefix}
 
 -- the most for the window (document 02, A1; 000, 4.4.4.3): a sender and its receiver tell numbers apart up to it
 abbrev pub mostWindow : ℕ
@@ -31,8 +32,12 @@ fitTimers l = leb 1 (l .timeout) && leb 1 (l .closing) && leb (l .retries) 255
 unfoldable pub fitLimits : Limits → Bool
 fitLimits l = fitWindow l && fitUnits l && fitTimers l
 
+-- a direction has a meaning, and a prefix at most 15 octets, with 0 past them (document 02, A7)
+unfoldable pub fitAddresses : Addresses → Bool
+fitAddresses a = leb (a .direction) receives && fitPrefix (a .prefix) && fitPrefix (a .own)
+
 unfoldable pub fit : Settings → Bool
-fit s = leb (s .addresses .direction) receives && fitLimits (s .limits)
+fit s = fitAddresses (s .addresses) && fitLimits (s .limits)
 
 -- the same as facts, as far as the laws need them
 pub record Fit (l : Limits) : Type 0 where
@@ -48,6 +53,11 @@ pub record Fit (l : Limits) : Type 0 where
   pub closing : 1 ≤ l .closing
   pub retries : l .retries ≤ 255
 
--- two records that may not stand in one table: equal channel number, remote address and direction
+-- two records that may not stand in one table: equal channel number, remote address, direction and remote prefix; an own prefix is not seen in
+-- what arrives
 unfoldable pub clash : Addresses → Addresses → Bool
-clash a b = eqb (a .channel) (b .channel) && eqb (a .remote) (b .remote) && eqb (a .direction) (b .direction)
+clash a b =
+    eqb (a .channel) (b .channel)
+    && eqb (a .remote) (b .remote)
+    && eqb (a .direction) (b .direction)
+    && samePrefix (a .prefix) (b .prefix)

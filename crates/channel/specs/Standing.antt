@@ -14,14 +14,14 @@ use Rattle.channel.specs.declared.record.Phase.{Phase}
 use Rattle.channel.specs.declared.record.Window.{Window}
 use Rattle.channel.specs.declared.record.Channel.{Channel}
 use Rattle.channel.specs.Record.{sends, closed, opened, loneNone, heldIn}
-use Rattle.channel.specs.Settings.{fitLimits}
+use Rattle.channel.specs.Settings.{fitLimits, fitAddresses}
 
 -- ---- as a test
 
--- direction, state, reason, the two marks 0 or 1, and the control packet's state have a meaning
+-- the addresses, state, reason, the two marks 0 or 1, and the control packet's state have a meaning
 unfoldable pub named : Channel → Bool
 named c =
-    leb (c .addresses .direction) 1
+    fitAddresses (c .addresses)
     && leb (c .phase .state) 3
     && leb (c .phase .reason) 5
     && leb (c .phase .kept) 1

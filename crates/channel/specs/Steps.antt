@@ -2,10 +2,8 @@
 use Prim.Native.Nat.{ℕ}
 use Rattle.packet.specs.declared.fields.Fields.{Fields}
 use Rattle.packet.specs.declared.kinds.Kind.{Kind}
-use Rattle.packet.specs.declared.kinds.Kind.the-variants.{ControlAck}
 use Rattle.packet.specs.Kinds.{codeOf}
 use Rattle.packet.specs.Layout.{wholeLength}
-use Rattle.packet.specs.Tests.{flagsWhole}
 use Rattle.channel.specs.declared.record.Node.{Node}
 use Rattle.channel.specs.declared.record.Addresses.{Addresses}
 use Rattle.channel.specs.declared.record.Channel.{Channel}
@@ -52,10 +50,9 @@ outgoingOf node a kind flags number =
       channel = a .channel;
       number = number;
       reserved = 0;
-      prefix = 0;
       source = node .address;
     }
 
--- how many octets a packet has that goes to the channel's other end with a payload of x octets: the same from any node, of any kind
+-- how many octets a packet has that goes to the channel's other end with a payload of x octets: of any kind, it carries the own prefix
 abbrev pub outgoingLength : Addresses → ℕ → ℕ
-outgoingLength a x = wholeLength (outgoingOf (record { address = 0; protocol = 0 }) a ControlAck flagsWhole 0) x
+outgoingLength a x = wholeLength (a .own .length) x

@@ -3,6 +3,7 @@
 pub mod answer;
 pub mod lone;
 pub mod places;
+pub mod prefixes;
 pub mod record;
 pub mod settings;
 pub mod step;
@@ -15,6 +16,7 @@ pub use record::Limits;
 pub use record::Lone;
 pub use record::Node;
 pub use record::Phase;
+pub use record::Prefix;
 pub use record::Settings;
 pub use record::Timers;
 pub use record::Window;

@@ -39,12 +39,22 @@ pub struct Node {
     pub protocol: u8,
 }
 
-// Which channel it is, to which node, and whether this end sends or receives.
+// A Source Address prefix (document 02, A7): so many octets, and 0 in those past them.
+#[repr(C)]
+pub struct Prefix {
+    pub length: u8,
+    pub octets: [u8; 15],
+}
+
+// Which channel it is, to which node, and whether this end sends or receives. prefix: where that node is, seen from here; it stands in the
+// packets that come from it. own: where this node is, seen from there; it stands in every packet that goes out.
 #[repr(C)]
 pub struct Addresses {
     pub channel: u16,
     pub remote: u8,
     pub direction: u8,
+    pub prefix: Prefix,
+    pub own: Prefix,
 }
 
 // What the settings fix: window k, slots, P (most payload octets), M (most segments in a unit), and in ticks the timeouts.

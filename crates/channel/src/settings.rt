@@ -1,10 +1,12 @@
 // Settings are fit or refused with 13 (document 01, A channel's record and memory).
+use crate::prefixes::fits_prefix;
+use crate::prefixes::is_same;
 use crate::record::Addresses;
 use crate::record::Limits;
 use crate::record::RECEIVES;
 use crate::record::Settings;
 ghost use mathlib.Core.Path.{_≡_};
-ghost use Rattle.channel.specs.Settings.{fitWindow, fitUnits, fitTimers, fitLimits, fit, clash};
+ghost use Rattle.channel.specs.Settings.{fitWindow, fitUnits, fitTimers, fitLimits, fitAddresses, fit, clash};
 
 // The most that settings allow for the window.
 const MOST_WINDOW: usize = 128;
@@ -12,10 +14,22 @@ const MOST_WINDOW: usize = 128;
 pub fn is_fit(s: Settings) -> bool
     ensures { λ r. ⌜ r ≡ fit s ⌝ }
 {
-    if RECEIVES < s.addresses.direction {
+    if !fits_addresses(s.addresses) {
         return false;
     }
     fits_limits(s.limits)
+}
+
+pub fn fits_addresses(a: Addresses) -> bool
+    ensures { λ r. ⌜ r ≡ fitAddresses a ⌝ }
+{
+    if RECEIVES < a.direction {
+        return false;
+    }
+    if !fits_prefix(a.prefix) {
+        return false;
+    }
+    fits_prefix(a.own)
 }
 
 pub fn fits_limits(l: Limits) -> bool
@@ -73,7 +87,7 @@ fn fits_timers(l: Limits) -> bool
     l.retries <= 255
 }
 
-// No two records may be so: equal channel number, remote address and direction.
+// No two records may be so: equal channel number, remote address, direction and remote prefix.
 pub fn is_clash(a: Addresses, b: Addresses) -> bool
     ensures { λ r. ⌜ r ≡ clash a b ⌝ }
 {
@@ -83,5 +97,8 @@ pub fn is_clash(a: Addresses, b: Addresses) -> bool
     if a.remote != b.remote {
         return false;
     }
-    a.direction == b.direction
+    if a.direction != b.direction {
+        return false;
+    }
+    is_same(a.prefix, b.prefix)
 }

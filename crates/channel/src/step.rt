@@ -1,6 +1,7 @@
 // What every step of a channel is made of: the channel and an answer; an opening begun; the fields of a packet that goes out.
 use crate::answer::Answer;
 use crate::answer::Refusal;
+use crate::prefixes::laid_out;
 use crate::record::Addresses;
 use crate::record::Channel;
 use crate::record::ENABLED;
@@ -9,8 +10,14 @@ use crate::record::Node;
 use crate::record::fresh;
 use packet::Fields;
 use packet::Kind;
+use packet::Written;
 use packet::kinds::code_of;
+use packet::write_packet;
 ghost use mathlib.Core.Path.{_≡_};
+ghost use mathlib.Core.Bool.{true};
+ghost use lib.ListN.{length};
+ghost use Rattle.packet.specs.Writing.{writtenOf, afterWrite};
+ghost use Rattle.channel.specs.Prefixes.{prefixOf, fitPrefix};
 ghost use Rattle.channel.specs.Steps.{answered, refusing, doing, enabledOf, outgoingOf};
 
 // The channel after a step, and what the step answers.
@@ -71,7 +78,17 @@ pub fn outgoing(node: Node, a: Addresses, kind: Kind, flags: u8, number: u8) -> 
         channel: a.channel,
         number,
         reserved: 0,
-        prefix: 0,
         source: node.address,
     }
+}
+
+// A packet to the channel's other end is written with the own prefix.
+pub fn write_outgoing(a: Addresses, fields: Fields, payload: &[u8], out: &mut [u8]) -> Written
+    requires { ⌜ fitPrefix (a .own) ≡ true ⌝ }
+    ensures { λ r. ⌜ (r ≡ writtenOf fields (a .own .length) (length (now (payload .entry))) (length (now (out .entry)))) × (now (out .exit) ≡ afterWrite r fields (prefixOf (a .own)) (now (payload .entry)) (now (out .entry))) ⌝ }
+{
+    let octets = a.own.octets;
+    let n = a.own.length as usize;
+    let prefix = laid_out(octets, n);
+    write_packet(fields, &prefix[..n], payload, out)
 }

@@ -8,6 +8,7 @@ use channel::places::slot_of;
 use channel::record::CLOSED;
 use channel::record::OPEN;
 use channel::record::SENDS;
+use channel::settings::fits_addresses;
 use channel::settings::fits_limits;
 use slots::ring;
 ghost use mathlib.Core.Path.{_≡_};
@@ -52,11 +53,11 @@ pub fn stands(c: Channel, lens: &[u16]) -> bool
     slots_fit(limits, c.addresses.direction == SENDS, &marks, lens)
 }
 
-// The small numbers have a meaning.
+// The addresses and the small numbers have a meaning.
 fn is_named(c: Channel) -> bool
     ensures { λ r. ⌜ r ≡ named c ⌝ }
 {
-    if 1 < c.addresses.direction {
+    if !fits_addresses(c.addresses) {
         return false;
     }
     if 3 < c.phase.state {

@@ -1,20 +1,17 @@
 -- The premise on a node at the beginning is met by every table that settings made, whatever memory and lengths hold.
 -- Assumes nothing.
 use mathlib.Core.Path.{_≡_, refl, sym, ap, ap₂, _∙_, subst}
-use mathlib.Core.Bool.{Bool, true, false, true≢false, _&&_}
+use mathlib.Core.Bool.{true, false}
 use mathlib.Core.List.{List, [], _∷_}
 use mathlib.Core.Logic.{⊎-elim}
 use Prim.Native.Nat.{ℕ, zero, suc, _<_}
 use native.Mathlib.Nat.{not-suc-le-zero, le-of-suc-le-suc}
 use lib.ListN.{length, getD}
-use borrow.Author.Tests.{eqb-true}
-use lib.Dec.{eqb}
 use Rattle.laws.proofs.Choice.{both}
 use Rattle.laws.proofs.Numbers.{either-side}
 use Rattle.walks.specs.Serving.{Changed}
 use Rattle.channel.specs.declared.answer.Answer.{Answer}
 use Rattle.channel.specs.declared.record.Node.{Node}
-use Rattle.channel.specs.declared.record.Addresses.{Addresses}
 use Rattle.channel.specs.declared.record.Settings.{Settings}
 use Rattle.channel.specs.declared.record.Channel.{Channel}
 use Rattle.channel.specs.Settings.{clash}
@@ -23,31 +20,14 @@ use Rattle.channel.proofs.TableLaws.{table-apart}
 use Rattle.table.specs.Serving.{unset, recordAt}
 use Rattle.keeps.specs.Keeping.{Wide}
 use Rattle.settings.specs.Configuring.{madeTable, settled, configured}
+use Rattle.settings.proofs.SeenLaws.{clash-swap}
 use Rattle.settings.proofs.Promises.{settings-done, settings-lawful, settings-closed}
 use Rattle.delivery.specs.Delivery.{Fresh}
-use Rattle.delivery.proofs.Packets.{equal-clash}
 
 made-wide : (s : List Settings) → Wide (madeTable s)
 made-wide [] i h = absurd (not-suc-le-zero h)
 made-wide (x ∷ s) zero h = refl
 made-wide (x ∷ s) (suc i) h = made-wide s i (le-of-suc-le-suc h)
-
-clash-is : (a b : Addresses) → clash a b ≡ true → (a .channel ≡ b .channel) × (a .remote ≡ b .remote) × (a .direction ≡ b .direction)
-unfolding clash
-clash-is a b e =
-    let p = both (eqb (a .channel) (b .channel) && eqb (a .remote) (b .remote)) (eqb (a .direction) (b .direction)) e in
-    let q = both (eqb (a .channel) (b .channel)) (eqb (a .remote) (b .remote)) (p .0) in
-    (eqb-true (a .channel) (b .channel) (q .0), eqb-true (a .remote) (b .remote) (q .1), eqb-true (a .direction) (b .direction) (p .1))
-
--- either way round
-clash-turned : (a b : Addresses) → clash a b ≡ false → clash b a ≡ false
-clash-turned a b e = go (clash b a) refl
-  where
-    go : (t : Bool) → clash b a ≡ t → clash b a ≡ false
-    go false q = q
-    go true q =
-        let p = clash-is b a q in
-        absurd (true≢false (sym (equal-clash a b (sym (p .0)) (sym (p .1)) (sym (p .2))) ∙ e))
 
 -- no two of the settings clash
 apart : (s : List Settings) → fitTable s ≡ true → (j i : ℕ) → j < length s → i < length s → (j ≡ i → ⊥)
@@ -55,7 +35,7 @@ apart : (s : List Settings) → fitTable s ≡ true → (j i : ℕ) → j < leng
 apart s e j i a b other =
     ⊎-elim
     (λ q. table-apart s unset e j i q b)
-    (λ q. clash-turned (getD s i unset .addresses) (getD s j unset .addresses) (table-apart s unset e i j q a))
+    (λ q. clash-swap (getD s j unset .addresses) (getD s i unset .addresses) ∙ table-apart s unset e i j q a)
     (either-side j i other)
 
 settled-fits : (t : List Channel) (mem lens : List ℕ) (s : List Settings) → settled t mem lens s ≡ true → fitTable s ≡ true

@@ -1,6 +1,6 @@
 -- The packet that a record hands out: its fields and its payload, read from the octets written.
 -- Assumes nothing.
-use mathlib.Core.Path.{_≡_, refl, sym, ap, _∙_, subst}
+use mathlib.Core.Path.{_≡_, refl, sym, ap, ap₂, _∙_, subst}
 use mathlib.Core.Bool.{Bool, true, false, false≢true}
 use mathlib.Core.List.{List, []}
 use Prim.Native.Nat.{ℕ, _+_, _-_, _%_, _≤_, _<_}
@@ -17,9 +17,9 @@ use Rattle.packet.specs.Kinds.{codeOf, kindOf, isData}
 use Rattle.packet.specs.declared.fields.Fields.{Fields}
 use Rattle.packet.specs.declared.reading.Read.the-variants.{Found}
 use Rattle.packet.specs.declared.writing.Written.the-variants as written
-use Rattle.packet.specs.Layout.{payloadAt, wholeLength, fieldsAt}
+use Rattle.packet.specs.Layout.{payloadAt, fieldsAt, payloadIn}
 use Rattle.packet.specs.Reading.{readOf}
-use Rattle.packet.specs.Writing.{afterWrite}
+use Rattle.packet.specs.Writing.{writtenOf, afterWrite}
 use Rattle.packet.proofs.WriteLaws.{write-done}
 use Rattle.packet.proofs.ReadLaws.{accepted}
 use Rattle.packet.proofs.RoundTrip.{written-then-read}
@@ -30,15 +30,16 @@ use Rattle.channel.specs.declared.answer.Refusal.the-variants as refusal
 use Rattle.channel.specs.declared.step.Stepped.{Stepped}
 use Rattle.channel.specs.Record.{enabled}
 use Rattle.channel.specs.Steps.{refusing, doing, outgoingLength}
+use Rattle.channel.specs.Prefixes.{prefixOf}
+use Rattle.channel.proofs.PrefixLaws.{prefix-length}
 use Rattle.channel.specs.Asked.{Asked}
-use Rattle.channel.proofs.StandingLaws.{counted-is}
+use Rattle.channel.proofs.StandingLaws.{counted-is, own-fits}
 use Rattle.sender.specs.Directives.{placeAt}
 use Rattle.sender_packets.specs.Asked.{Ready, Plain}
 use Rattle.sender_packets.specs.HandingOut.{againAt, controlFields, dataFields, segmentFor, nextFields, nextPayload, nextOut, nextLength, handStep, handOut}
 use Rattle.sender_packets.proofs.HandLaws.{rank-1-is, rank-2-is, control-plain, data-plain}
 use Rattle.sender_packets.proofs.LyingLaws.{lying, segment-sized}
 use Rattle.requests.specs.Handing.{nextFor}
-use Rattle.arrivals.specs.Arriving.{payloadIn}
 
 -- ---- fields
 
@@ -91,7 +92,7 @@ module _ (c : Channel) (mem lens : List ℕ) (rank : ℕ) where
 
 -- these octets are the packet of the rank, and are read as that
 pub record Carries (node : Node) (c : Channel) (mem lens : List ℕ) (rank : ℕ) (packet : List ℕ) : Type 0 where
-  pub read : readOf packet ≡ Found (nextFields node c rank) (payloadAt (nextFields node c rank)) (length (nextPayload c lens mem rank))
+  pub read : readOf packet ≡ Found (nextFields node c rank) (length (prefixOf (c .addresses .own))) (payloadAt (length (prefixOf (c .addresses .own)))) (length (nextPayload c lens mem rank))
   pub fields : fieldsAt packet ≡ nextFields node c rank
   pub payload : payloadIn packet ≡ nextPayload c lens mem rank
 
@@ -111,17 +112,17 @@ module _ (node : Node) (c : Channel) (mem lens : List ℕ) (a : Asked c mem lens
           rank-2-is c (sym (ready .is) ∙ two) .0
 
   -- what is written is plain, and of the length that was reckoned
-  pub next-plain : Plain (nextFields node c rank) (length (nextPayload c lens mem rank)) × (nextLength c lens rank ≡ outgoingLength (c .addresses) (length (nextPayload c lens mem rank)))
+  pub next-plain : Plain (c .addresses) (nextFields node c rank) (length (nextPayload c lens mem rank)) × (nextLength c lens rank ≡ outgoingLength (c .addresses) (length (nextPayload c lens mem rank)))
   next-plain = go (eqb rank 0) refl
     where
       go : (b : Bool) → eqb rank 0 ≡ b
-          → Plain (nextFields node c rank) (length (nextPayload c lens mem rank))
+          → Plain (c .addresses) (nextFields node c rank) (length (nextPayload c lens mem rank))
           × (outgoingLength (c .addresses) (if b then 0 else getD lens (slotOf c (placeAt c (segmentFor c rank))) 0) ≡ outgoingLength (c .addresses) (length (nextPayload c lens mem rank)))
       go true e =
           let zero = eqb-true rank 0 e in
           let p : length (nextPayload c lens mem rank) ≡ 0 = ap length (payload-control c mem lens rank zero) in (
-            subst (λ (f : Fields). Plain f (length (nextPayload c lens mem rank))) (sym (next-control node c rank zero))
-                (subst (λ (n : ℕ). Plain (controlFields node c) n) (sym p) (control-plain node (c .addresses) (c .phase .state))),
+            subst (λ (f : Fields). Plain (c .addresses) f (length (nextPayload c lens mem rank))) (sym (next-control node c rank zero))
+                (subst (λ (n : ℕ). Plain (c .addresses) (controlFields node c) n) (sym p) (control-plain node (c .addresses) (own-fits c lens (a .standing)) (c .phase .state))),
             ap (outgoingLength (c .addresses)) (sym p),
           )
       go false e =
@@ -131,24 +132,34 @@ module _ (node : Node) (c : Channel) (mem lens : List ℕ) (a : Asked c mem lens
           let p : length (nextPayload c lens mem rank) ≡ getD lens (slotOf c (placeAt c i)) 0
           = ap length (payload-data c mem lens rank some) ∙ segment-sized c mem lens a i (segment-ahead some)
           in (
-            subst (λ (f : Fields). Plain f (length (nextPayload c lens mem rank))) (sym (next-data node c rank some))
-                (data-plain node (c .addresses) (getD (c .marks) (placeAt c i) 0 - 1) ((c .window .start + i) % 256) (length (nextPayload c lens mem rank))
+            subst (λ (f : Fields). Plain (c .addresses) f (length (nextPayload c lens mem rank))) (sym (next-data node c rank some))
+                (data-plain node (c .addresses) (own-fits c lens (a .standing)) (getD (c .marks) (placeAt c i) 0 - 1) ((c .window .start + i) % 256) (length (nextPayload c lens mem rank))
                 (omega (arith, there .mark)) (omega (arith, p, there .short, there .most)) (λ z. omega (arith, there .ends (sym p ∙ z)))),
             ap (outgoingLength (c .addresses)) (sym p),
           )
 
   carries : (out : List ℕ) → nextLength c lens rank ≤ length out
-      → Carries node c mem lens rank (take (nextLength c lens rank) (afterWrite (written.Done (nextLength c lens rank)) (nextFields node c rank) (nextPayload c lens mem rank) out))
+      → Carries node c mem lens rank
+      (take (nextLength c lens rank) (afterWrite (written.Done (nextLength c lens rank)) (nextFields node c rank) (prefixOf (c .addresses .own)) (nextPayload c lens mem rank) out))
   carries out room =
       let f = nextFields node c rank in
       let p = nextPayload c lens mem rank in
+      let own = c .addresses .own in
+      let q = prefixOf own in
+      let whole = outgoingLength (c .addresses) (length p) in
       let plain = next-plain in
-      let done = write-done f (length p) (length out) (plain .0 .base) (plain .0 .plain) (omega (arith, room, plain .1)) in
-      let back = written-then-read f p out (wholeLength f (length p)) done in
-      let packet = take (wholeLength f (length p)) (afterWrite (written.Done (wholeLength f (length p))) f p out) in
-      let got = accepted packet f (payloadAt f) (length p) (back .answer) in
-      subst (λ (n : ℕ). Carries node c mem lens rank (take n (afterWrite (written.Done n) f p out))) (sym (plain .1))
-      (record { read = back .answer; fields = got .fields; payload = ap (λ (n : ℕ). take n (drop (payloadAt f) packet)) (got .payload) ∙ back .payload })
+      let done = ap (λ (n : ℕ). writtenOf f n (length p) (length out)) (prefix-length own)
+      ∙ write-done f (own .length) (length p) (length out) (plain .0 .base) (plain .0 .plain) (omega (arith, room, plain .1))
+      in
+      let back = written-then-read f q p out whole done in
+      let packet = take whole (afterWrite (written.Done whole) f q p out) in
+      let got = accepted packet f (length q) (payloadAt (length q)) (length p) (back .answer) in
+      subst (λ (n : ℕ). Carries node c mem lens rank (take n (afterWrite (written.Done n) f q p out))) (sym (plain .1))
+      (record {
+        read = back .answer;
+        fields = got .fields;
+        payload = ap₂ (λ (n k : ℕ). take n (drop (payloadAt k) packet)) (got .payload) (got .prefix) ∙ back .payload;
+      })
 
   -- a buffer that is too small, and one in which the packet is written
   pub hand-cases : (P : Worked Stepped → Type 0) (out : List ℕ)
@@ -161,6 +172,6 @@ module _ (node : Node) (c : Channel) (mem lens : List ℕ) (a : Asked c mem lens
       go : (b : Bool) → ltb (length out) (nextLength c lens rank) ≡ b
           → P
           (works (if b then refusing c (refusal.Small (nextLength c lens rank)) else doing (nextOut c rank) (nextLength c lens rank)) mem lens
-          (if b then out else afterWrite (written.Done (nextLength c lens rank)) (nextFields node c rank) (nextPayload c lens mem rank) out))
+          (if b then out else afterWrite (written.Done (nextLength c lens rank)) (nextFields node c rank) (prefixOf (c .addresses .own)) (nextPayload c lens mem rank) out))
       go true e = small
       go false e = done (nextLength c lens rank) _ (carries out (ltb-false (length out) (nextLength c lens rank) e))

@@ -14,9 +14,8 @@ use Rattle.laws.proofs.Choice.{either-way, chosen, passed-by}
 use Rattle.packet.specs.declared.kinds.Kind as packets
 use Rattle.packet.specs.declared.kinds.Kind.the-variants as packet-kind
 use Rattle.packet.specs.Kinds.{kindOf, isData}
-use Rattle.receiver.specs.Receiving.{ackLength}
 use Rattle.packet.specs.declared.fields.Fields.{Fields}
-use Rattle.packet.specs.Layout.{fieldsAt, lengthAt}
+use Rattle.packet.specs.Layout.{least, fieldsAt, prefixAt, lengthAt, payloadAt, payloadIn}
 use Rattle.channel.specs.declared.record.Addresses.{Addresses}
 use Rattle.channel.specs.declared.record.Channel.{Channel}
 use Rattle.channel.specs.declared.answer.Answer.{Answer}
@@ -29,9 +28,9 @@ use Rattle.table.specs.declared.looking.Look.{Look}
 use Rattle.table.specs.Looking.{looksFor, same, graded, chosen as choice}
 use Rattle.table.proofs.OneLaws.{kind-finds}
 use Rattle.table.specs.Serving.{recordAt}
-use Rattle.arrivals.specs.Arriving.{arriveBy, payloadIn, arrivalFor, Framed}
-use Rattle.arrivals.specs.Finding.{lookOf}
-use Rattle.arrivals.specs.Data.{unfit}
+use Rattle.arrivals.specs.Arriving.{arriveBy, arrivalFor, Framed}
+use Rattle.arrivals.specs.Finding.{lookOf, prefixRead}
+use Rattle.arrivals.specs.Data.{replyLength, unfit}
 use Rattle.arrivals.proofs.ArriveLaws.{framed, by-kind}
 use Rattle.arrivals.proofs.FindLaws.{found-packet}
 use Rattle.node.specs.declared.request.Request.the-variants.{Arrival}
@@ -57,7 +56,7 @@ use Rattle.delivery.proofs.Known.{limits}
 use Rattle.delivery.proofs.HostFrame.{hostEvent, host-next}
 use Rattle.delivery.proofs.Own.{Seen, Left, own-cases}
 use Rattle.delivery.proofs.Packets.{named-is, names-so, same-clash}
-use Rattle.delivery.proofs.HostNow.{HostAt, asking, own, octets, lengths, own-below, own-addresses, own-sends, own-limits, asked, small, alone-here, Next, waits-on, stays-so, counts, was-open, moves-on}
+use Rattle.delivery.proofs.HostNow.{HostAt, asking, own, octets, lengths, own-below, own-addresses, own-sends, own-limits, asked, small, alone-here, indexFor, Next, waits-on, stays-so, counts, was-open, moves-on}
 
 -- ---- what a packet that is found a channel has shown
 
@@ -97,7 +96,7 @@ module _ {h s : End} {past : List Event} {x : Sender} {y : Receiver} {t : List C
 
   -- what the link must have shown
   abbrev pub FairReply : Type 0
-  FairReply = names h u ≡ true → Replied past copy u × (IsDataAck u → NotLate (endWith h t mem lens n) copy)
+  FairReply = names h u ≡ true → Replied s past copy u × (IsDataAck u → NotLate (endWith h t mem lens n) copy)
 
   confirms : (m : ℕ) (v : Bool) → (v ≡ true → m ≡ 0) → (if v then confirmed h past + m else confirmed h past) ≡ confirmed h past
   confirms m true e = omega (arith, e refl)
@@ -111,10 +110,11 @@ module _ {h s : End} {past : List Event} {x : Sender} {y : Receiver} {t : List C
   abbrev looked : Look
   looked = lookOf (h .node) u (length b)
 
-  told : (j : ℕ) (c : Channel) (r : ℕ) (m l : List ℕ) → Given looked j r c m l → Framed c (fieldsAt u) (lengthAt u) u b
+  told : (j : ℕ) (c : Channel) (r : ℕ) (m l : List ℕ) → Given looked j r c m l → Framed c (fieldsAt u) (payloadAt (prefixAt u)) (lengthAt u) u b
   told j c r m l g =
       let suits = subst (λ (z : ℕ). z < 3) (g .suits) (g .found) in
-      framed (h .node) u b j c looked (fieldsAt u) (lengthAt u) refl suits (found-packet (h .node) u (length b) j c suits .3)
+      framed (h .node) u b j c looked (fieldsAt u) (payloadAt (prefixAt u)) (lengthAt u) refl suits
+      (ap (λ (l : Look). l .sought) (found-packet (h .node) u (length b) j c suits .3))
 
   arrive-elsewhere : (j : ℕ) → j < length t → (j ≡ h .index → ⊥) → (r : ℕ) (m l : List ℕ) → Given looked j r (recordAt t j) m l → (a : Answer) (o : List ℕ)
       → Next k request copy a o (own k) (octets k) (lengths k)
@@ -122,14 +122,14 @@ module _ {h s : End} {past : List Event} {x : Sender} {y : Receiver} {t : List C
       arrive-quiet a o
       (λ named.
       absurd (alone-here k j there apart
-      (same-clash (recordAt t j .addresses) (channelOf h .addresses) (fieldsAt u) (told j (recordAt t j) r m l g .ours) (named-is h u named .same))))
+      (same-clash (recordAt t j .addresses) (channelOf h .addresses) (fieldsAt u) (prefixRead u) (told j (recordAt t j) r m l g .ours) (named-is h u named .same))))
 
   -- ---- for its own
 
   abbrev number : ℕ
   number = fieldsAt u .number
 
-  ack-own : names h u ≡ true → IsDataAck u → Replied past copy u → NotLate (endWith h t mem lens n) copy
+  ack-own : names h u ≡ true → IsDataAck u → Replied s past copy u → NotLate (endWith h t mem lens n) copy
       → Next k request copy (dataAckStep (own k) number .answer) b (dataAckStep (own k) number .channel) (octets k) (lengths k)
   ack-own named kind replied late =
       let a = dataAckStep (own k) number .answer in
@@ -147,7 +147,7 @@ module _ {h s : End} {past : List Event} {x : Sender} {y : Receiver} {t : List C
       let v = sending.isAwaited L x d in
       let phase = acked-phase L x o v (x .start + d) in
       let window = ap (λ (l : Limits). l .window) (own-limits k) in
-      host-next h s past y x (k .inv) (k .numbered) (small k) request copy n a b call (
+      host-next h s past y x (k .inv) (k .numbered) (small k) request copy n (indexFor k request) a b call (
         record { packet = u; replied = replied; named = named; is-ack = kind },
         k .numbered .back copy u replied named kind,
         omega (arith, late, k .now .counted, window),
@@ -161,7 +161,7 @@ module _ {h s : End} {past : List Event} {x : Sender} {y : Receiver} {t : List C
       (own k) c (octets k) (lengths k) (w .0 .0)
       (counts k c (octets k) (lengths k) z (w .0 .0) (w .1 .0) (let e = w .1 .1 in omega (arith, e)) (was-open k phase)
       (λ q. acked-still L x o v (x .start + d) (λ e. q (phase ∙ state-opened (x .phase) (open-state (x .phase) e)))))
-      (λ q. phase ∙ waits-on k (hostEvent request copy n a b) q)
+      (λ q. phase ∙ waits-on k (hostEvent request copy n (indexFor k request) a b) q)
     where
       Acked : Limits → Type 0
       Acked L =
@@ -189,19 +189,20 @@ module _ {h s : End} {past : List Event} {x : Sender} {y : Receiver} {t : List C
       suits : graded looked (h .index) (own k) < 3
       suits = subst (λ (z : ℕ). z < 3) (g .suits) (g .found)
 
-      ours : same (own k .addresses) f ≡ true
+      ours : same (own k .addresses) f (prefixRead u) ≡ true
       ours = told (h .index) (own k) r (octets k) (lengths k) g .ours
 
       named : names h u ≡ true
       named =
           let q = found-packet (h .node) u (length b) (h .index) (own k) suits in
-          names-so h u (q .1) (q .2) (subst (λ (a : Addresses). same a f ≡ true) (own-addresses k) ours)
+          names-so h u (q .1) (q .2) (subst (λ (a : Addresses). same a f (prefixRead u) ≡ true) (own-addresses k) ours)
 
       looks : (kind : packets.Kind) → kindOf (f .kind) ≡ kind → looksFor kind ≡ sends
-      looks kind is = sym (kind-finds (own k .addresses) f kind ours is) ∙ own-sends k
+      looks kind is = sym (kind-finds (own k .addresses) f (prefixRead u) kind ours is) ∙ own-sends k
 
-      room : ackLength ≤ length b
-      room = told (h .index) (own k) r (octets k) (lengths k) g .room
+      -- no reply is due to an Ack, so what was asked for first is enough
+      least-room : least ≤ length b
+      least-room = told (h .index) (own k) r (octets k) (lengths k) g .room
 
       -- a sender is looked for by Acks alone
       as-kind : (kind : packets.Kind) → kindOf (f .kind) ≡ kind
@@ -209,11 +210,13 @@ module _ {h s : End} {past : List Event} {x : Sender} {y : Receiver} {t : List C
       as-kind packet-kind.DataAck is =
           let w = fair named in
           subst (Left (Next k request copy))
-          (sym (by-kind (h .node) f (lengthAt u) (payloadIn u) (own k) r (octets k) (lengths k) b room (fit-ack (own k) f (lengthAt u) packet-kind.DataAck is refl) packet-kind.DataAck is))
+          (sym (by-kind (h .node) f (lengthAt u) (payloadIn u) (own k) r (octets k) (lengths k) b
+          (subst (λ (z : packets.Kind). replyLength (own k) z ≤ length b) (sym is) least-room) (fit-ack (own k) f (lengthAt u) packet-kind.DataAck is refl) packet-kind.DataAck is))
           (ack-own named is (w .0) (w .1 is))
       as-kind packet-kind.ControlAck is =
           subst (Left (Next k request copy))
-          (sym (by-kind (h .node) f (lengthAt u) (payloadIn u) (own k) r (octets k) (lengths k) b room (fit-ack (own k) f (lengthAt u) packet-kind.ControlAck is refl) packet-kind.ControlAck is))
+          (sym (by-kind (h .node) f (lengthAt u) (payloadIn u) (own k) r (octets k) (lengths k) b
+          (subst (λ (z : packets.Kind). replyLength (own k) z ≤ length b) (sym is) least-room) (fit-ack (own k) f (lengthAt u) packet-kind.ControlAck is refl) packet-kind.ControlAck is))
           control-ack-own
       as-kind packet-kind.Data is = absurd (omega (arith, looks packet-kind.Data is))
       as-kind packet-kind.Open is = absurd (omega (arith, looks packet-kind.Open is))

@@ -14,7 +14,7 @@ use Rattle.keeps.specs.Keeping.{staying}
 use Rattle.protocol.specs.Sending.{Sender}
 use Rattle.protocol.specs.Receiving.{Receiver}
 use Rattle.means.proofs.SenderControl.{tick-sends}
-use Rattle.delivery.specs.Calls.{End, Kind, opens, closes, transfers, asks, takes, reclaims, hands, arrives, strays, ticks, Request, called}
+use Rattle.delivery.specs.Calls.{End, Kind, opens, closes, transfers, asks, takes, reclaims, hands, arrives, strays, ticks, Request, called, indexTold}
 use Rattle.delivery.specs.History.{host, Event, is, granted, names, IsDataAck, Replied, openings}
 use Rattle.delivery.specs.Delivery.{Fresh, Alike, NotLate}
 use Rattle.delivery.proofs.Nodes.{endWith}
@@ -54,9 +54,9 @@ module _ (h s : End) (fresh-h : Fresh h) (fresh-s : Fresh s) (alike : Alike h s)
   HostCall r copy =
       let g = called (endWith h t mem lens n) r in
       (is host arrives (hostCall r copy) ≡ true → names h (r .octets) ≡ true
-      → Replied past copy (r .octets) × (IsDataAck (r .octets) → NotLate (endWith h t mem lens n) copy))
-      → (granted host opens (h .index) (hostEvent r copy n (g .answer) (g .out)) ≡ true → openings host (h .index) past ≡ 0)
-      → HostNext h s past y (hostEvent r copy n (g .answer) (g .out)) n (recordAt t (h .index)) (recordAt (g .table) (h .index))
+      → Replied s past copy (r .octets) × (IsDataAck (r .octets) → NotLate (endWith h t mem lens n) copy))
+      → (granted host opens (h .index) (hostEvent r copy n (indexTold (endWith h t mem lens n) r) (g .answer) (g .out)) ≡ true → openings host (h .index) past ≡ 0)
+      → HostNext h s past y (hostEvent r copy n (indexTold (endWith h t mem lens n) r) (g .answer) (g .out)) n (recordAt t (h .index)) (recordAt (g .table) (h .index))
       (ownMem (g .table) (h .index) (g .mem)) (ownLens (g .table) (h .index) (g .lens))
 
   by-kind : (kind : Kind) (i : ℕ) (u b : List ℕ) (copy : ℕ) → HostCall (asking kind i u b) copy

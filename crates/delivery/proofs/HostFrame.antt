@@ -6,10 +6,9 @@ use mathlib.Core.List.{List, _∷_}
 use mathlib.Core.Logic.{_⊎_, inr, ⊎-elim}
 use Prim.Native.Nat.{ℕ, _≤_}
 use Rattle.laws.specs.Choice.{if_then_else_}
-use Rattle.packet.specs.Layout.{fieldsAt}
+use Rattle.packet.specs.Layout.{fieldsAt, payloadIn}
 use Rattle.channel.specs.declared.record.Channel.{Channel}
 use Rattle.channel.specs.declared.answer.Answer.{Answer}
-use Rattle.arrivals.specs.Arriving.{payloadIn}
 use Rattle.protocol.specs.Numbers.{numberAt}
 use Rattle.protocol.specs.Units.{DataUnit, Segment}
 use Rattle.protocol.specs.Ends as ends
@@ -21,7 +20,7 @@ use Rattle.protocol.proofs.Invariant.{Inv}
 use Rattle.means.specs.Meaning.{carried}
 use Rattle.means.proofs.Sends.{Sends}
 use Rattle.delivery.specs.Calls.{End, hands, Request, countedOn}
-use Rattle.delivery.specs.History.{host, Call, Event, is, written, names, IsData, segmentOf, openings, accepted, confirmed, reclaimed, taken}
+use Rattle.delivery.specs.History.{host, Call, Event, is, written, names, IsData, Toward, segmentOf, openings, accepted, confirmed, reclaimed, taken}
 use Rattle.delivery.proofs.Known.{Out, Back, back-later, limits, InvOf, Numbered, inv-links}
 use Rattle.delivery.proofs.Counting.{counted-same}
 use Rattle.delivery.proofs.Protocol.{FairAck, sender-keeps}
@@ -30,8 +29,8 @@ use Rattle.delivery.proofs.Protocol.{FairAck, sender-keeps}
 abbrev pub hostCall : Request → ℕ → Call
 hostCall r i = record { side = host; request = r; copyOf = i }
 
-abbrev pub hostEvent : Request → ℕ → ℕ → Answer → List ℕ → Event
-hostEvent r i n a o = record { call = hostCall r i; started = n; answer = a; out = o }
+abbrev pub hostEvent : Request → ℕ → ℕ → ℕ → Answer → List ℕ → Event
+hostEvent r i n told a o = record { call = hostCall r i; started = n; index = told; answer = a; out = o }
 
 -- the segment that a call of the protocol has handed out, if any, or else one of before
 sent-before : (k : SenderCall) (a : ends.Answer) (i : ℕ) (g : Segment) {P : Type 0} → P → protocol.sentBy k a i g P
@@ -57,9 +56,9 @@ module _ (h s : End) (past : List Event) (y : Receiver) where
     pub waits : openings host (h .index) (e ∷ past) ≡ 0 → sender .phase ≡ fresh
 
   module _ (x : Sender) (v : InvOf h s past x y) (numbered : Numbered h s past) (small : limits h s .window ≤ 128)
-      (r : Request) (copy n : ℕ) (a : Answer) (o : List ℕ) where
+      (r : Request) (copy n told : ℕ) (a : Answer) (o : List ℕ) where
     abbrev event : Event
-    event = hostEvent r copy n a o
+    event = hostEvent r copy n told a o
 
     -- no reply of the subscriber is new
     back-down : (i : ℕ) → Back h s (event ∷ past) i → Back h s past i
@@ -77,6 +76,7 @@ module _ (h s : End) (past : List Event) (y : Receiver) where
         (j : ℕ) (packet : List ℕ)
         → is host hands (hostCall r copy) ≡ true
         → written event ≡ packet
+        → Toward h told
         → segmentOf n packet ≡ j
         → names s packet ≡ true
         → IsData packet
@@ -106,7 +106,7 @@ module _ (h s : End) (past : List Event) (y : Receiver) where
         out-down : (i : ℕ) (g : Segment) → Out h s (event ∷ past) i g → protocol.sentBy k said i g (Out h s past i g)
         out-down i g q =
             ⊎-elim
-            (λ w. handing i (q .packet) (w .0) (w .1) (w .2 (q .is-data)) (q .named) (q .is-data) .1 g (q .segment))
+            (λ w. handing i (q .packet) (w .0) (w .1) (w .2) (w .3 (q .is-data)) (q .named) (q .is-data) .1 g (q .segment))
             (λ w. sent-before k said i g
             (record { packet = q .packet; handed = w; named = q .named; is-data = q .is-data; segment = q .segment }))
             (q .handed)
@@ -126,7 +126,7 @@ module _ (h s : End) (past : List Event) (y : Receiver) where
         numbered2 =
             record {
               sent = λ i packet q named is.
-                  ⊎-elim (λ w. handing i packet (w .0) (w .1) (w .2 is) named is .0) (λ w. numbered .sent i packet w named is) q;
+                  ⊎-elim (λ w. handing i packet (w .0) (w .1) (w .2) (w .3 is) named is .0) (λ w. numbered .sent i packet w named is) q;
               back = λ i packet q named is.
                   ⊎-elim (λ w. absurd (true≢false (sym (w .0)))) (λ w. numbered .back i packet w named is) q;
             }
@@ -136,12 +136,12 @@ module _ (h s : End) (past : List Event) (y : Receiver) where
         → accepted h (event ∷ past) ≡ accepted h past
         → confirmed h (event ∷ past) ≡ confirmed h past
         → reclaimed h (event ∷ past) ≡ reclaimed h past
-        → ((packet : List ℕ) → is host hands (hostCall r copy) ≡ true → written event ≡ packet → names s packet ≡ true → IsData packet → ⊥)
+        → ((packet : List ℕ) → is host hands (hostCall r copy) ≡ true → written event ≡ packet → Toward h told → names s packet ≡ true → IsData packet → ⊥)
         → Sends c mem lens x
         → n ≡ x .start
         → (openings host (h .index) (event ∷ past) ≡ 0 → x .phase ≡ fresh)
         → HostNext event n c c mem lens
     host-quiet c mem lens acc cnt back none-handed means counted waits =
         host-next SenderCall.noise tt acc cnt back
-        (λ j packet is wrote at named kind. absurd (none-handed packet is wrote named kind))
+        (λ j packet is wrote toward at named kind. absurd (none-handed packet is wrote toward named kind))
         c c mem lens means (counted-same n c c (λ q. refl) ∙ counted) waits

@@ -13,7 +13,7 @@ use lib.ListN.{length, getD, take}
 use Rattle.laws.proofs.Choice.{both}
 use Rattle.packet.specs.Kinds.{kindOf}
 use Rattle.packet.specs.declared.fields.Fields.{Fields}
-use Rattle.packet.specs.Layout.{fieldsAt}
+use Rattle.packet.specs.Layout.{fieldsAt, payloadIn}
 use Rattle.walks.specs.Serving.{Worked}
 use Rattle.channel.specs.declared.record.Node.{Node}
 use Rattle.channel.specs.declared.record.Addresses.{Addresses}
@@ -24,16 +24,18 @@ use Rattle.channel.specs.declared.answer.Refusal.{Refusal}
 use Rattle.channel.specs.declared.answer.Refusal.the-variants as refusal
 use Rattle.channel.specs.declared.step.Stepped.{Stepped}
 use Rattle.channel.specs.Answers.{lengthOf}
+use Rattle.channel.specs.declared.record.Prefix.{Prefix}
+use Rattle.channel.specs.Prefixes.{samePrefix}
 use Rattle.channel.specs.Record.{sends}
 use Rattle.sender_packets.specs.Asked.{Ready}
 use Rattle.sender_packets.specs.HandingOut.{segmentFor, nextOut}
-use Rattle.table.specs.declared.looking.Look.the-variants as look
+use Rattle.table.specs.declared.looking.Sought.the-variants as sought
+use Rattle.table.specs.Looking.{seeking}
 use Rattle.table.specs.Looking.{looksFor, same, chosen as choice}
 use Rattle.table.specs.Serving.{recordAt, ownMem, ownLens}
 use Rattle.requests.specs.Handing.{nextFor}
 use Rattle.requests.proofs.HandLaws.{ready-is}
-use Rattle.arrivals.specs.Arriving.{payloadIn}
-use Rattle.arrivals.specs.Finding.{isOurs}
+use Rattle.arrivals.specs.Finding.{isOurs, prefixRead}
 use Rattle.node.specs.declared.request.Request.the-variants.{NextPacket}
 use Rattle.node.specs.Calls.{served}
 use Rattle.keeps.proofs.StepsKeep.{next-keeps}
@@ -48,15 +50,15 @@ use Rattle.means.specs.Meaning.{carried}
 use Rattle.means.proofs.Sends.{Sends, state-opened}
 use Rattle.means.proofs.Handing.{DataOut, control-out-sends, data-out-sends}
 use Rattle.delivery.specs.Calls.{End, hands, Request, channelOf}
-use Rattle.delivery.specs.History.{Event, names, IsData, segmentOf}
-use Rattle.delivery.proofs.Nodes.{own-asked}
+use Rattle.delivery.specs.History.{Event, names, IsData, Toward, segmentOf}
+use Rattle.delivery.proofs.Nodes.{same-addresses, own-asked, index-is}
 use Rattle.delivery.proofs.Known.{Out, limits}
 use Rattle.delivery.proofs.Counting.{distance-on}
 use Rattle.delivery.proofs.HostFrame.{hostEvent, host-next}
 use Rattle.delivery.proofs.Own.{Seen, Left, own-cases}
 use Rattle.delivery.proofs.Packets.{named-is, names-nothing, equal-clash}
 use Rattle.delivery.proofs.Handed.{next-destination, next-channel, next-control, next-data, control-kind, payload-data, Carries, hand-cases}
-use Rattle.delivery.proofs.HostNow.{HostAt, asking, own, octets, lengths, own-below, own-sends, own-limits, asked, small, alone-here, Next, waits-on, stays-so, counts-same, was-open}
+use Rattle.delivery.proofs.HostNow.{HostAt, asking, own, octets, lengths, own-below, own-sends, own-limits, asked, small, alone-here, indexFor, Next, waits-on, stays-so, counts-same, was-open}
 
 -- ---- what an address test has shown
 
@@ -64,11 +66,12 @@ ours-to : (node : Node) (f : Fields) → isOurs node f ≡ true → f .destinati
 unfolding isOurs
 ours-to node f e = eqb-true (f .destination) (node .address) (both (eqb (f .destination) (node .address)) (eqb (f .protocol) (node .protocol)) e .0)
 
-same-channel : (a : Addresses) (f : Fields) → same a f ≡ true → a .channel ≡ f .channel
+same-channel : (a : Addresses) (f : Fields) (q : Prefix) → same a f q ≡ true → a .channel ≡ f .channel
 unfolding same
-same-channel a f e =
-    let p = both (eqb (a .channel) (f .channel) && eqb (a .remote) (f .source)) (eqb (a .direction) (looksFor (kindOf (f .kind)))) e in
-    eqb-true (a .channel) (f .channel) (both (eqb (a .channel) (f .channel)) (eqb (a .remote) (f .source)) (p .0) .0)
+same-channel a f q e =
+    let p = both (eqb (a .channel) (f .channel) && eqb (a .remote) (f .source) && samePrefix (a .prefix) q) (eqb (a .direction) (looksFor (kindOf (f .kind)))) e in
+    let r = both (eqb (a .channel) (f .channel) && eqb (a .remote) (f .source)) (samePrefix (a .prefix) q) (p .0) in
+    eqb-true (a .channel) (f .channel) (both (eqb (a .channel) (f .channel)) (eqb (a .remote) (f .source)) (r .0) .0)
 
 -- the number of a segment, d past the start
 number-on : (start i d : ℕ) → start ≡ numberAt i → (start + d) % 256 ≡ numberAt (i + d)
@@ -83,32 +86,33 @@ module _ {h s : End} {past : List Event} {x : Sender} {y : Receiver} {t : List C
   -- ---- nothing goes to the subscriber's channel
 
   hand-quiet : (a : Answer) (o : List ℕ)
-      → ((packet : List ℕ) → take (lengthOf a) o ≡ packet → names s packet ≡ true → IsData packet → ⊥)
+      → ((packet : List ℕ) → take (lengthOf a) o ≡ packet → Toward h (indexFor k request) → names s packet ≡ true → IsData packet → ⊥)
       → Next k request copy a o (own k) (octets k) (lengths k)
   hand-quiet a o none = stays-so k request copy a o refl refl refl (λ packet _. none packet)
 
   hand-refused : (why : Refusal) (o : List ℕ) → Next k request copy (Refused why) o (own k) (octets k) (lengths k)
   hand-refused why o =
-      hand-quiet (Refused why) o (λ packet e named kind. true≢false (sym (subst (λ (p : List ℕ). names s p ≡ true) (sym e) named) ∙ names-nothing s))
+      hand-quiet (Refused why) o (λ packet e toward named kind. true≢false (sym (subst (λ (p : List ℕ). names s p ≡ true) (sym e) named) ∙ names-nothing s))
 
-  -- the packet of another channel has other addresses
-  not-named : (j : ℕ) → j < length t → (j ≡ h .index → ⊥) → recordAt t j .addresses .direction ≡ sends → (m l : List ℕ) (rank : ℕ) (packet : List ℕ)
+  -- the packet of another channel has other addresses, or goes elsewhere
+  not-named : (j : ℕ) → j < length t → (j ≡ h .index → ⊥) → Toward h j → recordAt t j .addresses .direction ≡ sends → (m l : List ℕ) (rank : ℕ) (packet : List ℕ)
       → Carries (h .node) (recordAt t j) m l rank packet → names s packet ≡ true → ⊥
-  not-named j there apart dir m l rank packet carries named =
+  not-named j there apart toward dir m l rank packet carries named =
       let c = recordAt t j in
       let w = named-is s packet named in
       let to = ap (λ (f : Fields). f .destination) (carries .fields) ∙ next-destination (h .node) c rank in
       let on = ap (λ (f : Fields). f .channel) (carries .fields) ∙ next-channel (h .node) c rank in
       alone-here k j there apart
       (equal-clash (c .addresses) (channelOf h .addresses)
-      (sym on ∙ sym (same-channel (channelOf s .addresses) (fieldsAt packet) (w .same)) ∙ sym (k .alike .number))
+      (sym on ∙ sym (same-channel (channelOf s .addresses) (fieldsAt packet) (prefixRead packet) (w .same)) ∙ sym (k .alike .number))
       (sym to ∙ ours-to (s .node) (fieldsAt packet) (w .ours) ∙ sym (k .alike .to-subscriber))
-      (dir ∙ sym (k .alike .sends)))
+      (dir ∙ sym (k .alike .sends))
+      (subst (λ (a : Addresses). samePrefix (a .prefix) (channelOf h .addresses .prefix) ≡ true) (sym (same-addresses h t mem lens (k .now .kept) j)) toward))
 
-  hand-elsewhere : (j : ℕ) (there : j < length t) → (j ≡ h .index → ⊥) → (rank : ℕ) → recordAt t j .addresses .direction ≡ sends → Ready (recordAt t j) rank
+  hand-elsewhere : (j : ℕ) (there : j < length t) → (j ≡ h .index → ⊥) → indexFor k request ≡ j → (rank : ℕ) → recordAt t j .addresses .direction ≡ sends → Ready (recordAt t j) rank
       → let w = nextFor (h .node) (recordAt t j) rank (ownMem t j mem) (ownLens t j lens) b in
       Next k request copy (w .made .answer) (w .out) (own k) (octets k) (lengths k)
-  hand-elsewhere j there apart rank dir ready =
+  hand-elsewhere j there apart index rank dir ready =
       let m = ownMem t j mem in
       let l = ownLens t j lens in
       hand-cases (h .node) (recordAt t j) m l (own-asked h t mem lens (k .now .kept) j there) rank ready
@@ -116,7 +120,7 @@ module _ {h s : End} {past : List Event} {x : Sender} {y : Receiver} {t : List C
       (hand-refused _ b)
       (λ z o carries.
       hand-quiet (Done z 0) o
-      (λ packet e named kind. not-named j there apart dir m l rank packet (subst (Carries (h .node) (recordAt t j) m l rank) e carries) named))
+      (λ packet e toward named kind. not-named j there apart (subst (Toward h) index toward) dir m l rank packet (subst (Carries (h .node) (recordAt t j) m l rank) e carries) named))
 
   -- ---- Control
 
@@ -125,13 +129,13 @@ module _ {h s : End} {past : List Event} {x : Sender} {y : Receiver} {t : List C
   hand-control z o carries =
       let c = nextOut (own k) 0 in
       let means = control-out-sends (own k) (octets k) (lengths k) x (asked k) (own-sends k) (k .now .means) in
-      host-next h s past y x (k .inv) (k .numbered) (small k) request copy n (Done z 0) o SenderCall.noise tt refl refl refl
-      (λ j packet _ wrote _ _ kind.
+      host-next h s past y x (k .inv) (k .numbered) (small k) request copy n (indexFor k request) (Done z 0) o SenderCall.noise tt refl refl refl
+      (λ j packet _ wrote _ _ _ kind.
       let fields = subst (Carries (h .node) (own k) (octets k) (lengths k) 0) wrote carries .fields ∙ next-control (h .node) (own k) 0 refl in
       absurd (control-kind (h .node) (own k) (sym (ap (λ (f : Fields). kindOf (f .kind)) fields) ∙ kind)))
       (own k) c (octets k) (lengths k) means
       (counts-same k c (octets k) (lengths k) x means refl (was-open k refl))
-      (waits-on k (hostEvent request copy n (Done z 0) o))
+      (waits-on k (hostEvent request copy n (indexFor k request) (Done z 0) o))
 
   -- ---- Data
 
@@ -201,8 +205,8 @@ module _ {h s : End} {past : List Event} {x : Sender} {y : Receiver} {t : List C
         let means : Sends c (octets k) (lengths k) (handedOut q x segment .0)
         = subst (λ (q : Bool). Sends c (octets k) (lengths k) (handedOut q x segment .0)) (sym may) (out .related)
         in
-        host-next h s past y x (k .inv) (k .numbered) (small k) request copy n (Done z 0) o (SenderCall.handOut segment) tt refl refl refl
-        (λ j packet _ wrote at _ _.
+        host-next h s past y x (k .inv) (k .numbered) (small k) request copy n (indexFor k request) (Done z 0) o (SenderCall.handOut segment) tt refl refl refl
+        (λ j packet _ wrote _ at _ _.
         let got = subst (Carries (h .node) (own k) (octets k) (lengths k) r) wrote carries in
         let is : segment ≡ j = sym (segment-is packet got) ∙ at in (
           number-is packet got ∙ ap numberAt is,
@@ -210,7 +214,7 @@ module _ {h s : End} {past : List Event} {x : Sender} {y : Receiver} {t : List C
         ))
         (own k) c (octets k) (lengths k) means
         (counts-same k c (octets k) (lengths k) (handedOut q x segment .0) means (handed-start q) (was-open k (handed-phase q)))
-        (λ e. handed-phase q ∙ waits-on k (hostEvent request copy n (Done z 0) o) e)
+        (λ e. handed-phase q ∙ waits-on k (hostEvent request copy n (indexFor k request) (Done z 0) o) e)
 
   -- ---- of its own
 
@@ -229,12 +233,12 @@ module _ {h s : End} {past : List Event} {x : Sender} {y : Receiver} {t : List C
 
   pub host-hands : Seen (Next k request copy) (h .index) (served t mem lens (NextPacket (h .node)) u b)
   host-hands =
-      own-cases look.Ready (nextFor (h .node)) t mem lens b (shapes look.Ready (nextFor (h .node)) b (next-keeps (h .node) b)) (h .index) (own-below k)
+      own-cases (seeking sought.Ready) (nextFor (h .node)) t mem lens b (shapes (seeking sought.Ready) (nextFor (h .node)) b (next-keeps (h .node) b)) (h .index) (own-below k)
       (Next k request copy)
       (λ why. hand-refused why b)
       (λ j there apart at g.
-      let r = ready-is (recordAt t j) (choice look.Ready t .rank) (g .suits) (g .found) in
-      hand-elsewhere j there apart (choice look.Ready t .rank) (r .0) (r .1))
+      let r = ready-is (recordAt t j) (choice (seeking sought.Ready) t .rank) (g .suits) (g .found) in
+      hand-elsewhere j there apart (index-is (seeking sought.Ready) t mem lens j (k .now .kept .stands) (g .found) at) (choice (seeking sought.Ready) t .rank) (r .0) (r .1))
       (λ at g.
-      let r = ready-is (own k) (choice look.Ready t .rank) (g .suits) (g .found) in
-      hand-own (choice look.Ready t .rank) (r .1))
+      let r = ready-is (own k) (choice (seeking sought.Ready) t .rank) (g .suits) (g .found) in
+      hand-own (choice (seeking sought.Ready) t .rank) (r .1))

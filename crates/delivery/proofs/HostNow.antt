@@ -23,10 +23,10 @@ use Rattle.means.specs.Meaning.{stateOf, limitsOf}
 use Rattle.means.proofs.Sends.{Sends, state-opened}
 use Rattle.means.proofs.SenderHeld.{phase-cases}
 use Rattle.means.proofs.SenderControl.{Moves}
-use Rattle.delivery.specs.Calls.{End, Kind, opens, hands, Request, channelOf, countedOn}
-use Rattle.delivery.specs.History.{host, Event, is, granted, written, names, IsData, openings, accepted, confirmed, reclaimed}
+use Rattle.delivery.specs.Calls.{End, Kind, opens, hands, Request, channelOf, countedOn, indexTold}
+use Rattle.delivery.specs.History.{host, Event, is, granted, written, names, IsData, Toward, openings, accepted, confirmed, reclaimed}
 use Rattle.delivery.specs.Delivery.{Fresh, Alike}
-use Rattle.delivery.proofs.Nodes.{same-addresses, same-limits, same-length, own-asked, small-window}
+use Rattle.delivery.proofs.Nodes.{endWith, same-addresses, same-limits, same-length, own-asked, small-window}
 use Rattle.delivery.proofs.Known.{limits, InvOf, Numbered, Host}
 use Rattle.delivery.proofs.Counting.{counted-on}
 use Rattle.delivery.proofs.HostFrame.{hostCall, hostEvent, HostNext, host-next, host-quiet}
@@ -89,22 +89,26 @@ module _ {h s : End} {past : List Event} {x : Sender} {y : Receiver} {t : List C
 
   -- ---- what is to be shown, as a view of the channel after the call
 
+  -- the index that a call tells
+  abbrev pub indexFor : Request → ℕ
+  indexFor r = indexTold (endWith h t mem lens n) r
+
   abbrev pub Next : Request → ℕ → View
-  Next r copy a o c m l = HostNext h s past y (hostEvent r copy n a o) n own c m l
+  Next r copy a o c m l = HostNext h s past y (hostEvent r copy n (indexFor r) a o) n own c m l
 
   pub waits-on : (e : Event) → openings host (h .index) (e ∷ past) ≡ 0 → x .phase ≡ fresh
   waits-on e q = k .now .waits (none-opened (granted host opens (h .index) e) (openings host (h .index) past) q)
 
   -- nothing is changed
   pub stays-so : (r : Request) (copy : ℕ) (a : Answer) (o : List ℕ)
-      → accepted h (hostEvent r copy n a o ∷ past) ≡ accepted h past
-      → confirmed h (hostEvent r copy n a o ∷ past) ≡ confirmed h past
-      → reclaimed h (hostEvent r copy n a o ∷ past) ≡ reclaimed h past
-      → ((packet : List ℕ) → is host hands (hostCall r copy) ≡ true → written (hostEvent r copy n a o) ≡ packet → names s packet ≡ true → IsData packet → ⊥)
+      → accepted h (hostEvent r copy n (indexFor r) a o ∷ past) ≡ accepted h past
+      → confirmed h (hostEvent r copy n (indexFor r) a o ∷ past) ≡ confirmed h past
+      → reclaimed h (hostEvent r copy n (indexFor r) a o ∷ past) ≡ reclaimed h past
+      → ((packet : List ℕ) → is host hands (hostCall r copy) ≡ true → written (hostEvent r copy n (indexFor r) a o) ≡ packet → Toward h (indexFor r) → names s packet ≡ true → IsData packet → ⊥)
       → Next r copy a o own octets lengths
   stays-so r copy a o acc cnt back none =
-      host-quiet h s past y x (k .inv) (k .numbered) small r copy n a o own octets lengths acc cnt back none (k .now .means) (k .now .counted)
-      (waits-on (hostEvent r copy n a o))
+      host-quiet h s past y x (k .inv) (k .numbered) small r copy n (indexFor r) a o own octets lengths acc cnt back none (k .now .means) (k .now .counted)
+      (waits-on (hostEvent r copy n (indexFor r) a o))
 
   -- ---- the count, where the record means another sender afterwards
 
@@ -155,17 +159,17 @@ module _ {h s : End} {past : List Event} {x : Sender} {y : Receiver} {t : List C
   moved-fresh false p f e = f
 
   pub moves-on : (r : Request) (copy : ℕ) (a : Answer) (o : List ℕ)
-      → accepted h (hostEvent r copy n a o ∷ past) ≡ accepted h past
-      → confirmed h (hostEvent r copy n a o ∷ past) ≡ confirmed h past
-      → reclaimed h (hostEvent r copy n a o ∷ past) ≡ reclaimed h past
+      → accepted h (hostEvent r copy n (indexFor r) a o ∷ past) ≡ accepted h past
+      → confirmed h (hostEvent r copy n (indexFor r) a o ∷ past) ≡ confirmed h past
+      → reclaimed h (hostEvent r copy n (indexFor r) a o ∷ past) ≡ reclaimed h past
       → is host hands (hostCall r copy) ≡ false
       → (c : Channel) → Moves own c octets lengths x
       → Next r copy a o c octets lengths
   moves-on r copy a o acc cnt back none c w =
       let b = ltb (rank (x .phase)) (rank (w .phase)) in
       let z = controlled b x (w .phase) .0 in
-      host-next h s past y x (k .inv) (k .numbered) small r copy n a o (SenderCall.control (w .phase)) tt acc cnt back
+      host-next h s past y x (k .inv) (k .numbered) small r copy n (indexFor r) a o (SenderCall.control (w .phase)) tt acc cnt back
       (λ j packet q. absurd (true≢false (sym q ∙ none)))
       own c octets lengths (w .related)
       (counts-same c octets lengths z (w .related) (moved-start b (w .phase)) (moved-was b (w .phase) refl (w .waits)))
-      (λ q. let f = waits-on (hostEvent r copy n a o) q in moved-fresh b (w .phase) f (w .waits f))
+      (λ q. let f = waits-on (hostEvent r copy n (indexFor r) a o) q in moved-fresh b (w .phase) f (w .waits f))

@@ -22,7 +22,8 @@ use Rattle.channel.specs.Steps.{refusing}
 use Rattle.sender.specs.Directives as sender
 use Rattle.receiver_data.specs.Taking.{takeStep, takeOut}
 use Rattle.table.specs.declared.looking.Look.{Look}
-use Rattle.table.specs.declared.looking.Look.the-variants.{Index, Nobody}
+use Rattle.table.specs.declared.looking.Sought.the-variants.{Index, Nobody}
+use Rattle.table.specs.Looking.{seeking}
 use Rattle.table.specs.Serving.{Step, alone, serveOne}
 use Rattle.requests.specs.Requests.{openedBy, closedBy, askedBy, takeFor}
 use Rattle.requests.proofs.RequestLaws.{opened-sends, closed-sends}
@@ -44,7 +45,7 @@ use Rattle.delivery.proofs.Counting.{counted-same}
 use Rattle.delivery.proofs.HostFrame.{hostEvent, host-next}
 use Rattle.delivery.proofs.Own.{View, Seen, Left, workedAt, own-cases}
 use Rattle.delivery.proofs.Packets.{refused-not-done}
-use Rattle.delivery.proofs.HostNow.{HostAt, asking, own, octets, lengths, own-below, own-sends, asked, small, Next, stays-so, moved-start, moves-on}
+use Rattle.delivery.proofs.HostNow.{HostAt, asking, own, octets, lengths, own-below, own-sends, asked, small, indexFor, Next, stays-so, moved-start, moves-on}
 
 -- the calls that name their channel by its index
 pub data Named : Kind → Type 0 where
@@ -69,15 +70,15 @@ module _ {h s : End} {past : List Event} {x : Sender} {y : Receiver} {t : List C
       stays-so k (asking reclaims i u b) copy a o refl refl (passed-by (eqb i (h .index) && eqb (numberOf a) 0) _ _ e) (λ packet q. absurd (true≢false (sym q)))
 
   -- a view that holds for another channel, for a refusal, and for its own step
-  pub by-index : (P : View) (i : ℕ) (step : Step) (out : List ℕ) → Shapes (Index i) step out
+  pub by-index : (P : View) (i : ℕ) (step : Step) (out : List ℕ) → Shapes (seeking (Index i)) step out
       → ((a : Answer) (o : List ℕ) → (eqb i (h .index) && eqb (numberOf a) 0) ≡ false → P a o (own k) (octets k) (lengths k))
       → (i ≡ h .index → (rank : ℕ) → Left P (step (own k) rank (octets k) (lengths k) out))
-      → Seen P (h .index) (serveOne (Index i) step t mem lens out)
+      → Seen P (h .index) (serveOne (seeking (Index i)) step t mem lens out)
   by-index P i step out shaped quiet mine =
-      own-cases (Index i) step t mem lens out shaped (h .index) (own-below k) P
+      own-cases (seeking (Index i)) step t mem lens out shaped (h .index) (own-below k) P
       (λ why. quiet (Refused why) out (last-not (eqb i (h .index)) (eqb (numberOf (Refused why)) 0) (refused-not-done why)))
       (λ j there apart at g.
-      let w = workedAt (Index i) step t mem lens out shaped (h .index) (own-below k) j in
+      let w = workedAt (seeking (Index i)) step t mem lens out shaped (h .index) (own-below k) j in
       quiet (w .made .answer) (w .out)
       (ap (λ (q : Bool). q && eqb (numberOf (w .made .answer)) 0) (ne-eqb i (h .index) (λ q. apart (index-served i j _ _ _ _ g ∙ q)))))
       (λ at g. mine (sym (index-served i (h .index) _ _ _ _ g)) _)
@@ -104,7 +105,7 @@ module _ {h s : End} {past : List Event} {x : Sender} {y : Receiver} {t : List C
       c = sender.openStep (own k) .channel
 
       e : Event
-      e = hostEvent (asking opens i u b) copy n a o
+      e = hostEvent (asking opens i u b) copy n (indexFor k (asking opens i u b)) a o
 
       go : (q : Bool) → eqb (numberOf a) 0 ≡ q → Next k (asking opens i u b) copy a o c (octets k) (lengths k)
       go false q =
@@ -116,18 +117,18 @@ module _ {h s : End} {past : List Event} {x : Sender} {y : Receiver} {t : List C
           let counted : openings host (h .index) (e ∷ past) ≡ suc (openings host (h .index) past)
           = chosen (eqb i (h .index) && eqb (numberOf a) 0) _ _ (ap₂ (λ (p r : Bool). p && r) (eq-eqb i (h .index) at) q)
           in
-          host-next h s past y x (k .inv) (k .numbered) (small k) (asking opens i u b) copy n a o (SenderCall.control (w .phase)) tt refl refl refl
+          host-next h s past y x (k .inv) (k .numbered) (small k) (asking opens i u b) copy n (indexFor k (asking opens i u b)) a o (SenderCall.control (w .phase)) tt refl refl refl
           (λ j packet z. absurd (true≢false (sym z)))
           (own k) c (octets k) (lengths k) (w .related)
           (counted-same n (own k) c (λ z. absurd (omega (arith, z, open-enables (own k) q))) ∙ k .now .counted ∙ sym (moved-start k on (w .phase)))
           (λ z. absurd (omega (arith, z, counted)))
 
   pub host-opens : (copy i : ℕ) (u b : List ℕ)
-      → (granted host opens (h .index) (hostEvent (asking opens i u b) copy n (served t mem lens (Open i) u b .answer) (served t mem lens (Open i) u b .out)) ≡ true
+      → (granted host opens (h .index) (hostEvent (asking opens i u b) copy n (indexFor k (asking opens i u b)) (served t mem lens (Open i) u b .answer) (served t mem lens (Open i) u b .out)) ≡ true
       → openings host (h .index) past ≡ 0)
       → Seen (Next k (asking opens i u b) copy) (h .index) (served t mem lens (Open i) u b)
   host-opens copy i u b =
-      by-index k Once i (alone openedBy) b (shapes (Index i) (alone openedBy) b (open-keeps (Index i) b))
+      by-index k Once i (alone openedBy) b (shapes (seeking (Index i)) (alone openedBy) b (open-keeps (seeking (Index i)) b))
       (λ a o q once. request-quiet k an-opens copy i u b a o q)
       (λ at rank.
       subst (λ (w : Stepped). Left Once (works w (octets k) (lengths k) b)) (sym (opened-sends (own k) (own-sends k)))
@@ -135,7 +136,7 @@ module _ {h s : End} {past : List Event} {x : Sender} {y : Receiver} {t : List C
     where
       Once : View
       Once a o c m l =
-          (granted host opens (h .index) (hostEvent (asking opens i u b) copy n a o) ≡ true → openings host (h .index) past ≡ 0)
+          (granted host opens (h .index) (hostEvent (asking opens i u b) copy n (indexFor k (asking opens i u b)) a o) ≡ true → openings host (h .index) past ≡ 0)
           → Next k (asking opens i u b) copy a o c m l
 
   -- ---- the Close directive
@@ -143,7 +144,7 @@ module _ {h s : End} {past : List Event} {x : Sender} {y : Receiver} {t : List C
   pub host-closes : (copy i : ℕ) (u b : List ℕ) → Seen (Next k (asking closes i u b) copy) (h .index) (served t mem lens (Close i) u b)
   host-closes copy i u b =
       let P = Next k (asking closes i u b) copy in
-      by-index k P i (alone closedBy) b (shapes (Index i) (alone closedBy) b (close-keeps (Index i) b))
+      by-index k P i (alone closedBy) b (shapes (seeking (Index i)) (alone closedBy) b (close-keeps (seeking (Index i)) b))
       (request-quiet k a-closes copy i u b)
       (λ at rank.
       subst (λ (w : Stepped). Left P (works w (octets k) (lengths k) b)) (sym (closed-sends (own k) (own-sends k)))
@@ -159,7 +160,7 @@ module _ {h s : End} {past : List Event} {x : Sender} {y : Receiver} {t : List C
   unfolding askedBy
   host-asks copy i u b =
       by-index k (Next k (asking asks i u b) copy) i (alone (askedBy (length u))) b
-      (shapes (Index i) (alone (askedBy (length u))) b (question-keeps (Index i) (length u) b))
+      (shapes (seeking (Index i)) (alone (askedBy (length u))) b (question-keeps (seeking (Index i)) (length u) b))
       (λ a o q. ask-quiet copy i u b a o)
       (λ at rank. ask-quiet copy i u b (askedBy (length u) (own k) .answer) b)
 
@@ -173,7 +174,7 @@ module _ {h s : End} {past : List Event} {x : Sender} {y : Receiver} {t : List C
       (λ at g. nothing (Refused refusal.NoChannel) b)
     where
       none : Look
-      none = Nobody refusal.NoChannel
+      none = seeking (Nobody refusal.NoChannel)
 
       refuses : Step
       refuses = alone (λ c. refusing c refusal.NoChannel)
@@ -192,7 +193,7 @@ module _ {h s : End} {past : List Event} {x : Sender} {y : Receiver} {t : List C
   pub host-takes : (copy i : ℕ) (u b : List ℕ) → Seen (Next k (asking takes i u b) copy) (h .index) (served t mem lens (Take i) u b)
   host-takes copy i u b =
       let P = Next k (asking takes i u b) copy in
-      by-index k P i takeFor b (shapes (Index i) takeFor b (take-keeps (Index i) b))
+      by-index k P i takeFor b (shapes (seeking (Index i)) takeFor b (take-keeps (seeking (Index i)) b))
       (request-quiet k a-takes copy i u b)
       (λ at rank.
       subst (Left P) (sym (take-here (own k) rank (octets k) (lengths k) b (own-sends k)))

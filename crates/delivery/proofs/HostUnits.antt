@@ -23,7 +23,8 @@ use Rattle.channel.specs.Record.{sends}
 use Rattle.channel.specs.Steps.{refusing}
 use Rattle.sender_units.specs.Transfer.{transferStep, transferMem, transferLens}
 use Rattle.sender_units.specs.Reclaiming.{unitAt, sizeAt, reclaimStep, reclaimOut}
-use Rattle.table.specs.declared.looking.Look.the-variants.{Index}
+use Rattle.table.specs.declared.looking.Sought.the-variants.{Index}
+use Rattle.table.specs.Looking.{seeking}
 use Rattle.requests.specs.Requests.{transferFor, reclaimFor}
 use Rattle.node.specs.declared.request.Request.the-variants.{Transfer, Reclaim}
 use Rattle.node.specs.Calls.{served}
@@ -47,7 +48,7 @@ use Rattle.delivery.proofs.Known.{limits}
 use Rattle.delivery.proofs.HostFrame.{hostEvent, host-next}
 use Rattle.delivery.proofs.Own.{Seen, Left}
 use Rattle.delivery.proofs.HostRequests.{a-transfers, a-reclaims, request-quiet, by-index}
-use Rattle.delivery.proofs.HostNow.{HostAt, asking, own, octets, lengths, own-sends, own-limits, asked, small, Next, waits-on, counts-same, was-open}
+use Rattle.delivery.proofs.HostNow.{HostAt, asking, own, octets, lengths, own-sends, own-limits, asked, small, indexFor, Next, waits-on, counts-same, was-open}
 
 -- ---- a unit is handed over
 
@@ -90,13 +91,13 @@ module _ {h s : End} {past : List Event} {x : Sender} {y : Receiver} {t : List C
       (transfer-sends (own k) (octets k) (lengths k) x (asked k) (own-sends k) (k .now .means) u)
       in
       let z = senderStep (limits h s) x call .0 in
-      host-next h s past y x (k .inv) (k .numbered) (small k) (asking transfers i u b) copy n a o call tt
+      host-next h s past y x (k .inv) (k .numbered) (small k) (asking transfers i u b) copy n (indexFor k (asking transfers i u b)) a o call tt
       (ap₂ (λ (p : Bool) (q : ℕ). if p && eqb q 0 then accepted h past ++ (u ∷ []) else accepted h past) (eq-eqb i (h .index) at) (w .1))
       refl refl
       (λ j packet q. absurd (true≢false (sym q)))
       (own k) c m l (w .0)
       (counts-same k c m l z (w .0) (transfer-start u) (was-open k (transfer-phase u)))
-      (λ q. transfer-phase u ∙ waits-on k (hostEvent (asking transfers i u b) copy n a o) q)
+      (λ q. transfer-phase u ∙ waits-on k (hostEvent (asking transfers i u b) copy n (indexFor k (asking transfers i u b)) a o) q)
 
   transfer-here : (c : Channel) (rank : ℕ) (u m l o : List ℕ) → c .addresses .direction ≡ sends
       → transferFor u c rank m l o ≡ works (transferStep c (length u)) (transferMem c u m) (transferLens c u l) o
@@ -108,7 +109,7 @@ module _ {h s : End} {past : List Event} {x : Sender} {y : Receiver} {t : List C
   pub host-transfers : (copy i : ℕ) (u b : List ℕ) → Seen (Next k (asking transfers i u b) copy) (h .index) (served t mem lens (Transfer i) u b)
   host-transfers copy i u b =
       let P = Next k (asking transfers i u b) copy in
-      by-index k P i (transferFor u) b (transfer-shapes (Index i) u b)
+      by-index k P i (transferFor u) b (transfer-shapes (seeking (Index i)) u b)
       (request-quiet k a-transfers copy i u b)
       (λ at rank. subst (Left P) (sym (transfer-here (own k) rank u (octets k) (lengths k) b (own-sends k))) (own-transfers copy i u b b at))
 
@@ -188,14 +189,14 @@ module _ {h s : End} {past : List Event} {x : Sender} {y : Receiver} {t : List C
           = ap₂ (λ (p : ℕ) (r : List ℕ). take p r) (wrote .0 ∙ w .3 ∙ ap length (w .2)) (wrote .1) ∙ laid-first b unit ∙ sym (w .2)
           in
           let was = history.reclaimed h past in
-          host-next h s past y x (k .inv) (k .numbered) (small k) (asking reclaims i u b) copy n a o call tt refl refl
+          host-next h s past y x (k .inv) (k .numbered) (small k) (asking reclaims i u b) copy n (indexFor k (asking reclaims i u b)) a o call tt refl refl
           (chosen (eqb i (h .index) && eqb (numberOf a) 0) _ _ (ap₂ (λ (p r : Bool). p && r) (eq-eqb i (h .index) at) q)
           ∙ ap (λ (p : List ℕ). was ++ (p ∷ [])) is-unit
           ∙ sym (chosen (eqb (said .number) 0) (was ++ (said .unit ∷ [])) was (eq-eqb (said .number) 0 (w .1))))
           (λ j packet r. absurd (true≢false (sym r)))
           (own k) c (octets k) (lengths k) (w .0)
           (counts-same k c (octets k) (lengths k) z (w .0) (given-start (x .phase) (sending.held x)) (was-open k (given-phase (x .phase) (sending.held x))))
-          (λ r. given-phase (x .phase) (sending.held x) ∙ waits-on k (hostEvent (asking reclaims i u b) copy n a o) r)
+          (λ r. given-phase (x .phase) (sending.held x) ∙ waits-on k (hostEvent (asking reclaims i u b) copy n (indexFor k (asking reclaims i u b)) a o) r)
 
   reclaim-here : (c : Channel) (rank : ℕ) (m l o : List ℕ) → c .addresses .direction ≡ sends
       → reclaimFor c rank m l o ≡ works (reclaimStep c l (length o)) m l (reclaimOut c l m o)
@@ -207,6 +208,6 @@ module _ {h s : End} {past : List Event} {x : Sender} {y : Receiver} {t : List C
   pub host-reclaims : (copy i : ℕ) (u b : List ℕ) → Seen (Next k (asking reclaims i u b) copy) (h .index) (served t mem lens (Reclaim i) u b)
   host-reclaims copy i u b =
       let P = Next k (asking reclaims i u b) copy in
-      by-index k P i reclaimFor b (shapes (Index i) reclaimFor b (reclaim-keeps (Index i) b))
+      by-index k P i reclaimFor b (shapes (seeking (Index i)) reclaimFor b (reclaim-keeps (seeking (Index i)) b))
       (request-quiet k a-reclaims copy i u b)
       (λ at rank. subst (Left P) (sym (reclaim-here (own k) rank (octets k) (lengths k) b (own-sends k))) (own-reclaims copy i u b at))

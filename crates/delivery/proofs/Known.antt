@@ -6,10 +6,9 @@ use mathlib.Core.Bool.{true}
 use mathlib.Core.List.{List, _∷_}
 use mathlib.Core.Logic.{inr}
 use Prim.Native.Nat.{ℕ, _≤_}
-use Rattle.packet.specs.Layout.{fieldsAt}
+use Rattle.packet.specs.Layout.{fieldsAt, payloadIn}
 use Rattle.channel.specs.declared.record.Channel.{Channel}
 use Rattle.table.specs.Serving.{recordAt, ownMem, ownLens}
-use Rattle.arrivals.specs.Arriving.{payloadIn}
 use Rattle.protocol.specs.Numbers.{numberAt}
 use Rattle.protocol.specs.Units.{DataUnit, Segment}
 use Rattle.protocol.specs.Ends.{Limits, fresh, rank}
@@ -29,7 +28,7 @@ module _ (h s : End) where
   -- Data for the segment i, with the segment g
   pub record Out (past : List Event) (i : ℕ) (g : Segment) : Type 0 where
     pub packet : List ℕ
-    pub handed : HandedOut past i packet
+    pub handed : HandedOut h past i packet
     pub named : names s packet ≡ true
     pub is-data : IsData packet
     pub segment : carried (fieldsAt packet .flags) (payloadIn packet) ≡ g
@@ -37,7 +36,7 @@ module _ (h s : End) where
   -- a Data Ack for the segment i
   pub record Back (past : List Event) (i : ℕ) : Type 0 where
     pub packet : List ℕ
-    pub replied : Replied past i packet
+    pub replied : Replied s past i packet
     pub named : names h packet ≡ true
     pub is-ack : IsDataAck packet
 
@@ -53,8 +52,8 @@ module _ (h s : End) where
 
   -- the numbers on packets are those of their segments
   pub record Numbered (past : List Event) : Type 0 where
-    pub sent : (i : ℕ) (packet : List ℕ) → HandedOut past i packet → names s packet ≡ true → IsData packet → fieldsAt packet .number ≡ numberAt i
-    pub back : (i : ℕ) (packet : List ℕ) → Replied past i packet → names h packet ≡ true → IsDataAck packet → fieldsAt packet .number ≡ numberAt i
+    pub sent : (i : ℕ) (packet : List ℕ) → HandedOut h past i packet → names s packet ≡ true → IsData packet → fieldsAt packet .number ≡ numberAt i
+    pub back : (i : ℕ) (packet : List ℕ) → Replied s past i packet → names h packet ≡ true → IsDataAck packet → fieldsAt packet .number ≡ numberAt i
 
 -- ---- an end: what is lent to its node, how far the window is counted on, and the protocol's end that its record means
 

@@ -5,6 +5,7 @@ use mathlib.Core.Bool.{Bool, true, false}
 use mathlib.Core.List.{List, [], _∷_, map}
 use Prim.Native.Nat.{ℕ, zero, suc, _≤_, _<_}
 use native.Mathlib.Omega.{arith}
+use borrow.Author.Tests.{lt-ltb}
 use lib.ListN.{length, drop, getD, length-map, length-drop}
 use lib.Seq.{length-take-le}
 use Rattle.walks.specs.Serving.{Called}
@@ -16,7 +17,10 @@ use Rattle.channel.specs.Asked.{Asked}
 use Rattle.channel.proofs.SettingsLaws.{fit-is}
 use Rattle.channel.proofs.StandingLaws.{stands-is}
 use Rattle.table.specs.Lent.{areaOf, octetAt, lawful}
-use Rattle.table.specs.Serving.{blank, recordAt, ownMem, ownLens}
+use Rattle.channel.proofs.PrefixLaws.{same-itself}
+use Rattle.table.specs.declared.looking.Look.{Look}
+use Rattle.table.specs.Looking.{chosen as choice}
+use Rattle.table.specs.Serving.{blank, recordAt, ownMem, ownLens, indexServed}
 use Rattle.table.proofs.SurveyLaws.{each-stands}
 use Rattle.table.proofs.ServeLaws.{lawful-is}
 use Rattle.node.specs.declared.request.Request as door
@@ -27,7 +31,8 @@ use Rattle.keeps.proofs.CallsKeep.{tick-lawful}
 use Rattle.keeps.proofs.Marks.{tick-wide}
 use Rattle.keeps.proofs.Settled.{tick-settings-stay}
 use Rattle.keeps.proofs.DoorKeeps.{served-lawful, served-wide, served-settings-stay}
-use Rattle.delivery.specs.Calls.{End, Kind, opens, closes, transfers, asks, takes, reclaims, hands, arrives, strays, ticks, Request, atDoor, calledBy}
+use Rattle.delivery.specs.Calls.{End, Kind, opens, closes, transfers, asks, takes, reclaims, hands, arrives, strays, ticks, Request, atDoor, calledBy, channelOf}
+use Rattle.delivery.specs.History.{Toward}
 
 -- the node of the beginning, with what is lent now
 abbrev pub endWith : End → List Channel → List ℕ → List ℕ → ℕ → End
@@ -114,3 +119,14 @@ kept-called e t mem lens n k kind r = go kind
     go arrives = by-door (Arrival (e .node))
     go strays = by-door Unknown
     go ticks = done (calledBy ticks (endWith e t mem lens n) r) (tick-lawful t mem lens (k .stands)) (tick-wide t mem lens (k .wide)) (tick-settings-stay t mem lens)
+
+-- ---- the index that is told
+
+pub index-is : (look : Look) (t : List Channel) (mem lens : List ℕ) (j : ℕ) → lawful t mem lens ≡ true → choice look t .rank < 3 → choice look t .at ≡ j
+    → indexServed look t mem lens ≡ j
+unfolding indexServed
+index-is look t mem lens j e found at = simp (e, lt-ltb (choice look t .rank) 3 found) at
+
+-- a packet of the watched channel goes where its packets go
+pub toward-itself : (e : End) (j : ℕ) → j ≡ e .index → Toward e j
+toward-itself e j i = subst (Toward e) (sym i) (same-itself (channelOf e .addresses .prefix))

@@ -70,7 +70,7 @@ module _ (look : Look) (step : Step) (t : List Channel) (mem lens out : List ℕ
       → (choice look t .at ≡ i → GivenAt i → Left P (workedAt i))
       → Seen P i (serveOne look step t mem lens out)
   own-cases P bad elsewhere own =
-      serve-cases look step t mem lens out (Seen P i) (bad refusal.Settings) (bad (missing look)) (λ h there g. go (eqb at i) refl h there g)
+      serve-cases look step t mem lens out (Seen P i) (bad refusal.Settings) (bad (missing (look .sought))) (λ h there g. go (eqb at i) refl h there g)
     where
       at : ℕ
       at = choice look t .at

@@ -10,7 +10,7 @@ use Rattle.laws.specs.Choice.{if_then_else_}
 use Rattle.laws.proofs.Choice.{both}
 use Rattle.packet.specs.Kinds.{kindOf}
 use Rattle.packet.specs.declared.fields.Fields.{Fields}
-use Rattle.packet.specs.Layout.{fieldsAt, lengthAt, payloadAt}
+use Rattle.packet.specs.Layout.{fieldsAt, prefixAt, lengthAt, payloadAt}
 use Rattle.packet.specs.Tests.{short, damaged, lacking, strange}
 use Rattle.packet.specs.declared.reading.Read.{Read}
 use Rattle.packet.specs.declared.reading.Read.the-variants.{Found, Short, Damaged, Strange, Lacking}
@@ -22,9 +22,12 @@ use Rattle.channel.specs.declared.answer.Answer.the-variants.{Refused}
 use Rattle.channel.specs.declared.answer.Refusal.{Refusal}
 use Rattle.channel.specs.declared.answer.Refusal.the-variants as refusal
 use Rattle.channel.specs.Answers.{numberOf}
+use Rattle.channel.specs.declared.record.Prefix.{Prefix}
+use Rattle.channel.specs.Prefixes.{samePrefix}
+use Rattle.channel.proofs.PrefixLaws.{same-both}
 use Rattle.channel.specs.Settings.{clash}
 use Rattle.table.specs.Looking.{looksFor, same}
-use Rattle.arrivals.specs.Finding.{isOurs}
+use Rattle.arrivals.specs.Finding.{isOurs, prefixRead}
 use Rattle.arrivals.proofs.FindLaws.{Read-well}
 use Rattle.delivery.specs.Calls.{End, channelOf}
 use Rattle.delivery.specs.History.{namesBy, names}
@@ -34,33 +37,33 @@ use Rattle.delivery.specs.History.{namesBy, names}
 pub record Named (node : Node) (a : Addresses) (packet : List ℕ) : Type 0 where
   pub well : Read-well packet
   pub ours : isOurs node (fieldsAt packet) ≡ true
-  pub same : same a (fieldsAt packet) ≡ true
+  pub same : same a (fieldsAt packet) (prefixRead packet) ≡ true
 
 -- by the reader's tests, in its order
 named-by : (node : Node) (a : Addresses) (packet : List ℕ) (b1 b2 b3 b4 : Bool)
-    → short packet ≡ b1 → damaged packet ≡ b2 → lacking (fieldsAt packet) ≡ b3 → strange (fieldsAt packet) (lengthAt packet) ≡ b4
+    → short packet ≡ b1 → damaged packet ≡ b2 → lacking (fieldsAt packet) (prefixAt packet) ≡ b3 → strange (fieldsAt packet) (lengthAt packet) ≡ b4
     → namesBy
     (if b1 then Short else if b2 then Damaged else if b3 then Lacking else if b4 then Strange
-    else Found (fieldsAt packet) (payloadAt (fieldsAt packet)) (lengthAt packet)) node a ≡ true
+    else Found (fieldsAt packet) (prefixAt packet) (payloadAt (prefixAt packet)) (lengthAt packet)) packet node a ≡ true
     → Named node a packet
 named-by node a packet true b2 b3 b4 e1 e2 e3 e4 n = absurd (true≢false (sym n))
 named-by node a packet false true b3 b4 e1 e2 e3 e4 n = absurd (true≢false (sym n))
 named-by node a packet false false true b4 e1 e2 e3 e4 n = absurd (true≢false (sym n))
 named-by node a packet false false false true e1 e2 e3 e4 n = absurd (true≢false (sym n))
 named-by node a packet false false false false e1 e2 e3 e4 n =
-    let p = both (isOurs node (fieldsAt packet)) (same a (fieldsAt packet)) n in
+    let p = both (isOurs node (fieldsAt packet)) (same a (fieldsAt packet) (prefixRead packet)) n in
     record { well = record { short = e1; damaged = e2; lacking = e3; strange = e4 }; ours = p .0; same = p .1 }
 
 pub named-is : (e : End) (packet : List ℕ) → names e packet ≡ true → Named (e .node) (channelOf e .addresses) packet
 unfolding readOf
 named-is e packet n =
-    named-by (e .node) (channelOf e .addresses) packet (short packet) (damaged packet) (lacking (fieldsAt packet)) (strange (fieldsAt packet) (lengthAt packet)) refl refl refl refl n
+    named-by (e .node) (channelOf e .addresses) packet (short packet) (damaged packet) (lacking (fieldsAt packet) (prefixAt packet)) (strange (fieldsAt packet) (lengthAt packet)) refl refl refl refl n
 
 -- and back
-pub names-so : (e : End) (packet : List ℕ) → Read-well packet → isOurs (e .node) (fieldsAt packet) ≡ true → same (channelOf e .addresses) (fieldsAt packet) ≡ true
+pub names-so : (e : End) (packet : List ℕ) → Read-well packet → isOurs (e .node) (fieldsAt packet) ≡ true → same (channelOf e .addresses) (fieldsAt packet) (prefixRead packet) ≡ true
     → names e packet ≡ true
 names-so e packet w ours is =
-    ap (λ (r : Read). namesBy r (e .node) (channelOf e .addresses)) (read-found packet (w .short) (w .damaged) (w .lacking) (w .strange))
+    ap (λ (r : Read). namesBy r packet (e .node) (channelOf e .addresses)) (read-found packet (w .short) (w .damaged) (w .lacking) (w .strange))
     ∙ ap₂ (λ (p q : Bool). p && q) ours is
 
 pub names-nothing : (e : End) → names e [] ≡ false
@@ -69,21 +72,24 @@ names-nothing e = refl
 
 -- ---- what two channels would have in common
 
-pub same-clash : (a b : Addresses) (f : Fields) → same a f ≡ true → same b f ≡ true → clash a b ≡ true
+pub same-clash : (a b : Addresses) (f : Fields) (q : Prefix) → same a f q ≡ true → same b f q ≡ true → clash a b ≡ true
 unfolding same clash
-same-clash a b f p q =
-    let p1 = both (eqb (a .channel) (f .channel) && eqb (a .remote) (f .source)) (eqb (a .direction) (looksFor (kindOf (f .kind)))) p in
-    let q1 = both (eqb (b .channel) (f .channel) && eqb (b .remote) (f .source)) (eqb (b .direction) (looksFor (kindOf (f .kind)))) q in
-    let p2 = both (eqb (a .channel) (f .channel)) (eqb (a .remote) (f .source)) (p1 .0) in
-    let q2 = both (eqb (b .channel) (f .channel)) (eqb (b .remote) (f .source)) (q1 .0) in
-    let x = eq-eqb (a .channel) (b .channel) (eqb-true (a .channel) (f .channel) (p2 .0) ∙ sym (eqb-true (b .channel) (f .channel) (q2 .0))) in
-    let y = eq-eqb (a .remote) (b .remote) (eqb-true (a .remote) (f .source) (p2 .1) ∙ sym (eqb-true (b .remote) (f .source) (q2 .1))) in
-    let z = eq-eqb (a .direction) (b .direction) (eqb-true (a .direction) (looksFor (kindOf (f .kind))) (p1 .1) ∙ sym (eqb-true (b .direction) (looksFor (kindOf (f .kind))) (q1 .1))) in
-    simp (x, y, z)
+same-clash a b f q p r =
+    let p1 = both (eqb (a .channel) (f .channel) && eqb (a .remote) (f .source) && samePrefix (a .prefix) q) (eqb (a .direction) (looksFor (kindOf (f .kind)))) p in
+    let r1 = both (eqb (b .channel) (f .channel) && eqb (b .remote) (f .source) && samePrefix (b .prefix) q) (eqb (b .direction) (looksFor (kindOf (f .kind)))) r in
+    let p2 = both (eqb (a .channel) (f .channel) && eqb (a .remote) (f .source)) (samePrefix (a .prefix) q) (p1 .0) in
+    let r2 = both (eqb (b .channel) (f .channel) && eqb (b .remote) (f .source)) (samePrefix (b .prefix) q) (r1 .0) in
+    let p3 = both (eqb (a .channel) (f .channel)) (eqb (a .remote) (f .source)) (p2 .0) in
+    let r3 = both (eqb (b .channel) (f .channel)) (eqb (b .remote) (f .source)) (r2 .0) in
+    let x = eq-eqb (a .channel) (b .channel) (eqb-true (a .channel) (f .channel) (p3 .0) ∙ sym (eqb-true (b .channel) (f .channel) (r3 .0))) in
+    let y = eq-eqb (a .remote) (b .remote) (eqb-true (a .remote) (f .source) (p3 .1) ∙ sym (eqb-true (b .remote) (f .source) (r3 .1))) in
+    let z = eq-eqb (a .direction) (b .direction) (eqb-true (a .direction) (looksFor (kindOf (f .kind))) (p1 .1) ∙ sym (eqb-true (b .direction) (looksFor (kindOf (f .kind))) (r1 .1))) in
+    simp (x, y, z, same-both (a .prefix) (b .prefix) q (p2 .1) (r2 .1))
 
-pub equal-clash : (a b : Addresses) → a .channel ≡ b .channel → a .remote ≡ b .remote → a .direction ≡ b .direction → clash a b ≡ true
+pub equal-clash : (a b : Addresses) → a .channel ≡ b .channel → a .remote ≡ b .remote → a .direction ≡ b .direction → samePrefix (a .prefix) (b .prefix) ≡ true
+    → clash a b ≡ true
 unfolding clash
-equal-clash a b p q r = simp (eq-eqb (a .channel) (b .channel) p, eq-eqb (a .remote) (b .remote) q, eq-eqb (a .direction) (b .direction) r)
+equal-clash a b p q r e = simp (eq-eqb (a .channel) (b .channel) p, eq-eqb (a .remote) (b .remote) q, eq-eqb (a .direction) (b .direction) r, e)
 
 -- ---- a refusal is not 0
 

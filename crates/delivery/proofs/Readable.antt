@@ -12,7 +12,8 @@ use Rattle.channel.specs.declared.record.Node.{Node}
 use Rattle.channel.specs.declared.record.Channel.{Channel}
 use Rattle.channel.specs.declared.step.Stepped.{Stepped}
 use Rattle.channel.specs.Asked.{Asked}
-use Rattle.table.specs.declared.looking.Look.the-variants as look
+use Rattle.table.specs.declared.looking.Sought.the-variants as sought
+use Rattle.table.specs.Looking.{seeking}
 use Rattle.table.specs.Looking.{chosen as choice}
 use Rattle.table.specs.Serving.{recordAt, ownMem, ownLens, stored}
 use Rattle.requests.specs.Handing.{nextFor}
@@ -29,12 +30,12 @@ module _ (t : List Channel) (mem lens : List ℕ) (node : Node) (out : List ℕ)
   pub hand-out-read : HandOutRead (nextPacketCall t mem lens node out)
   unfolding stored
   hand-out-read =
-      serve-cases look.Ready (nextFor node) t mem lens out HandOutRead (λ e. absurd (omega (arith, e))) (λ e. absurd (omega (arith, e)))
+      serve-cases (seeking sought.Ready) (nextFor node) t mem lens out HandOutRead (λ e. absurd (omega (arith, e))) (λ e. absurd (omega (arith, e)))
       (λ h below g.
-      let i = servedAt look.Ready (nextFor node) t mem lens out in
+      let i = servedAt (seeking sought.Ready) (nextFor node) t mem lens out in
       let asked : Asked (recordAt t i) (ownMem t i mem) (ownLens t i lens) = record { standing = g .standing; sized = g .sized } in
-      hand-cases node (recordAt t i) (ownMem t i mem) (ownLens t i lens) asked (choice look.Ready t .rank)
-      (ready-is (recordAt t i) (choice look.Ready t .rank) (g .suits) (g .found) .1)
+      hand-cases node (recordAt t i) (ownMem t i mem) (ownLens t i lens) asked (choice (seeking sought.Ready) t .rank)
+      (ready-is (recordAt t i) (choice (seeking sought.Ready) t .rank) (g .suits) (g .found) .1)
       (λ (w : Worked Stepped). HandOutRead (stored t mem lens i w)) out
       (λ e. absurd (omega (arith, e)))
       (λ n o carries e. ap readNumber (carries .read)))

@@ -1,22 +1,22 @@
 -- What an arrival writes: nothing, or one Ack of the channel that it served, which is read back as it was written.
 -- Assumes nothing.
-use mathlib.Core.Path.{_≡_, refl, sym, ap, subst}
+use mathlib.Core.Path.{_≡_, refl, sym, ap, _∙_, subst}
 use mathlib.Core.Bool.{Bool, true, false, not, _&&_, _||_}
 use mathlib.Core.List.{List, [], _++_}
 use mathlib.Core.Logic.{_⊎_, inl, inr, ⊎-elim}
 use Prim.Native.Nat.{ℕ, _≤_, _<_}
-use borrow.Author.Tests.{eqb-true, eqb-false, eq-eqb}
-use lib.Dec.{eqb}
+use borrow.Author.Tests.{le-ltb, ltb-true, ltb-false, eqb-true, eq-eqb}
+use lib.Dec.{ltb, eqb}
 use lib.ListN.{length, take, drop}
 use Rattle.laws.specs.Choice.{if_then_else_}
-use Rattle.laws.proofs.Choice.{both}
+use Rattle.laws.proofs.Choice.{both, either-way}
 use Rattle.packet.specs.declared.kinds.Kind.{Kind}
 use Rattle.packet.specs.declared.kinds.Kind.the-variants.{Data, DataAck, Open, Close, ControlAck, Lacking}
 use Rattle.packet.specs.Kinds.{kindOf}
 use Rattle.packet.specs.declared.fields.Fields.{Fields}
-use Rattle.packet.specs.Layout.{packetOf, payloadAt, fieldsAt, lengthAt}
+use Rattle.packet.specs.Layout.{mostPrefix, prefixFrom, packetOf, payloadAt, fieldsAt, prefixAt, lengthAt, payloadIn}
 use Rattle.packet.specs.Tests.{lacking, strange, flagsWhole}
-use Rattle.packet.specs.Writing.{afterWrite}
+use Rattle.packet.specs.Writing.{writtenOf, afterWrite}
 use Rattle.packet.proofs.WriteLaws.{write-done}
 use Rattle.packet.specs.declared.reading.Read.the-variants.{Found}
 use Rattle.packet.specs.Reading.{readOf}
@@ -33,36 +33,41 @@ use Rattle.channel.specs.declared.step.Stepped.{Stepped}
 use Rattle.channel.specs.Record.{sends, receives, enabled, opened, closing}
 use Rattle.channel.specs.Answers.{lengthOf}
 use Rattle.channel.specs.Steps.{refusing, doing, outgoingOf}
+use Rattle.channel.specs.declared.record.Prefix.{Prefix}
+use Rattle.channel.specs.Prefixes.{prefixOf, fitPrefix, samePrefix, prefixWith}
+use Rattle.channel.proofs.PrefixLaws.{prefix-length, prefix-short}
+use Rattle.channel.proofs.StandingLaws.{own-fits}
 use Rattle.channel.specs.Lone.{isOut}
 use Rattle.sender_acks.specs.Acks.{controlAcked, controlAckStep, awayOf, isAwaited, recorded, confirmedAt, advanced, dataAckStep}
 use Rattle.receiver.specs.Receiving.{ackLength, ackKind, controlStep}
 use Rattle.receiver_data.specs.Data.{dataStep}
 use Rattle.ends.proofs.ReceiverCases.{control-cases, data-cases, accept-cases}
+use Rattle.table.specs.declared.looking.Look.{Look}
 use Rattle.table.specs.Looking.{same, graded}
-use Rattle.arrivals.specs.Arriving.{arriveAs, arriveBy, payloadIn, arrivalFor, Framed}
-use Rattle.arrivals.specs.Finding.{isOurs, lookOf}
-use Rattle.arrivals.specs.Data.{unfit}
+use Rattle.arrivals.specs.Arriving.{arriveAs, arriveBy, arrivalFor, Framed}
+use Rattle.arrivals.specs.Finding.{isOurs, lookOf, prefixRead}
+use Rattle.arrivals.specs.Data.{replyLength, unfit}
 use Rattle.arrivals.specs.Replying.{repliedBy, replying}
-use Rattle.arrivals.proofs.ArriveLaws.{framed, by-unfit, by-kind}
+use Rattle.arrivals.proofs.ArriveLaws.{framed, by-small, by-unfit, by-kind}
 use Rattle.table.proofs.OneLaws.{kind-finds}
 use Rattle.arrivals.proofs.FindLaws.{found-packet}
 use Rattle.keeps.specs.Keeping.{Given}
 
 -- ---- a receiver's steps: with 0 and 15 they have an Ack's octets written
 
-abbrev pub Twelve : Answer → Type 0
-Twelve (Done n u) = n ≡ ackLength
-Twelve (Repeated n) = n ≡ ackLength
-Twelve (Inactive why) = Unit {0}
-Twelve (Refused why) = Unit {0}
+abbrev pub AsLong : Addresses → Answer → Type 0
+AsLong a (Done n u) = n ≡ ackLength a
+AsLong a (Repeated n) = n ≡ ackLength a
+AsLong a (Inactive why) = Unit {0}
+AsLong a (Refused why) = Unit {0}
 
-pub data-twelve : (c : Channel) (number flags : ℕ) → Twelve (dataStep c number flags .answer)
-data-twelve c number flags =
-    data-cases c number flags [] [] [] (λ (s : Stepped) (m l : List ℕ). Twelve (s .answer)) tt tt refl tt
-    (λ o room. accept-cases c _ flags (λ (s : Stepped). Twelve (s .answer)) tt refl)
+pub data-long : (c : Channel) (number flags : ℕ) → AsLong (c .addresses) (dataStep c number flags .answer)
+data-long c number flags =
+    data-cases c number flags [] [] [] (λ (s : Stepped) (m l : List ℕ). AsLong (c .addresses) (s .answer)) tt tt refl tt
+    (λ o room. accept-cases c _ flags (λ (s : Stepped). AsLong (c .addresses) (s .answer)) tt refl)
 
-pub control-twelve : (c : Channel) (opens : Bool) (number : ℕ) → Twelve (controlStep c opens number .answer)
-control-twelve c opens number = control-cases c (λ (s : Stepped). Twelve (s .answer)) tt refl opens number refl refl tt tt
+pub control-long : (c : Channel) (opens : Bool) (number : ℕ) → AsLong (c .addresses) (controlStep c opens number .answer)
+control-long c opens number = control-cases c (λ (s : Stepped). AsLong (c .addresses) (s .answer)) tt refl opens number refl refl tt tt
 
 -- a sender's steps have none
 data-ack-silent : (c : Channel) (number : ℕ) → lengthOf (dataAckStep c number .answer) ≡ 0
@@ -93,53 +98,74 @@ control-ack-silent c number = go (not (eqb (c .phase .state) enabled || eqb (c .
 -- ---- an Ack, read back
 
 pub record Acks (node : Node) (a : Addresses) (kind : Kind) (number : ℕ) (packet : List ℕ) : Type 0 where
-  pub read : readOf packet ≡ Found (outgoingOf node a kind flagsWhole number) (payloadAt (outgoingOf node a kind flagsWhole number)) 0
+  pub read : readOf packet ≡ Found (outgoingOf node a kind flagsWhole number) (length (prefixOf (a .own))) (payloadAt (length (prefixOf (a .own)))) 0
   pub fields : fieldsAt packet ≡ outgoingOf node a kind flagsWhole number
+  pub prefix : prefixRead packet ≡ prefixWith (a .own .length) (prefixOf (a .own))
 
-module _ (node : Node) (a : Addresses) (number : ℕ) where
-  ack-plain : (ofData : Bool) → (lacking (outgoingOf node a (ackKind ofData) flagsWhole number) ≡ false) × (strange (outgoingOf node a (ackKind ofData) flagsWhole number) 0 ≡ false)
+module _ (node : Node) (a : Addresses) (number : ℕ) (fits : fitPrefix (a .own) ≡ true) where
+  few : ltb mostPrefix (a .own .length) ≡ false
+  few = le-ltb mostPrefix (a .own .length) (prefix-short (a .own) fits)
+
+  ack-plain : (ofData : Bool)
+      → (lacking (outgoingOf node a (ackKind ofData) flagsWhole number) (a .own .length) ≡ false) × (strange (outgoingOf node a (ackKind ofData) flagsWhole number) 0 ≡ false)
   unfolding lacking strange kindOf
-  ack-plain true = (refl, refl)
-  ack-plain false = (refl, refl)
+  ack-plain true = (simp (few), refl)
+  ack-plain false = (simp (few), refl)
 
-  module _ (ofData : Bool) (out : List ℕ) (room : ackLength ≤ length out) where
+  module _ (ofData : Bool) (out : List ℕ) (room : ackLength a ≤ length out) where
     abbrev f : Fields
     f = outgoingOf node a (ackKind ofData) flagsWhole number
 
-    pub ack-written : Acks node a (ackKind ofData) number (take ackLength (packetOf f [] ++ drop ackLength out))
+    abbrev q : List ℕ
+    q = prefixOf (a .own)
+
+    pub ack-written : Acks node a (ackKind ofData) number (take (ackLength a) (packetOf f q [] ++ drop (ackLength a) out))
     unfolding afterWrite
     ack-written =
         let plain = ack-plain ofData in
-        let r = written-then-read f [] out ackLength (write-done f 0 (length out) (plain .0) (plain .1) room) in
-        record { read = r .answer; fields = accepted _ f (payloadAt f) 0 (r .answer) .fields }
+        let own = prefix-length (a .own) in
+        let done = ap (λ (n : ℕ). writtenOf f n 0 (length out)) own ∙ write-done f (a .own .length) 0 (length out) (plain .0) (plain .1) room in
+        let r = written-then-read f q [] out (ackLength a) done in
+        let packet = take (ackLength a) (packetOf f q [] ++ drop (ackLength a) out) in
+        let got = accepted packet f (length q) (payloadAt (length q)) 0 (r .answer) in
+        record {
+          read = r .answer;
+          fields = got .fields;
+          prefix =
+              ap (λ (n : ℕ). prefixWith n (take n (drop prefixFrom packet))) (got .prefix)
+              ∙ ap (prefixWith (length q)) (r .prefix)
+              ∙ ap (λ (n : ℕ). prefixWith n q) own;
+        }
 
     -- what is written by an answer: nothing, or the Ack
-    pub reply-written : (r : Answer) → Twelve r
+    pub reply-written : (r : Answer) → AsLong a r
         → (take (lengthOf r) (repliedBy r node a ofData number out) ≡ []) ⊎ Acks node a (ackKind ofData) number (take (lengthOf r) (repliedBy r node a ofData number out))
-    reply-written (Done n u) e = inr (subst (λ (k : ℕ). Acks node a (ackKind ofData) number (take k (packetOf f [] ++ drop ackLength out))) (sym e) ack-written)
-    reply-written (Repeated n) e = inr (subst (λ (k : ℕ). Acks node a (ackKind ofData) number (take k (packetOf f [] ++ drop ackLength out))) (sym e) ack-written)
+    reply-written (Done n u) e = inr (subst (λ (k : ℕ). Acks node a (ackKind ofData) number (take k (packetOf f q [] ++ drop (ackLength a) out))) (sym e) ack-written)
+    reply-written (Repeated n) e = inr (subst (λ (k : ℕ). Acks node a (ackKind ofData) number (take k (packetOf f q [] ++ drop (ackLength a) out))) (sym e) ack-written)
     reply-written (Inactive why) e = inl refl
     reply-written (Refused why) e = inl refl
 
 -- ---- whom a Data Ack names
 
-module _ (node other : Node) (a b : Addresses) (number : ℕ) where
+module _ (node other : Node) (a b : Addresses) (number : ℕ) (q : Prefix) where
   abbrev g : Fields
   g = outgoingOf node a DataAck flagsWhole number
 
-  pub ack-named : isOurs other g ≡ true → same b g ≡ true → (a .remote ≡ other .address) × (b .channel ≡ a .channel)
+  pub ack-named : isOurs other g ≡ true → same b g q ≡ true → (a .remote ≡ other .address) × (b .channel ≡ a .channel)
   unfolding isOurs same kindOf
   ack-named ours is =
       let p = both (eqb (g .destination) (other .address)) (eqb (g .protocol) (other .protocol)) ours in
-      let q = both (eqb (b .channel) (g .channel) && eqb (b .remote) (g .source)) (eqb (b .direction) sends) is in
-      let q2 = both (eqb (b .channel) (g .channel)) (eqb (b .remote) (g .source)) (q .0) in
-      (eqb-true (a .remote) (other .address) (p .0), eqb-true (b .channel) (a .channel) (q2 .0))
+      let r = both (eqb (b .channel) (g .channel) && eqb (b .remote) (g .source) && samePrefix (b .prefix) q) (eqb (b .direction) sends) is in
+      let r2 = both (eqb (b .channel) (g .channel) && eqb (b .remote) (g .source)) (samePrefix (b .prefix) q) (r .0) in
+      let r3 = both (eqb (b .channel) (g .channel)) (eqb (b .remote) (g .source)) (r2 .0) in
+      (eqb-true (a .remote) (other .address) (p .0), eqb-true (b .channel) (a .channel) (r3 .0))
 
   pub ack-names : a .remote ≡ other .address → node .protocol ≡ other .protocol → b .channel ≡ a .channel → b .remote ≡ node .address → b .direction ≡ sends
-      → (isOurs other g && same b g) ≡ true
+      → samePrefix (b .prefix) q ≡ true
+      → (isOurs other g && same b g q) ≡ true
   unfolding isOurs same kindOf
-  ack-names e1 e2 e3 e4 e5 =
-      simp (eq-eqb (a .remote) (other .address) e1, eq-eqb (node .protocol) (other .protocol) e2, eq-eqb (b .channel) (a .channel) e3, eq-eqb (b .remote) (node .address) e4, eq-eqb (b .direction) sends e5)
+  ack-names e1 e2 e3 e4 e5 e6 =
+      simp (eq-eqb (a .remote) (other .address) e1, eq-eqb (node .protocol) (other .protocol) e2, eq-eqb (b .channel) (a .channel) e3, eq-eqb (b .remote) (node .address) e4, eq-eqb (b .direction) sends e5, e6)
 
 -- ---- what an arrival writes at the channel that it is for
 
@@ -147,10 +173,10 @@ module _ (node : Node) (packet out : List ℕ) (at rank : ℕ) (c : Channel) (me
   suits : graded (lookOf node packet (length out)) at c < 3
   suits = subst (λ (k : ℕ). k < 3) (given .suits) (given .found)
 
-  pub arrival-framed : Framed c (fieldsAt packet) (lengthAt packet) packet out
+  pub arrival-framed : Framed c (fieldsAt packet) (payloadAt (prefixAt packet)) (lengthAt packet) packet out
   arrival-framed =
-      framed node packet out at c (lookOf node packet (length out)) (fieldsAt packet) (lengthAt packet) refl suits
-      (found-packet node packet (length out) at c suits .3)
+      framed node packet out at c (lookOf node packet (length out)) (fieldsAt packet) (payloadAt (prefixAt packet)) (lengthAt packet) refl suits
+      (ap (λ (l : Look). l .sought) (found-packet node packet (length out) at c suits .3))
 
   abbrev n : ℕ
   n = fieldsAt packet .number
@@ -163,7 +189,7 @@ module _ (node : Node) (packet out : List ℕ) (at rank : ℕ) (c : Channel) (me
 
   pub arrival-wrote : Wrote (arrivalFor node packet c rank mem lens out)
   unfolding arrivalFor
-  arrival-wrote = by-fit (unfit c f x) refl
+  arrival-wrote = either-way (ltb (length out) (replyLength c (kindOf (f .kind)))) small (λ e. by-fit (ltb-false _ _ e) (unfit c f x) refl)
     where
       f : Fields
       f = fieldsAt packet
@@ -174,27 +200,33 @@ module _ (node : Node) (packet out : List ℕ) (at rank : ℕ) (c : Channel) (me
       p : List ℕ
       p = payloadIn packet
 
-      told : Framed c f x packet out
+      told : Framed c f (payloadAt (prefixAt packet)) x packet out
       told = arrival-framed
 
       silent : (s : Stepped) → lengthOf (s .answer) ≡ 0 → Wrote (works s mem lens out)
       silent s e = inl (ap (λ (k : ℕ). take k out) e)
 
-      control : (opens : Bool) → Wrote (replying node c false n (controlStep c opens n) mem lens out)
-      control opens =
+      fits : fitPrefix (c .addresses .own) ≡ true
+      fits = own-fits c lens (given .standing)
+
+      control : ackLength (c .addresses) ≤ length out → (opens : Bool) → Wrote (replying node c false n (controlStep c opens n) mem lens out)
+      control room opens =
           ⊎-elim (λ e. inl e) (λ e. inr (inl e))
-          (reply-written node (c .addresses) n false out (told .room) (controlStep c opens n .answer) (control-twelve c opens n))
+          (reply-written node (c .addresses) n fits false out room (controlStep c opens n .answer) (control-long c opens n))
 
-      as-kind : (k : Kind) → kindOf (f .kind) ≡ k → Wrote (arriveAs k node f p c rank mem lens out)
-      as-kind Data is =
-          ⊎-elim (λ e. inl e) (λ e. inr (inr (kind-finds (c .addresses) f Data (told .ours) is, e)))
-          (reply-written node (c .addresses) n true out (told .room) (dataStep c n (f .flags) .answer) (data-twelve c n (f .flags)))
-      as-kind DataAck is = silent (dataAckStep c n) (data-ack-silent c n)
-      as-kind Open is = control true
-      as-kind Close is = control false
-      as-kind ControlAck is = silent (controlAckStep c n) (control-ack-silent c n)
-      as-kind (Lacking code) is = inl refl
+      as-kind : (k : Kind) → kindOf (f .kind) ≡ k → replyLength c k ≤ length out → Wrote (arriveAs k node f p c rank mem lens out)
+      as-kind Data is room =
+          ⊎-elim (λ e. inl e) (λ e. inr (inr (kind-finds (c .addresses) f (prefixRead packet) Data (told .ours) is, e)))
+          (reply-written node (c .addresses) n fits true out room (dataStep c n (f .flags) .answer) (data-long c n (f .flags)))
+      as-kind DataAck is room = silent (dataAckStep c n) (data-ack-silent c n)
+      as-kind Open is room = control room true
+      as-kind Close is room = control room false
+      as-kind ControlAck is room = silent (controlAckStep c n) (control-ack-silent c n)
+      as-kind (Lacking code) is room = inl refl
 
-      by-fit : (b : Bool) → unfit c f x ≡ b → Wrote (arriveBy node f x p c rank mem lens out)
-      by-fit true e = subst Wrote (sym (by-unfit node f x p c rank mem lens out (told .room) e)) (inl refl)
-      by-fit false e = subst Wrote (sym (by-kind node f x p c rank mem lens out (told .room) e (kindOf (f .kind)) refl)) (as-kind (kindOf (f .kind)) refl)
+      small : ltb (length out) (replyLength c (kindOf (f .kind))) ≡ true → Wrote (arriveBy node f x p c rank mem lens out)
+      small e = subst Wrote (sym (by-small node f x p c rank mem lens out (kindOf (f .kind)) refl (ltb-true _ _ e))) (inl refl)
+
+      by-fit : replyLength c (kindOf (f .kind)) ≤ length out → (b : Bool) → unfit c f x ≡ b → Wrote (arriveBy node f x p c rank mem lens out)
+      by-fit room true e = subst Wrote (sym (by-unfit node f x p c rank mem lens out room e)) (inl refl)
+      by-fit room false e = subst Wrote (sym (by-kind node f x p c rank mem lens out room e (kindOf (f .kind)) refl)) (as-kind (kindOf (f .kind)) refl room)

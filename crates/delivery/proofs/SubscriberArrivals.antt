@@ -7,36 +7,40 @@ use mathlib.Core.List.{List, []}
 use mathlib.Core.Logic.{_⊎_, ⊎-elim}
 use Prim.Native.Nat.{ℕ, _≤_, _<_}
 use native.Mathlib.Omega.{arith}
-use borrow.Author.Tests.{eqb-true, eqb-false}
-use lib.Dec.{eqb}
+use borrow.Author.Tests.{ltb-true, ltb-false}
+use lib.Dec.{ltb}
 use lib.ListN.{length, take, drop, length-take}
-use Rattle.laws.proofs.Choice.{neither}
+use Rattle.laws.proofs.Choice.{either-way}
 use Rattle.packet.specs.declared.kinds.Kind as packets
 use Rattle.packet.specs.declared.kinds.Kind.the-variants as packet-kind
 use Rattle.packet.specs.Kinds.{codeOf, kindOf}
 use Rattle.packet.proofs.KindLaws.{kind-back}
 use Rattle.packet.specs.declared.fields.Fields.{Fields}
-use Rattle.packet.specs.Layout.{fieldsAt, lengthAt, payloadAt}
-use Rattle.walks.specs.Serving.{Worked}
+use Rattle.packet.specs.Layout.{fieldsAt, prefixAt, lengthAt, payloadAt, payloadIn}
+use Rattle.walks.specs.Serving.{Worked, works}
 use Rattle.channel.specs.declared.record.Addresses.{Addresses}
 use Rattle.channel.specs.declared.record.Channel.{Channel}
 use Rattle.channel.specs.declared.answer.Answer.{Answer}
 use Rattle.channel.specs.declared.answer.Answer.the-variants.{Refused}
+use Rattle.channel.specs.declared.answer.Refusal as refusals
 use Rattle.channel.specs.declared.answer.Refusal.the-variants as refusal
 use Rattle.channel.specs.declared.step.Stepped.{Stepped}
 use Rattle.channel.specs.Record.{receives}
 use Rattle.channel.specs.Answers.{lengthOf}
+use Rattle.channel.specs.Prefixes.{fitPrefix, samePrefix}
+use Rattle.channel.proofs.StandingLaws.{own-fits}
+use Rattle.channel.specs.Steps.{refusing}
 use Rattle.channel.specs.Settings.{clash}
-use Rattle.receiver.specs.Receiving.{controlStep}
+use Rattle.receiver.specs.Receiving.{ackLength, controlStep}
 use Rattle.table.specs.declared.looking.Look.{Look}
 use Rattle.table.specs.Looking.{same, chosen as choice}
 use Rattle.table.proofs.OneLaws.{kind-finds}
 use Rattle.table.specs.Serving.{recordAt, ownMem, ownLens}
-use Rattle.arrivals.specs.Arriving.{arriveAs, arriveBy, payloadIn, arrivalFor, Framed}
-use Rattle.arrivals.specs.Finding.{isOurs, lookOf}
-use Rattle.arrivals.specs.Data.{unfit}
+use Rattle.arrivals.specs.Arriving.{arriveAs, arriveBy, arrivalFor, Framed}
+use Rattle.arrivals.specs.Finding.{isOurs, lookOf, prefixRead}
+use Rattle.arrivals.specs.Data.{replyLength, unfit}
 use Rattle.arrivals.specs.Replying.{repliedBy, replying}
-use Rattle.arrivals.proofs.ArriveLaws.{by-unfit, by-kind}
+use Rattle.arrivals.proofs.ArriveLaws.{by-small, by-unfit, by-kind}
 use Rattle.arrivals.proofs.FindLaws.{found-packet}
 use Rattle.arrivals.proofs.DataLaws.{fit-payload}
 use Rattle.keeps.specs.Keeping.{Given}
@@ -46,14 +50,14 @@ use Rattle.protocol.specs.Sending.{Sender}
 use Rattle.protocol.specs.Receiving.{Receiver}
 use Rattle.means.proofs.ReceiverControl.{control-receives}
 use Rattle.delivery.specs.Calls.{End, arrives, Request, channelOf, calledBy}
-use Rattle.delivery.specs.History.{Event, names, IsData, HandedOut}
+use Rattle.delivery.specs.History.{Event, names, IsData, Toward, HandedOut}
 use Rattle.delivery.specs.Delivery.{NotLate}
 use Rattle.delivery.proofs.Own.{Seen, Left, own-cases}
-use Rattle.delivery.proofs.Nodes.{endWith, same-length, same-addresses}
+use Rattle.delivery.proofs.Nodes.{endWith, same-length, same-addresses, index-is, toward-itself}
 use Rattle.delivery.proofs.Packets.{named-is, names-so, equal-clash}
-use Rattle.delivery.proofs.Replies.{control-twelve, Acks, reply-written, ack-named, arrival-framed, arrival-wrote}
+use Rattle.delivery.proofs.Replies.{control-long, Acks, reply-written, ack-named, arrival-framed, arrival-wrote}
 use Rattle.delivery.proofs.SubscriberData.{data-next}
-use Rattle.delivery.proofs.SubscriberEnd.{Stage, below, addresses-are, receiving, not-sending, asked, Next, Unreplied, unwritten, quiet, moves-next}
+use Rattle.delivery.proofs.SubscriberEnd.{Stage, below, addresses-are, receiving, not-sending, asked, indexFor, Next, Unreplied, unwritten, quiet, moves-next}
 
 -- ---- the arrival
 
@@ -92,42 +96,45 @@ module _ {h s : End} {past : List Event} {x : Sender} {y : Receiver} {t : List C
   arrives-quiet a o u = quiet w request copy a o refl refl u
 
   control-written : (a : Answer) (o : List ℕ) (d : Addresses) (number : ℕ) → Acks (s .node) d packet-kind.ControlAck number (take (lengthOf a) o) → Unreplied w request copy a o
-  control-written a o d number k q is wrote named kind =
+  control-written a o d number k q is wrote toward named kind =
       let is-control : kindOf (fieldsAt q .kind) ≡ packet-kind.ControlAck
       = ap (λ (o : List ℕ). kindOf (fieldsAt o .kind)) (sym wrote) ∙ ap (λ (g : Fields). kindOf (g .kind)) (k .fields) ∙ kind-back packet-kind.ControlAck refl
       in
       omega (arith, ap codeOf (sym is-control ∙ kind))
 
-  -- of another channel: it would have the addresses of this one
-  other-written : (j : ℕ) → j < length t → (j ≡ i → ⊥) → (a : Answer) (o : List ℕ) (number : ℕ)
+  -- of another channel: it would have the addresses of this one, or goes elsewhere
+  other-written : (j : ℕ) → j < length t → (j ≡ i → ⊥) → indexFor w request ≡ j → (a : Answer) (o : List ℕ) (number : ℕ)
       → recordAt t j .addresses .direction ≡ receives
       → Acks (s .node) (recordAt t j .addresses) packet-kind.DataAck number (take (lengthOf a) o)
       → Unreplied w request copy a o
-  other-written j there apart a o number direction k q is wrote named kind =
+  other-written j there apart index a o number direction k q is wrote toward named kind =
       let d : Addresses = recordAt t j .addresses in
       let begun : d ≡ recordAt (s .table) j .addresses = same-addresses s t mem lens (w .now .kept) j in
       let is-named = named-is h (take (lengthOf a) o) (ap (names h) wrote ∙ named) in
-      let z = ack-named (s .node) (h .node) d (channelOf h .addresses) number
+      let z = ack-named (s .node) (h .node) d (channelOf h .addresses) number (prefixRead (take (lengthOf a) o))
       (subst (λ (g : Fields). isOurs (h .node) g ≡ true) (k .fields) (is-named .ours))
-      (subst (λ (g : Fields). same (channelOf h .addresses) g ≡ true) (k .fields) (is-named .same))
+      (subst (λ (g : Fields). same (channelOf h .addresses) g (prefixRead (take (lengthOf a) o)) ≡ true) (k .fields) (is-named .same))
+      in
+      let region : samePrefix (d .prefix) (channelOf s .addresses .prefix) ≡ true
+      = subst (λ (b : Addresses). samePrefix (b .prefix) (channelOf s .addresses .prefix) ≡ true) (sym begun) (subst (Toward s) index toward)
       in
       let equal : clash d (channelOf s .addresses) ≡ true
-      = equal-clash d (channelOf s .addresses) (sym (z .1) ∙ w .alike .number) (z .0 ∙ sym (w .alike .to-host)) (direction ∙ sym (w .alike .receives))
+      = equal-clash d (channelOf s .addresses) (sym (z .1) ∙ w .alike .number) (z .0 ∙ sym (w .alike .to-host)) (direction ∙ sym (w .alike .receives)) region
       in
       true≢false
       (sym equal ∙ ap (λ (b : Addresses). clash b (channelOf s .addresses)) begun
       ∙ w .beginning .alone j (subst (λ (k : ℕ). j < k) (same-length s t mem lens (w .now .kept)) there) apart)
 
-  elsewhere : (j : ℕ) → j < length t → (j ≡ i → ⊥)
+  elsewhere : (j : ℕ) → j < length t → (j ≡ i → ⊥) → indexFor w request ≡ j
       → Given look j (choice look t .rank) (recordAt t j) (ownMem t j mem) (ownLens t j lens)
       → (v : Worked Stepped) → arrivalFor (s .node) packet (recordAt t j) (choice look t .rank) (ownMem t j mem) (ownLens t j lens) buffer ≡ v
       → Next w request copy (v .made .answer) (v .out) c m l
-  elsewhere j there apart g v e =
+  elsewhere j there apart index g v e =
       arrives-quiet (v .made .answer) (v .out)
       (⊎-elim (λ z. unwritten w request copy (v .made .answer) (v .out) z)
       (λ z. ⊎-elim
       (λ k. control-written (v .made .answer) (v .out) (recordAt t j .addresses) (f .number) k)
-      (λ k. other-written j there apart (v .made .answer) (v .out) (f .number) (k .0) (k .1)) z)
+      (λ k. other-written j there apart index (v .made .answer) (v .out) (f .number) (k .0) (k .1)) z)
       (subst (λ (u : Worked Stepped).
       (take (lengthOf (u .made .answer)) (u .out) ≡ [])
       ⊎ (Acks (s .node) (recordAt t j .addresses) packet-kind.ControlAck (f .number) (take (lengthOf (u .made .answer)) (u .out)))
@@ -136,60 +143,69 @@ module _ {h s : End} {past : List Event} {x : Sender} {y : Receiver} {t : List C
 
   -- ---- at the channel itself
 
-  module _ (fair : names s packet ≡ true → HandedOut past copy packet × (IsData packet → NotLate (endWith s t mem lens n) copy))
-      (rank : ℕ) (g : Given look i rank c m l) where
-    told : Framed c f count packet buffer
+  module _ (fair : names s packet ≡ true → HandedOut h past copy packet × (IsData packet → NotLate (endWith s t mem lens n) copy))
+      (rank : ℕ) (g : Given look i rank c m l) (toward : Toward s (indexFor w request)) where
+    told : Framed c f (payloadAt (prefixAt packet)) count packet buffer
     told = arrival-framed (s .node) packet buffer i rank c m l g
 
     for-us : names s packet ≡ true
     for-us =
         let q = found-packet (s .node) packet (length buffer) i c (subst (λ (k : ℕ). k < 3) (g .suits) (g .found)) in
-        names-so s packet (q .1) (q .2) (ap (λ (a : Addresses). same a f) (sym (addresses-are w)) ∙ told .ours)
+        names-so s packet (q .1) (q .2) (ap (λ (a : Addresses). same a f (prefixRead packet)) (sym (addresses-are w)) ∙ told .ours)
 
     short-payload : unfit c f count ≡ false → kindOf (f .kind) ≡ packet-kind.Data → length p ≤ c .limits .payload
-    short-payload fit kind = omega (arith, fit-payload c f count fit kind, length-take count (drop (payloadAt f) packet))
+    short-payload fit kind = omega (arith, fit-payload c f count fit kind, length-take count (drop (payloadAt (prefixAt packet)) packet))
 
     abbrev Made : Worked Stepped → Type 0
     Made v = Left (Next w request copy) v
 
-    control : (opens : Bool) → Made (replying (s .node) c false (f .number) (controlStep c opens (f .number)) m l buffer)
-    control opens =
+    fits : fitPrefix (c .addresses .own) ≡ true
+    fits = own-fits c l (g .standing)
+
+    control : ackLength (c .addresses) ≤ length buffer → (opens : Bool) → Made (replying (s .node) c false (f .number) (controlStep c opens (f .number)) m l buffer)
+    control room opens =
         let step : Stepped = controlStep c opens (f .number) in
         let out : List ℕ = repliedBy (step .answer) (s .node) (c .addresses) false (f .number) buffer in
         moves-next w request copy (step .answer) out refl refl
         (⊎-elim (λ e. unwritten w request copy (step .answer) out e) (λ e. control-written (step .answer) out (c .addresses) (f .number) e)
-        (reply-written (s .node) (c .addresses) (f .number) false buffer (told .room) (step .answer) (control-twelve c opens (f .number))))
+        (reply-written (s .node) (c .addresses) (f .number) fits false buffer room (step .answer) (control-long c opens (f .number))))
         (step .channel) (control-receives c m l y (asked w) (receiving w) (w .now .means) opens (f .number))
 
-    as-kind : unfit c f count ≡ false → (kind : packets.Kind) → kindOf (f .kind) ≡ kind → Made (arriveAs kind (s .node) f p c rank m l buffer)
-    as-kind fit packet-kind.Data is =
+    as-kind : unfit c f count ≡ false → (kind : packets.Kind) → kindOf (f .kind) ≡ kind → replyLength c kind ≤ length buffer
+        → Made (arriveAs kind (s .node) f p c rank m l buffer)
+    as-kind fit packet-kind.Data is room =
         let q = fair for-us in
-        data-next w channel packet buffer copy for-us is (q .0) (q .1 is) (told .room) (told .flags) (short-payload fit is)
-    as-kind fit packet-kind.DataAck is = absurd (not-sending w (kind-finds (c .addresses) f packet-kind.DataAck (told .ours) is))
-    as-kind fit packet-kind.Open is = control true
-    as-kind fit packet-kind.Close is = control false
-    as-kind fit packet-kind.ControlAck is = absurd (not-sending w (kind-finds (c .addresses) f packet-kind.ControlAck (told .ours) is))
-    as-kind fit (packet-kind.Lacking code) is =
+        data-next w channel packet buffer copy toward for-us is (q .0) (q .1 is) room (told .flags) (short-payload fit is)
+    as-kind fit packet-kind.DataAck is room = absurd (not-sending w (kind-finds (c .addresses) f (prefixRead packet) packet-kind.DataAck (told .ours) is))
+    as-kind fit packet-kind.Open is room = control room true
+    as-kind fit packet-kind.Close is room = control room false
+    as-kind fit packet-kind.ControlAck is room = absurd (not-sending w (kind-finds (c .addresses) f (prefixRead packet) packet-kind.ControlAck (told .ours) is))
+    as-kind fit (packet-kind.Lacking code) is room =
         arrives-quiet (Refused refusal.Lacking) buffer (unwritten w request copy (Refused refusal.Lacking) buffer refl)
 
-    by-fit : (b : Bool) → unfit c f count ≡ b → Made (arriveBy (s .node) f count p c rank m l buffer)
-    by-fit true e =
-        subst Made (sym (by-unfit (s .node) f count p c rank m l buffer (told .room) e))
-        (arrives-quiet (Refused refusal.Strange) buffer (unwritten w request copy (Refused refusal.Strange) buffer refl))
-    by-fit false e =
+    refused : (why : refusals.Refusal) → Made (works (refusing c why) m l buffer)
+    refused why = arrives-quiet (Refused why) buffer (unwritten w request copy (Refused why) buffer refl)
+
+    small : ltb (length buffer) (replyLength c (kindOf (f .kind))) ≡ true → Made (arriveBy (s .node) f count p c rank m l buffer)
+    small e =
+        subst Made (sym (by-small (s .node) f count p c rank m l buffer (kindOf (f .kind)) refl (ltb-true _ _ e))) (refused (refusal.Small (replyLength c (kindOf (f .kind)))))
+
+    by-fit : replyLength c (kindOf (f .kind)) ≤ length buffer → (b : Bool) → unfit c f count ≡ b → Made (arriveBy (s .node) f count p c rank m l buffer)
+    by-fit room true e = subst Made (sym (by-unfit (s .node) f count p c rank m l buffer room e)) (refused refusal.Strange)
+    by-fit room false e =
         let kind = kindOf (f .kind) in
-        subst Made (sym (by-kind (s .node) f count p c rank m l buffer (told .room) e kind refl)) (as-kind e kind refl)
+        subst Made (sym (by-kind (s .node) f count p c rank m l buffer room e kind refl)) (as-kind e kind refl room)
 
     own-arrival : Made (arrivalFor (s .node) packet c rank m l buffer)
     unfolding arrivalFor
-    own-arrival = by-fit (unfit c f count) refl
+    own-arrival = either-way (ltb (length buffer) (replyLength c (kindOf (f .kind)))) small (λ e. by-fit (ltb-false _ _ e) (unfit c f count) refl)
 
-  pub subscriber-arrives : (names s packet ≡ true → HandedOut past copy packet × (IsData packet → NotLate (endWith s t mem lens n) copy))
+  pub subscriber-arrives : (names s packet ≡ true → HandedOut h past copy packet × (IsData packet → NotLate (endWith s t mem lens n) copy))
       → Seen (Next w request copy) i (calledBy arrives (endWith s t mem lens n) request)
   subscriber-arrives fair =
       own-cases look (arrivalFor (s .node) packet) t mem lens buffer (shapes look (arrivalFor (s .node) packet) buffer (arrival-keeps (s .node) packet buffer)) i (below w)
       (Next w request copy)
       (λ why. arrives-quiet (Refused why) buffer (unwritten w request copy (Refused why) buffer refl))
       (λ j there apart at g.
-      elsewhere j there apart g (arrivalFor (s .node) packet (recordAt t j) (choice look t .rank) (ownMem t j mem) (ownLens t j lens) buffer) refl)
-      (λ at g. own-arrival fair (choice look t .rank) g)
+      elsewhere j there apart (index-is look t mem lens j (w .now .kept .stands) (g .found) at) g (arrivalFor (s .node) packet (recordAt t j) (choice look t .rank) (ownMem t j mem) (ownLens t j lens) buffer) refl)
+      (λ at g. own-arrival fair (choice look t .rank) g (toward-itself s _ (index-is look t mem lens i (w .now .kept .stands) (g .found) at)))

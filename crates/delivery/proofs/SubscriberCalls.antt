@@ -10,7 +10,7 @@ use Rattle.channel.specs.declared.answer.Answer.{Answer}
 use Rattle.table.specs.Serving.{recordAt, ownMem, ownLens}
 use Rattle.protocol.specs.Sending.{Sender}
 use Rattle.protocol.specs.Receiving.{Receiver}
-use Rattle.delivery.specs.Calls.{End, Kind, opens, closes, transfers, asks, takes, reclaims, hands, arrives, strays, ticks, Request, called}
+use Rattle.delivery.specs.Calls.{End, Kind, opens, closes, transfers, asks, takes, reclaims, hands, arrives, strays, ticks, Request, called, indexTold}
 use Rattle.delivery.specs.History.{subscriber, Event, is, granted, names, IsData, HandedOut, openings}
 use Rattle.delivery.specs.Delivery.{Fresh, Alike, NotLate}
 use Rattle.delivery.proofs.Nodes.{endWith}
@@ -29,7 +29,7 @@ module _ (h s : End) (fresh-h : Fresh h) (fresh-s : Fresh s) (alike : Alike h s)
   outcome r = called (endWith s t mem lens n) r
 
   abbrev event : Request → ℕ → Event
-  event r copy = subscriberEvent r copy n (outcome r .answer) (outcome r .out)
+  event r copy = subscriberEvent r copy n (indexTold (endWith s t mem lens n) r) (outcome r .answer) (outcome r .out)
 
   abbrev After : Request → ℕ → Type 0
   After r copy =
@@ -41,7 +41,7 @@ module _ (h s : End) (fresh-h : Fresh h) (fresh-s : Fresh s) (alike : Alike h s)
   FairArrival r copy =
       is subscriber arrives (subscriberCall r copy) ≡ true
       → names s (r .octets) ≡ true
-      → HandedOut past copy (r .octets) × (IsData (r .octets) → NotLate (endWith s t mem lens n) copy)
+      → HandedOut h past copy (r .octets) × (IsData (r .octets) → NotLate (endWith s t mem lens n) copy)
 
   abbrev FairOpening : Request → ℕ → Type 0
   FairOpening r copy = granted subscriber opens (s .index) (event r copy) ≡ true → openings subscriber (s .index) past ≡ 0

@@ -1,6 +1,6 @@
 -- Data for the subscriber's channel is an arrival at the protocol's receiver, with the same Data Ack.
 -- Assumes nothing.
-use mathlib.Core.Path.{_≡_, refl, sym, ap, _∙_, subst, subst₃}
+use mathlib.Core.Path.{_≡_, refl, sym, ap, ap₂, _∙_, subst, subst₃}
 use mathlib.Core.Bool.{Bool, true, false, _||_}
 use mathlib.Core.List.{List, []}
 use mathlib.Core.Logic.{_⊎_, inl, ⊎-elim}
@@ -15,7 +15,7 @@ use Rattle.packet.specs.declared.kinds.Kind.the-variants.{Data, DataAck}
 use Rattle.packet.specs.Kinds.{kindOf}
 use Rattle.packet.proofs.KindLaws.{kind-back}
 use Rattle.packet.specs.declared.fields.Fields.{Fields}
-use Rattle.packet.specs.Layout.{fieldsAt}
+use Rattle.packet.specs.Layout.{fieldsAt, payloadIn}
 use Rattle.packet.specs.declared.reading.Read.{Read}
 use Rattle.walks.specs.Serving.{works}
 use Rattle.channel.specs.declared.record.Addresses.{Addresses}
@@ -31,7 +31,6 @@ use Rattle.receiver.specs.Receiving.{ackLength}
 use Rattle.receiver_data.specs.Data.{dataStep, dataMem, dataLens}
 use Rattle.receiver_data.proofs.DataLaws.{data-state, state-mem, state-lens}
 use Rattle.table.specs.Serving.{recordAt, ownMem, ownLens}
-use Rattle.arrivals.specs.Arriving.{payloadIn}
 use Rattle.arrivals.specs.Replying.{repliedBy}
 use Rattle.protocol.specs.Numbers.{numberAt, distance}
 use Rattle.protocol.specs.Units.{Segment}
@@ -45,15 +44,19 @@ use Rattle.means.specs.Meaning.{carried}
 use Rattle.means.proofs.Receives.{Receives}
 use Rattle.means.proofs.ReceiverData.{data-receives}
 use Rattle.means.proofs.Near.{data-near}
+use Rattle.channel.specs.Prefixes.{fitPrefix, samePrefix}
+use Rattle.channel.proofs.PrefixLaws.{same-laid}
+use Rattle.channel.proofs.StandingLaws.{own-fits}
+use Rattle.arrivals.specs.Finding.{prefixRead}
 use Rattle.delivery.specs.Calls.{End, arrives, Request, channelOf}
-use Rattle.delivery.specs.History.{Event, namesBy, names, HandedOut}
+use Rattle.delivery.specs.History.{Event, namesBy, names, Toward, HandedOut}
 use Rattle.delivery.specs.Delivery.{NotLate}
 use Rattle.delivery.proofs.Own.{Left}
 use Rattle.delivery.proofs.Nodes.{endWith}
 use Rattle.delivery.proofs.Known.{back-later, Out, Back, limits}
 use Rattle.delivery.proofs.SubscriberFrame.{Replying, subscriber-next, no-reply}
-use Rattle.delivery.proofs.Replies.{Twelve, data-twelve, Acks, ack-written, ack-names}
-use Rattle.delivery.proofs.SubscriberEnd.{opened-rank, Stage, addresses-are, receiving, asked, limits-are, small, Next, unwritten, counted-next, quiet}
+use Rattle.delivery.proofs.Replies.{AsLong, data-long, Acks, ack-written, ack-names}
+use Rattle.delivery.proofs.SubscriberEnd.{opened-rank, Stage, addresses-are, receiving, asked, limits-are, small, indexFor, Next, unwritten, counted-next, quiet}
 
 -- no refusal is answered with an Ack
 unreplied-number : (why : Refusal) → (eqb (refusalNumber why) 0 || eqb (refusalNumber why) 15) ≡ false
@@ -126,9 +129,9 @@ module _ {h s : End} {past : List Event} {x : Sender} {y : Receiver} {t : List C
   abbrev request : Request
   request = record { kind = arrives; channel = channel; octets = packet; buffer = buffer }
 
-  -- what is known of the packet
-  module _ (named : names s packet ≡ true) (kind : kindOf (f .kind) ≡ Data) (handed : HandedOut past copy packet) (late : NotLate (endWith s t mem lens n) copy)
-      (room : ackLength ≤ length buffer) (few : f .flags < 4) (short : length p ≤ c .limits .payload) where
+  -- what is known of the packet, and where its reply goes
+  module _ (toward : Toward s (indexFor w request)) (named : names s packet ≡ true) (kind : kindOf (f .kind) ≡ Data) (handed : HandedOut h past copy packet) (late : NotLate (endWith s t mem lens n) copy)
+      (room : ackLength (c .addresses) ≤ length buffer) (few : f .flags < 4) (short : length p ≤ c .limits .payload) where
     abbrev call : ReceiverCall
     call = ReceiverCall.arrival copy (f .number) (carried (f .flags) p)
 
@@ -148,31 +151,40 @@ module _ {h s : End} {past : List Event} {x : Sender} {y : Receiver} {t : List C
     -- ---- the Data Ack
 
     abbrev Reply : Answer → Type 0
-    Reply a = Replying h s past x y (w .inv) (w .numbered) (small w) request copy n a (outOf a) call
+    Reply a = Replying h s past x y (w .inv) (w .numbered) (small w) request copy n (indexFor w request) a (outOf a) call
 
     abbrev Acked : ℕ → Bool → Type 0
     Acked j b = if b then (copy ≡ j) ⊎ Back h s past j else Back h s past j
 
+    fits : fitPrefix (c .addresses .own) ≡ true
+    fits = own-fits c l (asked w .standing)
+
+    -- the host knows the prefix that the Ack carries
+    from-us : (q : List ℕ) → Acks (s .node) (c .addresses) DataAck (f .number) q → samePrefix (channelOf h .addresses .prefix) (prefixRead q) ≡ true
+    from-us q k =
+        let own : channelOf h .addresses .prefix ≡ c .addresses .own = w .alike .subscriber-prefix ∙ sym (ap (λ (a : Addresses). a .own) (addresses-are w)) in
+        ap₂ samePrefix own (k .prefix) ∙ same-laid (c .addresses .own) fits
+
     ack-for-host : (q : List ℕ) → Acks (s .node) (c .addresses) DataAck (f .number) q → names h q ≡ true
     ack-for-host q k =
         let d = addresses-are w in
-        ap (λ (r : Read). namesBy r (h .node) (channelOf h .addresses)) (k .read)
-        ∙ ack-names (s .node) (h .node) (c .addresses) (channelOf h .addresses) (f .number)
+        ap (λ (r : Read). namesBy r q (h .node) (channelOf h .addresses)) (k .read)
+        ∙ ack-names (s .node) (h .node) (c .addresses) (channelOf h .addresses) (f .number) (prefixRead q)
         (ap (λ (a : Addresses). a .remote) d ∙ w .alike .to-host) (sym (w .alike .protocol)) (w .alike .number ∙ sym (ap (λ (a : Addresses). a .channel) d))
-        (w .alike .to-subscriber) (w .alike .sends)
+        (w .alike .to-subscriber) (w .alike .sends) (from-us q k)
 
     acked : (a : Answer) → Acks (s .node) (c .addresses) DataAck (f .number) (take (lengthOf a) (outOf a)) → protocol.replied said ≡ true → Reply a
     acked a k e =
         record {
-          number = λ j q is wrote at names-h ack.
+          number = λ j q is wrote to at names-h ack.
               ap (λ (r : List ℕ). fieldsAt r .number) (sym wrote) ∙ ap (λ (g : Fields). g .number) (k .fields) ∙ number-is ∙ ap numberAt at;
-          down = λ j q is wrote at names-h ack. subst (Acked j) (sym e) (inl at);
+          down = λ j q is wrote to at names-h ack. subst (Acked j) (sym e) (inl at);
           up = λ j b.
               ⊎-elim
               (λ at.
               record {
                 packet = take (lengthOf a) (outOf a);
-                replied = inl (refl, refl, λ kind. at);
+                replied = inl (refl, refl, toward, λ kind. at);
                 named = ack-for-host (take (lengthOf a) (outOf a)) k;
                 is-ack = ap (λ (g : Fields). kindOf (g .kind)) (k .fields) ∙ kind-back DataAck refl;
               })
@@ -183,17 +195,17 @@ module _ {h s : End} {past : List Event} {x : Sender} {y : Receiver} {t : List C
     -- none
     silent : (a : Answer) → take (lengthOf a) (outOf a) ≡ [] → protocol.replied said ≡ false → Reply a
     silent a e u =
-        no-reply h s past x y (w .inv) (w .numbered) (small w) request copy n a (outOf a) call (unwritten w request copy a (outOf a) e) (λ j b. subst (Acked j) u b)
+        no-reply h s past x y (w .inv) (w .numbered) (small w) request copy n (indexFor w request) a (outOf a) call (unwritten w request copy a (outOf a) e) (λ j b. subst (Acked j) u b)
 
     abbrev isReplied : ℕ → Bool
     isReplied k = eqb k 0 || eqb k 15
 
-    reply-by : (a : Answer) → Twelve a → numberOf a ≡ said .number → Reply a
+    reply-by : (a : Answer) → AsLong (c .addresses) a → numberOf a ≡ said .number → Reply a
     reply-by (Done k u) e q =
-        acked (Done k u) (subst (λ (j : ℕ). Acks (s .node) (c .addresses) DataAck (f .number) (take j (outOf (Done k u)))) (sym e) (ack-written (s .node) (c .addresses) (f .number) true buffer room))
+        acked (Done k u) (subst (λ (j : ℕ). Acks (s .node) (c .addresses) DataAck (f .number) (take j (outOf (Done k u)))) (sym e) (ack-written (s .node) (c .addresses) (f .number) fits true buffer room))
         (ap isReplied (sym q))
     reply-by (Repeated k) e q =
-        acked (Repeated k) (subst (λ (j : ℕ). Acks (s .node) (c .addresses) DataAck (f .number) (take j (outOf (Repeated k)))) (sym e) (ack-written (s .node) (c .addresses) (f .number) true buffer room))
+        acked (Repeated k) (subst (λ (j : ℕ). Acks (s .node) (c .addresses) DataAck (f .number) (take j (outOf (Repeated k)))) (sym e) (ack-written (s .node) (c .addresses) (f .number) fits true buffer room))
         (ap isReplied (sym q))
     reply-by (Inactive why) e q = silent (Inactive why) refl (ap isReplied (sym q))
     reply-by (Refused why) e q = silent (Refused why) refl (ap isReplied (sym q) ∙ unreplied-number why)
@@ -205,8 +217,8 @@ module _ {h s : End} {past : List Event} {x : Sender} {y : Receiver} {t : List C
 
     data-open : rank (y .phase) ≡ 2 → Next w request copy (made .answer) (outOf (made .answer)) (made .channel) (dataMem c (f .number) p m) (dataLens c (f .number) p l)
     data-open now-open =
-        subscriber-next h s past x y (w .inv) (w .numbered) (small w) request copy n (made .answer) (outOf (made .answer)) call
-        (out, number-is, not-late) refl (reply-by (made .answer) (data-twelve c (f .number) (f .flags)) (related .1))
+        subscriber-next h s past x y (w .inv) (w .numbered) (small w) request copy n (indexFor w request) (made .answer) (outOf (made .answer)) call
+        (out, number-is, not-late) refl (reply-by (made .answer) (data-long c (f .number) (f .flags)) (related .1))
         c (made .channel) (dataMem c (f .number) p m) (dataLens c (f .number) p l) (related .0)
         (counted-next w z (made .channel) (dataMem c (f .number) p m) (dataLens c (f .number) p l) (related .0)
         (λ q. omega (arith, now-open)) (λ q. omega (arith, now-open)) (near .0) (omega (arith, near .1))

@@ -24,11 +24,11 @@ use Rattle.protocol.specs.Receiving.{Receiver, ReceiverCall, startOf, controlle
 use Rattle.means.specs.Meaning.{stateOf, limitsOf}
 use Rattle.means.proofs.Receives.{Receives}
 use Rattle.means.proofs.ReceiverControl.{Moves}
-use Rattle.delivery.specs.Calls.{End, Kind, opens, takes, arrives, Request, channelOf, countedOn}
-use Rattle.delivery.specs.History.{Side, subscriber, Event, is, granted, written, names, IsDataAck, openings, taken}
+use Rattle.delivery.specs.Calls.{End, Kind, opens, takes, arrives, Request, channelOf, countedOn, indexTold}
+use Rattle.delivery.specs.History.{Side, subscriber, Event, is, granted, written, names, IsDataAck, Toward, openings, taken}
 use Rattle.delivery.specs.Delivery.{Fresh, Alike}
 use Rattle.delivery.proofs.Own.{View}
-use Rattle.delivery.proofs.Nodes.{same-length, same-addresses, same-limits, own-asked, small-window}
+use Rattle.delivery.proofs.Nodes.{endWith, same-length, same-addresses, same-limits, own-asked, small-window}
 use Rattle.delivery.proofs.Known.{limits, InvOf, Numbered, Subscriber}
 use Rattle.delivery.proofs.Counting.{counted-on}
 use Rattle.delivery.proofs.Packets.{names-nothing}
@@ -117,8 +117,12 @@ module _ {h s : End} {past : List Event} {x : Sender} {y : Receiver} {t : List C
 
   -- ---- what is to be shown of a call with this answer and buffer, and with this record, octets and lengths after it
 
+  -- the index that a call tells
+  abbrev pub indexFor : Request → ℕ
+  indexFor r = indexTold (endWith s t mem lens n) r
+
   abbrev pub Next : Request → ℕ → View
-  Next r copy a o k m2 l2 = SubscriberNext h s past x (subscriberEvent r copy n a o) n c k m2 l2
+  Next r copy a o k m2 l2 = SubscriberNext h s past x (subscriberEvent r copy n (indexFor r) a o) n c k m2 l2
 
   -- how far the start is counted on
   pub counted-next : (z : Receiver) (k : Channel) (m2 l2 : List ℕ) → Receives k m2 l2 z
@@ -140,15 +144,15 @@ module _ {h s : End} {past : List Event} {x : Sender} {y : Receiver} {t : List C
 
   module _ (r : Request) (copy : ℕ) (a : Answer) (o : List ℕ) where
     abbrev event : Event
-    event = subscriberEvent r copy n a o
+    event = subscriberEvent r copy n (indexFor r) a o
 
     -- no Data Ack for the host is written
     abbrev pub Unreplied : Type 0
     Unreplied =
-        (packet : List ℕ) → is subscriber arrives (subscriberCall r copy) ≡ true → written event ≡ packet → names h packet ≡ true → IsDataAck packet → ⊥
+        (packet : List ℕ) → is subscriber arrives (subscriberCall r copy) ≡ true → written event ≡ packet → Toward s (indexFor r) → names h packet ≡ true → IsDataAck packet → ⊥
 
     pub unwritten : written event ≡ [] → Unreplied
-    unwritten e packet is wrote named kind = true≢false (sym named ∙ ap (names h) (sym wrote ∙ e) ∙ names-nothing h)
+    unwritten e packet is wrote toward named kind = true≢false (sym named ∙ ap (names h) (sym wrote ∙ e) ∙ names-nothing h)
 
     module _ (untaken : granted subscriber takes (s .index) event ≡ false) (unopened : granted subscriber opens (s .index) event ≡ false) (unreplied : Unreplied) where
       taken-same : taken s (event ∷ past) ≡ taken s past
@@ -160,13 +164,13 @@ module _ {h s : End} {past : List Event} {x : Sender} {y : Receiver} {t : List C
       -- nothing changes
       pub quiet : Next r copy a o c m l
       quiet =
-          subscriber-quiet h s past x y (w .inv) (w .numbered) small r copy n a o c m l taken-same unreplied (w .now .means) (w .now .counted) still-waits
+          subscriber-quiet h s past x y (w .inv) (w .numbered) small r copy n (indexFor r) a o c m l taken-same unreplied (w .now .means) (w .now .counted) still-waits
 
       -- a move to a later phase
       pub moves-next : (k : Channel) → Moves c k m l y → Next r copy a o k m l
       moves-next k q =
-          subscriber-next h s past x y (w .inv) (w .numbered) small r copy n a o call tt taken-same
-          (no-reply h s past x y (w .inv) (w .numbered) small r copy n a o call unreplied (λ j b. b))
+          subscriber-next h s past x y (w .inv) (w .numbered) small r copy n (indexFor r) a o call tt taken-same
+          (no-reply h s past x y (w .inv) (w .numbered) small r copy n (indexFor r) a o call unreplied (λ j b. b))
           c k m l (q .related) (counted (ltb (rank (y .phase)) (rank (q .phase))) refl (q .related)) (waits (ltb (rank (y .phase)) (rank (q .phase))))
         where
           call : ReceiverCall

@@ -19,7 +19,7 @@ use Rattle.protocol.specs.History as protocol
 use Rattle.protocol.proofs.Invariant.{Inv}
 use Rattle.means.proofs.Receives.{Receives}
 use Rattle.delivery.specs.Calls.{End, arrives, Request, countedOn}
-use Rattle.delivery.specs.History.{subscriber, Call, Event, is, written, names, IsDataAck, openings, accepted, confirmed, reclaimed, taken}
+use Rattle.delivery.specs.History.{subscriber, Call, Event, is, written, names, IsDataAck, Toward, openings, accepted, confirmed, reclaimed, taken}
 use Rattle.delivery.proofs.Known.{Out, Back, back-later, limits, InvOf, Numbered, inv-links}
 use Rattle.delivery.proofs.Counting.{counted-same}
 use Rattle.delivery.proofs.Protocol.{FairData, receiver-keeps}
@@ -28,8 +28,8 @@ use Rattle.delivery.proofs.Protocol.{FairData, receiver-keeps}
 abbrev pub subscriberCall : Request → ℕ → Call
 subscriberCall r i = record { side = subscriber; request = r; copyOf = i }
 
-abbrev pub subscriberEvent : Request → ℕ → ℕ → Answer → List ℕ → Event
-subscriberEvent r i n a o = record { call = subscriberCall r i; started = n; answer = a; out = o }
+abbrev pub subscriberEvent : Request → ℕ → ℕ → ℕ → Answer → List ℕ → Event
+subscriberEvent r i n told a o = record { call = subscriberCall r i; started = n; index = told; answer = a; out = o }
 
 -- a Data Ack of before is among those written
 acked-before : (k : ReceiverCall) (a : ends.Answer) (i : ℕ) {P : Type 0} → P → protocol.ackedBy k a i P
@@ -54,9 +54,9 @@ module _ (h s : End) (past : List Event) (x : Sender) where
     pub waits : openings subscriber (s .index) (e ∷ past) ≡ 0 → receiver .phase ≡ fresh
 
   module _ (y : Receiver) (v : InvOf h s past x y) (numbered : Numbered h s past) (small : limits h s .window ≤ 128)
-      (r : Request) (copy n : ℕ) (a : Answer) (o : List ℕ) where
+      (r : Request) (copy n told : ℕ) (a : Answer) (o : List ℕ) where
     abbrev event : Event
-    event = subscriberEvent r copy n a o
+    event = subscriberEvent r copy n told a o
 
     -- no packet of the host is new
     out-down : (i : ℕ) (g : Segment) → Out h s (event ∷ past) i g → Out h s past i g
@@ -75,6 +75,7 @@ module _ (h s : End) (past : List Event) (x : Sender) where
       pub number : (j : ℕ) (packet : List ℕ)
           → is subscriber arrives (subscriberCall r copy) ≡ true
           → written event ≡ packet
+          → Toward s told
           → copy ≡ j
           → names h packet ≡ true
           → IsDataAck packet
@@ -82,6 +83,7 @@ module _ (h s : End) (past : List Event) (x : Sender) where
       pub down : (j : ℕ) (packet : List ℕ)
           → is subscriber arrives (subscriberCall r copy) ≡ true
           → written event ≡ packet
+          → Toward s told
           → copy ≡ j
           → names h packet ≡ true
           → IsDataAck packet
@@ -109,7 +111,7 @@ module _ (h s : End) (past : List Event) (x : Sender) where
         back-down : (i : ℕ) → Back h s (event ∷ past) i → protocol.ackedBy k said i (Back h s past i)
         back-down i b =
             ⊎-elim
-            (λ w. replying .down i (b .packet) (w .0) (w .1) (w .2 (b .is-ack)) (b .named) (b .is-ack))
+            (λ w. replying .down i (b .packet) (w .0) (w .1) (w .2) (w .3 (b .is-ack)) (b .named) (b .is-ack))
             (λ w. acked-before k said i (record { packet = b .packet; replied = w; named = b .named; is-ack = b .is-ack }))
             (b .replied)
 
@@ -128,25 +130,25 @@ module _ (h s : End) (past : List Event) (x : Sender) where
               sent = λ i packet q named is.
                   ⊎-elim (λ w. absurd (true≢false (sym (w .0)))) (λ w. numbered .sent i packet w named is) q;
               back = λ i packet q named is.
-                  ⊎-elim (λ w. replying .number i packet (w .0) (w .1) (w .2 is) named is) (λ w. numbered .back i packet w named is) q;
+                  ⊎-elim (λ w. replying .number i packet (w .0) (w .1) (w .2) (w .3 is) named is) (λ w. numbered .back i packet w named is) q;
             }
 
     -- where no Data Ack for the other end is written, and the protocol writes none
     pub no-reply : (k : ReceiverCall)
-        → ((packet : List ℕ) → is subscriber arrives (subscriberCall r copy) ≡ true → written event ≡ packet → names h packet ≡ true → IsDataAck packet → ⊥)
+        → ((packet : List ℕ) → is subscriber arrives (subscriberCall r copy) ≡ true → written event ≡ packet → Toward s told → names h packet ≡ true → IsDataAck packet → ⊥)
         → ((j : ℕ) → protocol.ackedBy k (receiverStep (limits h s) y k .1) j (Back h s past j) → Back h s past j)
         → Replying k
     no-reply k none-written same =
         record {
-          number = λ j packet is wrote at named ack. absurd (none-written packet is wrote named ack);
-          down = λ j packet is wrote at named ack. absurd (none-written packet is wrote named ack);
+          number = λ j packet is wrote toward at named ack. absurd (none-written packet is wrote toward named ack);
+          down = λ j packet is wrote toward at named ack. absurd (none-written packet is wrote toward named ack);
           up = λ j b. back-later h s past event j (same j b);
         }
 
     -- a call that leaves the channel and every account as they were
     pub subscriber-quiet : (c : Channel) (mem lens : List ℕ)
         → taken s (event ∷ past) ≡ taken s past
-        → ((packet : List ℕ) → is subscriber arrives (subscriberCall r copy) ≡ true → written event ≡ packet → names h packet ≡ true → IsDataAck packet → ⊥)
+        → ((packet : List ℕ) → is subscriber arrives (subscriberCall r copy) ≡ true → written event ≡ packet → Toward s told → names h packet ≡ true → IsDataAck packet → ⊥)
         → Receives c mem lens y
         → (rank (y .phase) ≤ 2 → n ≡ startOf y)
         → (openings subscriber (s .index) (event ∷ past) ≡ 0 → y .phase ≡ fresh)

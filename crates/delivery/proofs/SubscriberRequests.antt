@@ -22,7 +22,8 @@ use Rattle.channel.specs.Steps.{refusing, doing, enabledOf}
 use Rattle.receiver.specs.Receiving.{openStep}
 use Rattle.ends.proofs.ReceiverCases.{open-cases}
 use Rattle.table.specs.declared.looking.Look.{Look}
-use Rattle.table.specs.declared.looking.Look.the-variants.{Index, Ready, Nobody}
+use Rattle.table.specs.declared.looking.Sought.the-variants.{Index, Ready, Nobody}
+use Rattle.table.specs.Looking.{seeking}
 use Rattle.table.specs.Looking.{chosen as choice}
 use Rattle.table.specs.Serving.{recordAt, ownMem, ownLens, Step, serveOne, alone}
 use Rattle.requests.specs.Requests.{openedBy, closedBy, transferFor, askedBy, reclaimFor}
@@ -45,11 +46,11 @@ use Rattle.delivery.proofs.Nodes.{endWith}
 use Rattle.delivery.proofs.Counting.{counted-same}
 use Rattle.delivery.proofs.Packets.{refused-not-done}
 use Rattle.delivery.proofs.SubscriberFrame.{subscriberEvent, subscriber-next, no-reply}
-use Rattle.delivery.proofs.SubscriberEnd.{unanswered, for-another, granted-is, Stage, below, receiving, not-sending, asked, small, Next, quiet}
+use Rattle.delivery.proofs.SubscriberEnd.{unanswered, for-another, granted-is, Stage, below, receiving, not-sending, asked, small, indexFor, Next, quiet}
 
 -- ---- a request that is served at another channel than the one with index i is not for that one
 
-pub other-index : (index j i : ℕ) (rank : ℕ) (c : Channel) (mem lens : List ℕ) → (j ≡ i → ⊥) → Given (Index index) j rank c mem lens → eqb index i ≡ false
+pub other-index : (index j i : ℕ) (rank : ℕ) (c : Channel) (mem lens : List ℕ) → (j ≡ i → ⊥) → Given (seeking (Index index)) j rank c mem lens → eqb index i ≡ false
 other-index index j i rank c mem lens apart g = ne-eqb index i (λ e. apart (index-served index j rank c mem lens g ∙ e))
 
 -- ---- what a receiving record does
@@ -99,40 +100,40 @@ module _ {h s : End} {past : List Event} {x : Sender} {y : Receiver} {t : List C
   pub subscriber-closes : Shown closes
   subscriber-closes =
       unmoved closes (λ a o. quiet w (request closes) copy a o refl refl (λ packet q. absurd (true≢false (sym q))))
-      (Index channel) (alone closedBy) buffer (shapes (Index channel) (alone closedBy) buffer (close-keeps (Index channel) buffer)) refusal.State
+      (seeking (Index channel)) (alone closedBy) buffer (shapes (seeking (Index channel)) (alone closedBy) buffer (close-keeps (seeking (Index channel)) buffer)) refusal.State
       (λ g. ap (λ (z : Stepped). works z m l buffer) (closed-receives c (not-sending w)))
 
   pub subscriber-transfers : Shown transfers
   subscriber-transfers =
       unmoved transfers (λ a o. quiet w (request transfers) copy a o refl refl (λ packet q. absurd (true≢false (sym q))))
-      (Index channel) (transferFor octets) buffer (transfer-shapes (Index channel) octets buffer) refusal.State
-      (λ g. transfer-refused c (choice (Index channel) t .rank) m l buffer (not-sending w) octets)
+      (seeking (Index channel)) (transferFor octets) buffer (transfer-shapes (seeking (Index channel)) octets buffer) refusal.State
+      (λ g. transfer-refused c (choice (seeking (Index channel)) t .rank) m l buffer (not-sending w) octets)
 
   -- whatever is asked
   pub subscriber-asks : Shown asks
   subscriber-asks =
       unmoved asks (λ a o. quiet w (request asks) copy a o refl refl (λ packet q. absurd (true≢false (sym q))))
-      (Index channel) (alone (askedBy (length octets))) buffer
-      (shapes (Index channel) (alone (askedBy (length octets))) buffer (question-keeps (Index channel) (length octets) buffer)) refusal.State
+      (seeking (Index channel)) (alone (askedBy (length octets))) buffer
+      (shapes (seeking (Index channel)) (alone (askedBy (length octets))) buffer (question-keeps (seeking (Index channel)) (length octets) buffer)) refusal.State
       (λ g. ap (λ (z : Stepped). works z m l buffer) (asked-receives c (length octets) (not-sending w)))
 
   pub subscriber-reclaims : Shown reclaims
   subscriber-reclaims =
       unmoved reclaims (λ a o. quiet w (request reclaims) copy a o refl refl (λ packet q. absurd (true≢false (sym q))))
-      (Index channel) reclaimFor buffer (shapes (Index channel) reclaimFor buffer (reclaim-keeps (Index channel) buffer)) refusal.State
-      (λ g. reclaim-refused c (choice (Index channel) t .rank) m l buffer (not-sending w))
+      (seeking (Index channel)) reclaimFor buffer (shapes (seeking (Index channel)) reclaimFor buffer (reclaim-keeps (seeking (Index channel)) buffer)) refusal.State
+      (λ g. reclaim-refused c (choice (seeking (Index channel)) t .rank) m l buffer (not-sending w))
 
   -- a receiver hands out nothing
   pub subscriber-hands : Shown hands
   subscriber-hands =
       unmoved hands (λ a o. quiet w (request hands) copy a o refl refl (λ packet q. absurd (true≢false (sym q))))
-      Ready (nextFor (s .node)) buffer (shapes Ready (nextFor (s .node)) buffer (next-keeps (s .node) buffer)) refusal.Nothing
-      (λ g. absurd (not-sending w (ready-is c (choice Ready t .rank) (g .suits) (g .found) .0)))
+      (seeking Ready) (nextFor (s .node)) buffer (shapes (seeking Ready) (nextFor (s .node)) buffer (next-keeps (s .node) buffer)) refusal.Nothing
+      (λ g. absurd (not-sending w (ready-is c (choice (seeking Ready) t .rank) (g .suits) (g .found) .0)))
 
   -- a request that is none
   pub subscriber-strays : Shown strays
   subscriber-strays =
-      let none = Nobody refusal.NoChannel in
+      let none = seeking (Nobody refusal.NoChannel) in
       let step = alone (λ c. refusing c refusal.NoChannel) in
       unmoved strays (λ a o. quiet w (request strays) copy a o refl refl (λ packet q. absurd (true≢false (sym q))))
       none step buffer (shapes none step buffer (unknown-keeps none buffer)) refusal.NoChannel (λ g. refl)
@@ -142,26 +143,26 @@ module _ {h s : End} {past : List Event} {x : Sender} {y : Receiver} {t : List C
   -- the premise on it: the opening is the first
   abbrev First : View
   First a o k m2 l2 =
-      (granted subscriber opens i (subscriberEvent (request opens) copy n a o) ≡ true → openings subscriber i past ≡ 0)
+      (granted subscriber opens i (subscriberEvent (request opens) copy n (indexFor w (request opens)) a o) ≡ true → openings subscriber i past ≡ 0)
       → Next w (request opens) copy a o k m2 l2
 
-  opens-quiet : (a : Answer) (o : List ℕ) → granted subscriber opens i (subscriberEvent (request opens) copy n a o) ≡ false → Next w (request opens) copy a o c m l
+  opens-quiet : (a : Answer) (o : List ℕ) → granted subscriber opens i (subscriberEvent (request opens) copy n (indexFor w (request opens)) a o) ≡ false → Next w (request opens) copy a o c m l
   opens-quiet a o e = quiet w (request opens) copy a o refl e (λ packet q. absurd (true≢false (sym q)))
 
   opens-refused : (why : Refusal) (o : List ℕ) → Next w (request opens) copy (Refused why) o c m l
   opens-refused why o =
-      opens-quiet (Refused why) o (unanswered subscriber opens i (subscriberEvent (request opens) copy n (Refused why) o) (refused-not-done why))
+      opens-quiet (Refused why) o (unanswered subscriber opens i (subscriberEvent (request opens) copy n (indexFor w (request opens)) (Refused why) o) (refused-not-done why))
 
   opens-done : channel ≡ i → openStep c ≡ doing (enabledOf c noLone) 0 → First (Done 0 0) buffer (enabledOf c noLone) m l
   opens-done own e first =
-      subscriber-next h s past x y (w .inv) (w .numbered) (small w) (request opens) copy n (Done 0 0) buffer call tt refl
-      (no-reply h s past x y (w .inv) (w .numbered) (small w) (request opens) copy n (Done 0 0) buffer call (λ packet q. absurd (true≢false (sym q))) (λ j b. b))
+      subscriber-next h s past x y (w .inv) (w .numbered) (small w) (request opens) copy n (indexFor w (request opens)) (Done 0 0) buffer call tt refl
+      (no-reply h s past x y (w .inv) (w .numbered) (small w) (request opens) copy n (indexFor w (request opens)) (Done 0 0) buffer call (λ packet q. absurd (true≢false (sym q))) (λ j b. b))
       c (enabledOf c noLone) m l (q .related)
       (λ z. counted-same n c (enabledOf c noLone) (λ k. absurd (omega (arith, k))) ∙ w .now .counted (omega (arith, ap rank fresh-yet)) ∙ start (ltb (rank (y .phase)) (rank (q .phase))))
       (λ z. absurd (omega (arith, sym (chosen (granted subscriber opens i event) _ _ done) ∙ z)))
     where
       event : Event
-      event = subscriberEvent (request opens) copy n (Done 0 0) buffer
+      event = subscriberEvent (request opens) copy n (indexFor w (request opens)) (Done 0 0) buffer
 
       done : granted subscriber opens i event ≡ true
       done = granted-is subscriber opens i event refl own refl
@@ -187,13 +188,13 @@ module _ {h s : End} {past : List Event} {x : Sender} {y : Receiver} {t : List C
 
   pub subscriber-opens :
       (granted subscriber opens i
-      (subscriberEvent (request opens) copy n (calledBy opens (endWith s t mem lens n) (request opens) .answer) (calledBy opens (endWith s t mem lens n) (request opens) .out)) ≡ true
+      (subscriberEvent (request opens) copy n (indexFor w (request opens)) (calledBy opens (endWith s t mem lens n) (request opens) .answer) (calledBy opens (endWith s t mem lens n) (request opens) .out)) ≡ true
       → openings subscriber i past ≡ 0)
       → Shown opens
   subscriber-opens =
-      own-cases (Index channel) (alone openedBy) t mem lens buffer (shapes (Index channel) (alone openedBy) buffer (open-keeps (Index channel) buffer)) i (below w) First
+      own-cases (seeking (Index channel)) (alone openedBy) t mem lens buffer (shapes (seeking (Index channel)) (alone openedBy) buffer (open-keeps (seeking (Index channel)) buffer)) i (below w) First
       (λ why first. opens-refused why buffer)
       (λ j there apart at g first.
       opens-quiet (openedBy (recordAt t j) .answer) buffer
-      (for-another subscriber opens i (subscriberEvent (request opens) copy n (openedBy (recordAt t j) .answer) buffer) (other-index channel j i _ _ _ _ apart g)))
+      (for-another subscriber opens i (subscriberEvent (request opens) copy n (indexFor w (request opens)) (openedBy (recordAt t j) .answer) buffer) (other-index channel j i _ _ _ _ apart g)))
       (λ at g. opens-own (sym (index-served channel i _ _ _ _ g)))

@@ -26,7 +26,8 @@ use Rattle.channel.specs.Steps.{refusing, doing}
 use Rattle.channel.specs.Answers.{numberOf}
 use Rattle.receiver_data.specs.Taking.{completeIn, unitAt, sizeAt, dropped, takeStep, takeOut}
 use Rattle.receiver_data.proofs.TakeLaws.{take-nothing, take-small, take-done, out-nothing, out-small, out-done}
-use Rattle.table.specs.declared.looking.Look.the-variants.{Index}
+use Rattle.table.specs.declared.looking.Sought.the-variants.{Index}
+use Rattle.table.specs.Looking.{seeking}
 use Rattle.table.specs.Looking.{chosen as choice}
 use Rattle.table.specs.Serving.{recordAt, ownMem, ownLens}
 use Rattle.requests.specs.Requests.{takeFor}
@@ -50,7 +51,7 @@ use Rattle.delivery.proofs.Known.{limits}
 use Rattle.delivery.proofs.Packets.{refused-not-done}
 use Rattle.delivery.proofs.SubscriberFrame.{subscriberEvent, subscriber-next, no-reply}
 use Rattle.delivery.proofs.SubscriberRequests.{other-index}
-use Rattle.delivery.proofs.SubscriberEnd.{unanswered, for-another, granted-is, Stage, below, receiving, asked, small, Next, counted-next, quiet}
+use Rattle.delivery.proofs.SubscriberEnd.{unanswered, for-another, granted-is, Stage, below, receiving, asked, small, indexFor, Next, counted-next, quiet}
 
 takes-by : (c : Channel) (rank : ℕ) (mem lens out : List ℕ) → c .addresses .direction ≡ receives
     → takeFor c rank mem lens out ≡ works (takeStep c lens (length out)) mem lens (takeOut c lens mem out)
@@ -74,12 +75,12 @@ module _ {h s : End} {past : List Event} {x : Sender} {y : Receiver} {t : List C
   abbrev request : Request
   request = record { kind = takes; channel = channel; octets = octets; buffer = buffer }
 
-  takes-quiet : (a : Answer) (o : List ℕ) → granted subscriber takes i (subscriberEvent request copy n a o) ≡ false → Next w request copy a o c m l
+  takes-quiet : (a : Answer) (o : List ℕ) → granted subscriber takes i (subscriberEvent request copy n (indexFor w request) a o) ≡ false → Next w request copy a o c m l
   takes-quiet a o e = quiet w request copy a o e refl (λ packet q. absurd (true≢false (sym q)))
 
   takes-refused : (why : Refusal) (o : List ℕ) → Next w request copy (Refused why) o c m l
   takes-refused why o =
-      takes-quiet (Refused why) o (unanswered subscriber takes i (subscriberEvent request copy n (Refused why) o) (refused-not-done why))
+      takes-quiet (Refused why) o (unanswered subscriber takes i (subscriberEvent request copy n (indexFor w request) (Refused why) o) (refused-not-done why))
 
   abbrev unit : List ℕ
   unit = octetsIn (slotOf c) (c .limits .payload) m l (c .limits .slots) (unitAt c) (oldestOf (c .limits .slots) (c .window))
@@ -87,8 +88,8 @@ module _ {h s : End} {past : List Event} {x : Sender} {y : Receiver} {t : List C
   takes-done : channel ≡ i → takeStep c l (length buffer) ≡ doing (dropped c (unitAt c)) (sizeAt c l) → sizeAt c l ≤ length buffer
       → Next w request copy (Done (sizeAt c l) 0) (laid buffer 0 unit) (dropped c (unitAt c)) m l
   takes-done own e room =
-      subscriber-next h s past x y (w .inv) (w .numbered) (small w) request copy n said (laid buffer 0 unit) ReceiverCall.takeUnit tt grows
-      (no-reply h s past x y (w .inv) (w .numbered) (small w) request copy n said (laid buffer 0 unit) ReceiverCall.takeUnit (λ packet q. absurd (true≢false (sym q))) (λ j b. b))
+      subscriber-next h s past x y (w .inv) (w .numbered) (small w) request copy n (indexFor w request) said (laid buffer 0 unit) ReceiverCall.takeUnit tt grows
+      (no-reply h s past x y (w .inv) (w .numbered) (small w) request copy n (indexFor w request) said (laid buffer 0 unit) ReceiverCall.takeUnit (λ packet q. absurd (true≢false (sym q))) (λ j b. b))
       c (dropped c (unitAt c)) m l related
       (counted-next w z (dropped c (unitAt c)) m l related (λ q. omega (arith, q, phase-same)) (λ q. omega (arith, q, phase-same))
       (omega (arith, start-same)) (omega (arith, start-same)) (λ q other. sym start-same))
@@ -98,7 +99,7 @@ module _ {h s : End} {past : List Event} {x : Sender} {y : Receiver} {t : List C
       said = Done (sizeAt c l) 0
 
       event : Event
-      event = subscriberEvent request copy n said (laid buffer 0 unit)
+      event = subscriberEvent request copy n (indexFor w request) said (laid buffer 0 unit)
 
       z : Receiver
       z = receiverStep (limits h s) y ReceiverCall.takeUnit .0
@@ -157,13 +158,13 @@ module _ {h s : End} {past : List Event} {x : Sender} {y : Receiver} {t : List C
 
   pub subscriber-takes : Seen (Next w request copy) i (calledBy takes (endWith s t mem lens n) request)
   subscriber-takes =
-      own-cases (Index channel) takeFor t mem lens buffer (shapes (Index channel) takeFor buffer (take-keeps (Index channel) buffer)) i (below w)
+      own-cases (seeking (Index channel)) takeFor t mem lens buffer (shapes (seeking (Index channel)) takeFor buffer (take-keeps (seeking (Index channel)) buffer)) i (below w)
       (Next w request copy)
       (λ why. takes-refused why buffer)
       (λ j there apart at g.
-      let step = takeFor (recordAt t j) (choice (Index channel) t .rank) (ownMem t j mem) (ownLens t j lens) buffer in
+      let step = takeFor (recordAt t j) (choice (seeking (Index channel)) t .rank) (ownMem t j mem) (ownLens t j lens) buffer in
       takes-quiet (step .made .answer) (step .out)
-      (for-another subscriber takes i (subscriberEvent request copy n (step .made .answer) (step .out)) (other-index channel j i _ _ _ _ apart g)))
+      (for-another subscriber takes i (subscriberEvent request copy n (indexFor w request) (step .made .answer) (step .out)) (other-index channel j i _ _ _ _ apart g)))
       (λ at g.
-      subst (Left (Next w request copy)) (sym (takes-by c (choice (Index channel) t .rank) m l buffer (receiving w)))
+      subst (Left (Next w request copy)) (sym (takes-by c (choice (seeking (Index channel)) t .rank) m l buffer (receiving w)))
       (takes-own (sym (index-served channel i _ _ _ _ g))))

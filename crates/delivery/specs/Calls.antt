@@ -10,10 +10,10 @@ use Rattle.channel.specs.declared.record.Channel.{Channel}
 use Rattle.channel.specs.declared.answer.Answer.{Answer}
 use Rattle.channel.specs.Record as state
 use Rattle.table.specs.Serving.{recordAt, ownMem, ownLens}
-use Rattle.ticks.specs.Ticks.{ticked}
+use Rattle.ticks.specs.Ticks.{ticked, tickIndex}
 use Rattle.node.specs.declared.request.Request as door
 use Rattle.node.specs.declared.request.Request.the-variants.{Open, Close, Transfer, WouldTransfer, Take, Reclaim, Arrival, NextPacket, Unknown}
-use Rattle.node.specs.Calls.{served}
+use Rattle.node.specs.Calls.{served, servedIndex}
 use Rattle.keeps.specs.Keeping.{staying}
 use Rattle.protocol.specs.Numbers.{distance}
 use Rattle.means.specs.Held.{unitsHeld}
@@ -70,6 +70,25 @@ calledBy ticks e r = staying (ticked (e .table) (e .mem) (e .lens)) (e .mem) (e 
 
 abbrev pub called : End → Request → Called Answer Channel
 called e r = calledBy (r .kind) e r
+
+-- The index that it tells, of the channel that it served: by it a driver knows where a packet goes that was handed out or replied.
+abbrev pub indexAt : End → Request → door.Request → ℕ
+indexAt e r asked = servedIndex (e .table) (e .mem) (e .lens) asked (r .octets) (r .buffer)
+
+abbrev pub indexBy : Kind → End → Request → ℕ
+indexBy opens e r = indexAt e r (Open (r .channel))
+indexBy closes e r = indexAt e r (Close (r .channel))
+indexBy transfers e r = indexAt e r (Transfer (r .channel))
+indexBy asks e r = indexAt e r (WouldTransfer (r .channel) (length (r .octets)))
+indexBy takes e r = indexAt e r (Take (r .channel))
+indexBy reclaims e r = indexAt e r (Reclaim (r .channel))
+indexBy hands e r = indexAt e r (NextPacket (e .node))
+indexBy arrives e r = indexAt e r (Arrival (e .node))
+indexBy strays e r = indexAt e r Unknown
+indexBy ticks e r = tickIndex (e .table) (e .mem) (e .lens)
+
+abbrev pub indexTold : End → Request → ℕ
+indexTold e r = indexBy (r .kind) e r
 
 -- the record of the channel that is watched, and the units that it holds: read from record, memory and lengths
 abbrev pub channelOf : End → Channel

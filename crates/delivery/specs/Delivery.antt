@@ -18,7 +18,7 @@ use Rattle.table.specs.Lent.{lawful}
 use Rattle.table.specs.Serving.{recordAt}
 use Rattle.keeps.specs.Keeping.{Wide}
 use Rattle.means.specs.Meaning.{limitsOf}
-use Rattle.delivery.specs.Calls.{End, opens, arrives, called, channelOf, unitsOf, afterCall}
+use Rattle.delivery.specs.Calls.{End, opens, arrives, called, indexTold, channelOf, unitsOf, afterCall}
 use Rattle.delivery.specs.History.{Side, host, subscriber, Call, Event, is, granted, names, IsData, IsDataAck, HandedOut, Replied, openings, accepted, confirmed, reclaimed, taken}
 
 -- ---- the two ends at the beginning
@@ -37,12 +37,14 @@ pub record Fresh (e : End) : Type 0 where
   pub empty : heldIn (channelOf e .window) ≡ 0
   pub start : e .start ≡ 0
 
--- 'both ends configured alike': the same channel number, window, slots, P and M, the addresses exchanged
+-- 'both ends configured alike': the same channel number, window, slots, P and M, the addresses exchanged, with their prefixes
 pub record Alike (h s : End) : Type 0 where
   pub protocol : h .node .protocol ≡ s .node .protocol
   pub number : channelOf h .addresses .channel ≡ channelOf s .addresses .channel
   pub to-subscriber : channelOf h .addresses .remote ≡ s .node .address
   pub to-host : channelOf s .addresses .remote ≡ h .node .address
+  pub subscriber-prefix : channelOf h .addresses .prefix ≡ channelOf s .addresses .own
+  pub host-prefix : channelOf s .addresses .prefix ≡ channelOf h .addresses .own
   pub sends : channelOf h .addresses .direction ≡ sends
   pub receives : channelOf s .addresses .direction ≡ receives
   pub limits : limitsOf (channelOf h .limits) ≡ limitsOf (channelOf s .limits)
@@ -66,7 +68,8 @@ abbrev pub outcome : Run → Call → Called Answer Channel
 outcome w c = called (endOf w (c .side)) (c .request)
 
 abbrev pub eventBy : Run → Call → Called Answer Channel → Event
-eventBy w c g = record { call = c; started = endOf w (c .side) .start; answer = g .answer; out = g .out }
+eventBy w c g =
+    record { call = c; started = endOf w (c .side) .start; index = indexTold (endOf w (c .side)) (c .request); answer = g .answer; out = g .out }
 
 abbrev pub eventOf : Run → Call → Event
 eventOf w c = eventBy w c (outcome w c)
@@ -90,15 +93,15 @@ abbrev pub NotLate : End → ℕ → Type 0
 NotLate e i = e .start ≤ i + (256 - channelOf e .limits .window)
 
 -- Calls are free, but for what the link may bring and for a second opening. A packet lost is no arrival. What arrives damaged, or for another
--- channel, does not name this channel, and is any octets. What names it is a copy of a packet that the other end handed out or replied, at any
--- later time, any number of times; and Data or a Data Ack is not late.
+-- channel, does not name this channel, and is any octets. What names it is a copy of a packet that the other end handed out or replied, toward this
+-- end, at any later time, any number of times; and Data or a Data Ack is not late.
 pub record Fair (h s : End) (w : Run) (c : Call) : Type 0 where
   pub at-subscriber : is subscriber arrives c ≡ true
       → names s (c .request .octets) ≡ true
-      → HandedOut (w .past) (c .copyOf) (c .request .octets) × (IsData (c .request .octets) → NotLate (w .subscriber) (c .copyOf))
+      → HandedOut h (w .past) (c .copyOf) (c .request .octets) × (IsData (c .request .octets) → NotLate (w .subscriber) (c .copyOf))
   pub at-host : is host arrives c ≡ true
       → names h (c .request .octets) ≡ true
-      → Replied (w .past) (c .copyOf) (c .request .octets) × (IsDataAck (c .request .octets) → NotLate (w .host) (c .copyOf))
+      → Replied s (w .past) (c .copyOf) (c .request .octets) × (IsDataAck (c .request .octets) → NotLate (w .host) (c .copyOf))
   -- 'one opening': no second Open directive is accepted at either end
   pub opens-host : granted host opens (h .index) (eventOf w c) ≡ true → openings host (h .index) (w .past) ≡ 0
   pub opens-subscriber : granted subscriber opens (s .index) (eventOf w c) ≡ true → openings subscriber (s .index) (w .past) ≡ 0

@@ -17,8 +17,10 @@ use Rattle.channel.specs.declared.record.Node.{Node}
 use Rattle.channel.specs.declared.record.Addresses.{Addresses}
 use Rattle.channel.specs.declared.answer.Answer.{Answer}
 use Rattle.channel.specs.Answers.{numberOf, lengthOf, confirmedOf}
+use Rattle.channel.specs.Prefixes.{samePrefix}
 use Rattle.table.specs.Looking.{same}
-use Rattle.arrivals.specs.Finding.{isOurs}
+use Rattle.table.specs.Serving.{recordAt}
+use Rattle.arrivals.specs.Finding.{isOurs, prefixRead}
 use Rattle.protocol.specs.Numbers.{numberAt, distance}
 use Rattle.delivery.specs.Calls.{End, Kind, opens, transfers, takes, reclaims, hands, arrives, code, Request, channelOf}
 
@@ -36,11 +38,12 @@ pub record Call : Type 0 where
   pub request : Request
   pub copyOf : ℕ
 
--- A call that was made, with what came of it: the answer, the lent buffer as it was left, and where the window of this node's channel had
--- started. A history is a list of these, the latest first.
+-- A call that was made, with what came of it: the answer, the lent buffer as it was left, the index that was told, and where the window of this
+-- node's channel had started. A history is a list of these, the latest first.
 pub record Event : Type 0 where
   pub call : Call
   pub started : ℕ
+  pub index : ℕ
   pub answer : Answer
   pub out : List ℕ
 
@@ -59,15 +62,15 @@ written e = take (lengthOf (e .answer)) (e .out)
 -- ---- packets
 
 -- The octets are a packet that a node takes for the channel with these addresses: whole, undamaged, of a known form, and addressed to it.
-abbrev pub namesBy : Read → Node → Addresses → Bool
-namesBy (Found f start x) node a = isOurs node f && same a f
-namesBy Short node a = false
-namesBy Damaged node a = false
-namesBy Strange node a = false
-namesBy Lacking node a = false
+abbrev pub namesBy : Read → List ℕ → Node → Addresses → Bool
+namesBy (Found f n start x) packet node a = isOurs node f && same a f (prefixRead packet)
+namesBy Short packet node a = false
+namesBy Damaged packet node a = false
+namesBy Strange packet node a = false
+namesBy Lacking packet node a = false
 
 abbrev pub names : End → List ℕ → Bool
-names e packet = namesBy (readOf packet) (e .node) (channelOf e .addresses)
+names e packet = namesBy (readOf packet) packet (e .node) (channelOf e .addresses)
 
 -- of what kind it is
 abbrev pub IsData : List ℕ → Type 0
@@ -80,17 +83,24 @@ IsDataAck packet = kindOf (fieldsAt packet .kind) ≡ DataAck
 abbrev pub segmentOf : ℕ → List ℕ → ℕ
 segmentOf started packet = started + distance (fieldsAt packet .number) (numberAt started)
 
--- the host handed out this packet, and if it is Data, for the segment i
-abbrev pub HandedOut : List Event → ℕ → List ℕ → Type 0
-HandedOut [] i packet = ⊥
-HandedOut (e ∷ past) i packet =
-    ((is host hands (e .call) ≡ true) × (written e ≡ packet) × (IsData packet → segmentOf (e .started) packet ≡ i)) ⊎ HandedOut past i packet
+-- A packet of the channel with this index goes where those of the watched one go: to the same region. Two nodes in two regions may have one logical
+-- address; what parts them is the prefix of the destination, which stands before a packet and is the driver's (000, 4.2.2.1; document 02, A7).
+abbrev pub Toward : End → ℕ → Type 0
+Toward e j = samePrefix (recordAt (e .table) j .addresses .prefix) (channelOf e .addresses .prefix) ≡ true
 
--- the subscriber replied with this packet, and if it is a Data Ack, to a copy of the segment i
-abbrev pub Replied : List Event → ℕ → List ℕ → Type 0
-Replied [] i packet = ⊥
-Replied (e ∷ past) i packet =
-    ((is subscriber arrives (e .call) ≡ true) × (written e ≡ packet) × (IsDataAck packet → e .call .copyOf ≡ i)) ⊎ Replied past i packet
+-- the host handed out this packet, toward the subscriber, and if it is Data, for the segment i
+abbrev pub HandedOut : End → List Event → ℕ → List ℕ → Type 0
+HandedOut h [] i packet = ⊥
+HandedOut h (e ∷ past) i packet =
+    ((is host hands (e .call) ≡ true) × (written e ≡ packet) × Toward h (e .index) × (IsData packet → segmentOf (e .started) packet ≡ i))
+    ⊎ HandedOut h past i packet
+
+-- the subscriber replied with this packet, toward the host, and if it is a Data Ack, to a copy of the segment i
+abbrev pub Replied : End → List Event → ℕ → List ℕ → Type 0
+Replied s [] i packet = ⊥
+Replied s (e ∷ past) i packet =
+    ((is subscriber arrives (e .call) ≡ true) × (written e ≡ packet) × Toward s (e .index) × (IsDataAck packet → e .call .copyOf ≡ i))
+    ⊎ Replied s past i packet
 
 -- ---- the accounts of the channel whose two ends were these at the beginning
 

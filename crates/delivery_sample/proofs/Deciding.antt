@@ -14,6 +14,8 @@ use Rattle.packet.specs.declared.kinds.Kind as packets
 use Rattle.packet.specs.declared.kinds.Kind.the-variants as packet-kind
 use Rattle.packet.specs.Kinds.{kindOf, isData}
 use Rattle.packet.specs.Layout.{fieldsAt}
+use Rattle.channel.specs.Prefixes.{samePrefix}
+use Rattle.table.specs.Serving.{recordAt}
 use Rattle.delivery.specs.Calls.{End, opens, hands, arrives, channelOf}
 use Rattle.delivery.specs.History.{Side, host, subscriber, Call, Event, is, granted, written, names, segmentOf, HandedOut, Replied, openings}
 use Rattle.delivery.specs.Delivery.{Run, eventOf, step, run, Fair, AllFair}
@@ -57,47 +59,55 @@ isDataAck packet-kind.Close = false
 isDataAck packet-kind.ControlAck = false
 isDataAck (packet-kind.Lacking code) = false
 
-unfoldable pub handedIn : ℕ → List Event → ℕ → List ℕ → Bool
-handedIn zero past i packet = false
-handedIn (suc n) [] i packet = false
-handedIn (suc n) (e ∷ past) i packet =
-    (is host hands (e .call) && equal (written e) packet && implies (isData (kindOf (fieldsAt packet .kind))) (eqb (segmentOf (e .started) packet) i)) || handedIn n past i packet
+-- the region to which it goes is that of the watched channel
+abbrev pub toward : End → ℕ → Bool
+toward e j = samePrefix (recordAt (e .table) j .addresses .prefix) (channelOf e .addresses .prefix)
 
-handed-in : (n : ℕ) (past : List Event) (i : ℕ) (packet : List ℕ) → handedIn n past i packet ≡ true → HandedOut past i packet
+unfoldable pub handedIn : End → ℕ → List Event → ℕ → List ℕ → Bool
+handedIn h zero past i packet = false
+handedIn h (suc n) [] i packet = false
+handedIn h (suc n) (e ∷ past) i packet =
+    (is host hands (e .call) && equal (written e) packet && toward h (e .index) && implies (isData (kindOf (fieldsAt packet .kind))) (eqb (segmentOf (e .started) packet) i))
+    || handedIn h n past i packet
+
+handed-in : (h : End) (n : ℕ) (past : List Event) (i : ℕ) (packet : List ℕ) → handedIn h n past i packet ≡ true → HandedOut h past i packet
 unfolding handedIn
-handed-in zero past i packet e = absurd (true≢false (sym e))
-handed-in (suc n) [] i packet e = absurd (true≢false (sym e))
-handed-in (suc n) (v ∷ past) i packet e = ⊎-elim found (λ q. inr (handed-in n past i packet q)) (either here (handedIn n past i packet) e)
+handed-in h zero past i packet e = absurd (true≢false (sym e))
+handed-in h (suc n) [] i packet e = absurd (true≢false (sym e))
+handed-in h (suc n) (v ∷ past) i packet e = ⊎-elim found (λ q. inr (handed-in h n past i packet q)) (either here (handedIn h n past i packet) e)
   where
     here : Bool
-    here = is host hands (v .call) && equal (written v) packet && implies (isData (kindOf (fieldsAt packet .kind))) (eqb (segmentOf (v .started) packet) i)
+    here = is host hands (v .call) && equal (written v) packet && toward h (v .index) && implies (isData (kindOf (fieldsAt packet .kind))) (eqb (segmentOf (v .started) packet) i)
 
-    found : here ≡ true → HandedOut (v ∷ past) i packet
+    found : here ≡ true → HandedOut h (v ∷ past) i packet
     found q =
-        let p = both (is host hands (v .call) && equal (written v) packet) (implies (isData (kindOf (fieldsAt packet .kind))) (eqb (segmentOf (v .started) packet) i)) q in
-        let r = both (is host hands (v .call)) (equal (written v) packet) (p .0) in
-        inl (r .0, equal-is (written v) packet (r .1), λ k. eqb-true (segmentOf (v .started) packet) i (implied _ _ (p .1) (ap isData k)))
+        let p = both (is host hands (v .call) && equal (written v) packet && toward h (v .index)) (implies (isData (kindOf (fieldsAt packet .kind))) (eqb (segmentOf (v .started) packet) i)) q in
+        let o = both (is host hands (v .call) && equal (written v) packet) (toward h (v .index)) (p .0) in
+        let r = both (is host hands (v .call)) (equal (written v) packet) (o .0) in
+        inl (r .0, equal-is (written v) packet (r .1), o .1, λ k. eqb-true (segmentOf (v .started) packet) i (implied _ _ (p .1) (ap isData k)))
 
-unfoldable pub repliedIn : ℕ → List Event → ℕ → List ℕ → Bool
-repliedIn zero past i packet = false
-repliedIn (suc n) [] i packet = false
-repliedIn (suc n) (e ∷ past) i packet =
-    (is subscriber arrives (e .call) && equal (written e) packet && implies (isDataAck (kindOf (fieldsAt packet .kind))) (eqb (e .call .copyOf) i)) || repliedIn n past i packet
+unfoldable pub repliedIn : End → ℕ → List Event → ℕ → List ℕ → Bool
+repliedIn s zero past i packet = false
+repliedIn s (suc n) [] i packet = false
+repliedIn s (suc n) (e ∷ past) i packet =
+    (is subscriber arrives (e .call) && equal (written e) packet && toward s (e .index) && implies (isDataAck (kindOf (fieldsAt packet .kind))) (eqb (e .call .copyOf) i))
+    || repliedIn s n past i packet
 
-replied-in : (n : ℕ) (past : List Event) (i : ℕ) (packet : List ℕ) → repliedIn n past i packet ≡ true → Replied past i packet
+replied-in : (s : End) (n : ℕ) (past : List Event) (i : ℕ) (packet : List ℕ) → repliedIn s n past i packet ≡ true → Replied s past i packet
 unfolding repliedIn
-replied-in zero past i packet e = absurd (true≢false (sym e))
-replied-in (suc n) [] i packet e = absurd (true≢false (sym e))
-replied-in (suc n) (v ∷ past) i packet e = ⊎-elim found (λ q. inr (replied-in n past i packet q)) (either here (repliedIn n past i packet) e)
+replied-in s zero past i packet e = absurd (true≢false (sym e))
+replied-in s (suc n) [] i packet e = absurd (true≢false (sym e))
+replied-in s (suc n) (v ∷ past) i packet e = ⊎-elim found (λ q. inr (replied-in s n past i packet q)) (either here (repliedIn s n past i packet) e)
   where
     here : Bool
-    here = is subscriber arrives (v .call) && equal (written v) packet && implies (isDataAck (kindOf (fieldsAt packet .kind))) (eqb (v .call .copyOf) i)
+    here = is subscriber arrives (v .call) && equal (written v) packet && toward s (v .index) && implies (isDataAck (kindOf (fieldsAt packet .kind))) (eqb (v .call .copyOf) i)
 
-    found : here ≡ true → Replied (v ∷ past) i packet
+    found : here ≡ true → Replied s (v ∷ past) i packet
     found q =
-        let p = both (is subscriber arrives (v .call) && equal (written v) packet) (implies (isDataAck (kindOf (fieldsAt packet .kind))) (eqb (v .call .copyOf) i)) q in
-        let r = both (is subscriber arrives (v .call)) (equal (written v) packet) (p .0) in
-        inl (r .0, equal-is (written v) packet (r .1), λ k. eqb-true (v .call .copyOf) i (implied _ _ (p .1) (ap isDataAck k)))
+        let p = both (is subscriber arrives (v .call) && equal (written v) packet && toward s (v .index)) (implies (isDataAck (kindOf (fieldsAt packet .kind))) (eqb (v .call .copyOf) i)) q in
+        let o = both (is subscriber arrives (v .call) && equal (written v) packet) (toward s (v .index)) (p .0) in
+        let r = both (is subscriber arrives (v .call)) (equal (written v) packet) (o .0) in
+        inl (r .0, equal-is (written v) packet (r .1), o .1, λ k. eqb-true (v .call .copyOf) i (implied _ _ (p .1) (ap isDataAck k)))
 
 -- ---- a script: calls, and packets that the link brings
 
@@ -149,13 +159,13 @@ module _ (h s : End) where
   abbrev pub toSubscriber : Run → Call → Bool
   toSubscriber w c =
       implies (is subscriber arrives c)
-      ((handedIn 8 (w .past) (c .copyOf) (c .request .octets) && implies (isData (kindOf (fieldsAt (c .request .octets) .kind))) (inTime (w .subscriber) (c .copyOf)))
+      ((handedIn h 8 (w .past) (c .copyOf) (c .request .octets) && implies (isData (kindOf (fieldsAt (c .request .octets) .kind))) (inTime (w .subscriber) (c .copyOf)))
       || not (names s (c .request .octets)))
 
   abbrev pub toHost : Run → Call → Bool
   toHost w c =
       implies (is host arrives c)
-      ((repliedIn 8 (w .past) (c .copyOf) (c .request .octets) && implies (isDataAck (kindOf (fieldsAt (c .request .octets) .kind))) (inTime (w .host) (c .copyOf)))
+      ((repliedIn s 8 (w .past) (c .copyOf) (c .request .octets) && implies (isDataAck (kindOf (fieldsAt (c .request .octets) .kind))) (inTime (w .host) (c .copyOf)))
       || not (names h (c .request .octets)))
 
   abbrev pub opensOnce : Side → ℕ → Run → Call → Bool
@@ -173,13 +183,13 @@ module _ (h s : End) where
       let octets = c .request .octets in
       record {
         at-subscriber = λ a n.
-            let y = copied (handedIn 8 (w .past) (c .copyOf) octets && implies (isData (kindOf (fieldsAt octets .kind))) (inTime (w .subscriber) (c .copyOf))) (names s octets) (implied (is subscriber arrives c) _ (r .0) a) n in
-            let z = both (handedIn 8 (w .past) (c .copyOf) octets) (implies (isData (kindOf (fieldsAt octets .kind))) (inTime (w .subscriber) (c .copyOf))) y in
-            (handed-in 8 (w .past) (c .copyOf) octets (z .0), λ k. leb-true _ _ (implied _ _ (z .1) (ap isData k)));
+            let y = copied (handedIn h 8 (w .past) (c .copyOf) octets && implies (isData (kindOf (fieldsAt octets .kind))) (inTime (w .subscriber) (c .copyOf))) (names s octets) (implied (is subscriber arrives c) _ (r .0) a) n in
+            let z = both (handedIn h 8 (w .past) (c .copyOf) octets) (implies (isData (kindOf (fieldsAt octets .kind))) (inTime (w .subscriber) (c .copyOf))) y in
+            (handed-in h 8 (w .past) (c .copyOf) octets (z .0), λ k. leb-true _ _ (implied _ _ (z .1) (ap isData k)));
         at-host = λ a n.
-            let y = copied (repliedIn 8 (w .past) (c .copyOf) octets && implies (isDataAck (kindOf (fieldsAt octets .kind))) (inTime (w .host) (c .copyOf))) (names h octets) (implied (is host arrives c) _ (r .1) a) n in
-            let z = both (repliedIn 8 (w .past) (c .copyOf) octets) (implies (isDataAck (kindOf (fieldsAt octets .kind))) (inTime (w .host) (c .copyOf))) y in
-            (replied-in 8 (w .past) (c .copyOf) octets (z .0), λ k. leb-true _ _ (implied _ _ (z .1) (ap isDataAck k)));
+            let y = copied (repliedIn s 8 (w .past) (c .copyOf) octets && implies (isDataAck (kindOf (fieldsAt octets .kind))) (inTime (w .host) (c .copyOf))) (names h octets) (implied (is host arrives c) _ (r .1) a) n in
+            let z = both (repliedIn s 8 (w .past) (c .copyOf) octets) (implies (isDataAck (kindOf (fieldsAt octets .kind))) (inTime (w .host) (c .copyOf))) y in
+            (replied-in s 8 (w .past) (c .copyOf) octets (z .0), λ k. leb-true _ _ (implied _ _ (z .1) (ap isDataAck k)));
         opens-host = λ g. eqb-true (openings host (h .index) (w .past)) 0 (implied _ _ (q .1) g);
         opens-subscriber = λ g. eqb-true (openings subscriber (s .index) (w .past)) 0 (implied _ _ (p .1) g);
       }

@@ -9,7 +9,7 @@ use lib.Dec.{lit≤}
 use lib.ListN.{length, replicate, getD, drop, set}
 use Rattle.packet.specs.declared.fields.Fields.{Fields}
 use Rattle.packet.specs.Kinds.{kindOf}
-use Rattle.packet.specs.Layout.{bodyOf, packetOf}
+use Rattle.packet.specs.Layout.{headOf, bodyOf, packetOf}
 use Rattle.packet.specs.Tests.{short, damaged, lacking, strange}
 use Rattle.packet.specs.Writing.{writtenOf, afterWrite}
 use Rattle.packet.specs.Reading.{readOf}
@@ -24,7 +24,8 @@ use Rattle.channel.specs.declared.record.Settings.{Settings}
 use Rattle.channel.specs.declared.record.Channel.{Channel}
 use Rattle.channel.specs.Record.{madeOf}
 use Rattle.channel.specs.Lone.{fallen}
-use Rattle.channel.specs.Settings.{fitWindow, fitUnits, fitTimers, fitLimits, fit, clash}
+use Rattle.channel.specs.Settings.{fitWindow, fitUnits, fitTimers, fitLimits, fitAddresses, fit, clash}
+use Rattle.channel.specs.Prefixes.{each, prefixOf, fitPrefix, samePrefix}
 use Rattle.channel.specs.Standing.{named, inRing, inFlight, sided, asking, rested, marked, slotFit, slotsFit, standing}
 use Rattle.sender.specs.Directives.{parked, openStep, closeStep}
 use Rattle.sender.specs.Ticking.{anySpent, tickStep}
@@ -39,14 +40,14 @@ use Rattle.receiver_data.specs.Data.{acceptStep, dataStep, isFiled, dataMem, da
 use Rattle.receiver_data.specs.Taking.{takeStep, takeOut}
 use Rattle.table.specs.Lent.{allSlots, allOctets, eachStands, lawful}
 use Rattle.table.specs.Looking.{same, chosenFrom}
-use Rattle.table.specs.Serving.{recordAt, stored, serveOne}
+use Rattle.table.specs.Serving.{recordAt, stored, serveOne, indexServed}
 use Rattle.requests.specs.Handing.{nextFor}
 use Rattle.requests.specs.Requests.{openedBy, closedBy, transferFor, askedBy, takeFor, reclaimFor}
 use Rattle.ticks.specs.Ticking.{tickedBy}
 use Rattle.arrivals.specs.Arriving.{arriveBy, arrivalFor}
 use Rattle.arrivals.specs.Finding.{isOurs, lookOf}
 use Rattle.arrivals.specs.Data.{unfit}
-use Rattle.ticks.specs.Ticks.{anyInactive, ticked}
+use Rattle.ticks.specs.Ticks.{anyInactive, firstInactive, ticked, tickIndex}
 use Rattle.protocol.specs.Numbers.{numberAt, distance}
 use Rattle.means.specs.Held.{unitsIn}
 use Rattle.delivery.specs.Calls.{End, Kind, opens, transfers, takes, reclaims, hands, arrives, ticks, unitsOf}
@@ -103,27 +104,27 @@ afterRounds past n i =
 -- ---- computed, part by part
 
 pub beginning : looked (checked hostEnd stationEnd true from (opening ++ rounds 5 0)) ≡ afterRounds [] 5 0
-unfolding bodyOf packetOf short damaged kindOf lacking strange writtenOf afterWrite readOf shiftOne shifts octetInto crcFrom crcOf roundOf backOf runOf cleared slotIn laid unitOf endsIn lastEndIn sizeIn octetsIn filedMem filedBy filedLens filedMarks fallen fitWindow fitUnits fitTimers fitLimits fit clash named inRing inFlight sided asking rested marked slotFit slotsFit standing parked openStep closeStep anySpent tickStep reclaimStep reclaimOut wouldTransfer isAccepted transferStep transferMem transferLens controlAckStep isAwaited advanced dataAckStep againIn ready rankOf nextFields nextPayload nextOut handStep handOut r.leaving r.openStep r.openArrives r.closeArrives r.controlStep r.tickStep isHeld sortAt fitting movedBy acceptStep dataStep isFiled dataMem dataLens takeStep takeOut allSlots allOctets eachStands lawful same chosenFrom stored serveOne nextFor openedBy closedBy transferFor takeFor reclaimFor tickedBy isOurs lookOf unfit arriveBy arrivalFor anyInactive ticked numberAt distance unitsIn equal handedIn repliedIn fairly packetFor checked
+unfolding headOf bodyOf packetOf short damaged kindOf lacking strange writtenOf afterWrite readOf shiftOne shifts octetInto crcFrom crcOf roundOf backOf runOf cleared slotIn laid unitOf endsIn lastEndIn sizeIn octetsIn filedMem filedBy filedLens filedMarks fallen fitWindow fitUnits fitTimers fitLimits each prefixOf fitPrefix samePrefix fitAddresses fit clash named inRing inFlight sided asking rested marked slotFit slotsFit standing parked openStep closeStep anySpent tickStep reclaimStep reclaimOut wouldTransfer isAccepted transferStep transferMem transferLens controlAckStep isAwaited advanced dataAckStep againIn ready rankOf nextFields nextPayload nextOut handStep handOut r.leaving r.openStep r.openArrives r.closeArrives r.controlStep r.tickStep isHeld sortAt fitting movedBy acceptStep dataStep isFiled dataMem dataLens takeStep takeOut allSlots allOctets eachStands lawful same chosenFrom stored serveOne indexServed nextFor openedBy closedBy transferFor takeFor reclaimFor tickedBy isOurs lookOf unfit arriveBy arrivalFor anyInactive firstInactive ticked tickIndex numberAt distance unitsIn equal handedIn repliedIn fairly packetFor checked
 beginning = refl
 
 pub rounds-5 : (past : List Event) → looked (checked hostEnd stationEnd true (runAt past 5) (rounds 50 5)) ≡ afterRounds past 50 5
-unfolding bodyOf packetOf short damaged kindOf lacking strange writtenOf afterWrite readOf shiftOne shifts octetInto crcFrom crcOf roundOf backOf runOf cleared slotIn laid unitOf endsIn lastEndIn sizeIn octetsIn filedMem filedBy filedLens filedMarks fallen fitWindow fitUnits fitTimers fitLimits fit clash named inRing inFlight sided asking rested marked slotFit slotsFit standing parked openStep closeStep anySpent tickStep reclaimStep reclaimOut wouldTransfer isAccepted transferStep transferMem transferLens controlAckStep isAwaited advanced dataAckStep againIn ready rankOf nextFields nextPayload nextOut handStep handOut r.leaving r.openStep r.openArrives r.closeArrives r.controlStep r.tickStep isHeld sortAt fitting movedBy acceptStep dataStep isFiled dataMem dataLens takeStep takeOut allSlots allOctets eachStands lawful same chosenFrom stored serveOne nextFor openedBy closedBy transferFor takeFor reclaimFor tickedBy isOurs lookOf unfit arriveBy arrivalFor anyInactive ticked numberAt distance unitsIn equal handedIn repliedIn fairly packetFor checked
+unfolding headOf bodyOf packetOf short damaged kindOf lacking strange writtenOf afterWrite readOf shiftOne shifts octetInto crcFrom crcOf roundOf backOf runOf cleared slotIn laid unitOf endsIn lastEndIn sizeIn octetsIn filedMem filedBy filedLens filedMarks fallen fitWindow fitUnits fitTimers fitLimits each prefixOf fitPrefix samePrefix fitAddresses fit clash named inRing inFlight sided asking rested marked slotFit slotsFit standing parked openStep closeStep anySpent tickStep reclaimStep reclaimOut wouldTransfer isAccepted transferStep transferMem transferLens controlAckStep isAwaited advanced dataAckStep againIn ready rankOf nextFields nextPayload nextOut handStep handOut r.leaving r.openStep r.openArrives r.closeArrives r.controlStep r.tickStep isHeld sortAt fitting movedBy acceptStep dataStep isFiled dataMem dataLens takeStep takeOut allSlots allOctets eachStands lawful same chosenFrom stored serveOne indexServed nextFor openedBy closedBy transferFor takeFor reclaimFor tickedBy isOurs lookOf unfit arriveBy arrivalFor anyInactive firstInactive ticked tickIndex numberAt distance unitsIn equal handedIn repliedIn fairly packetFor checked
 rounds-5 past = refl
 
 pub rounds-55 : (past : List Event) → looked (checked hostEnd stationEnd true (runAt past 55) (rounds 50 55)) ≡ afterRounds past 50 55
-unfolding bodyOf packetOf short damaged kindOf lacking strange writtenOf afterWrite readOf shiftOne shifts octetInto crcFrom crcOf roundOf backOf runOf cleared slotIn laid unitOf endsIn lastEndIn sizeIn octetsIn filedMem filedBy filedLens filedMarks fallen fitWindow fitUnits fitTimers fitLimits fit clash named inRing inFlight sided asking rested marked slotFit slotsFit standing parked openStep closeStep anySpent tickStep reclaimStep reclaimOut wouldTransfer isAccepted transferStep transferMem transferLens controlAckStep isAwaited advanced dataAckStep againIn ready rankOf nextFields nextPayload nextOut handStep handOut r.leaving r.openStep r.openArrives r.closeArrives r.controlStep r.tickStep isHeld sortAt fitting movedBy acceptStep dataStep isFiled dataMem dataLens takeStep takeOut allSlots allOctets eachStands lawful same chosenFrom stored serveOne nextFor openedBy closedBy transferFor takeFor reclaimFor tickedBy isOurs lookOf unfit arriveBy arrivalFor anyInactive ticked numberAt distance unitsIn equal handedIn repliedIn fairly packetFor checked
+unfolding headOf bodyOf packetOf short damaged kindOf lacking strange writtenOf afterWrite readOf shiftOne shifts octetInto crcFrom crcOf roundOf backOf runOf cleared slotIn laid unitOf endsIn lastEndIn sizeIn octetsIn filedMem filedBy filedLens filedMarks fallen fitWindow fitUnits fitTimers fitLimits each prefixOf fitPrefix samePrefix fitAddresses fit clash named inRing inFlight sided asking rested marked slotFit slotsFit standing parked openStep closeStep anySpent tickStep reclaimStep reclaimOut wouldTransfer isAccepted transferStep transferMem transferLens controlAckStep isAwaited advanced dataAckStep againIn ready rankOf nextFields nextPayload nextOut handStep handOut r.leaving r.openStep r.openArrives r.closeArrives r.controlStep r.tickStep isHeld sortAt fitting movedBy acceptStep dataStep isFiled dataMem dataLens takeStep takeOut allSlots allOctets eachStands lawful same chosenFrom stored serveOne indexServed nextFor openedBy closedBy transferFor takeFor reclaimFor tickedBy isOurs lookOf unfit arriveBy arrivalFor anyInactive firstInactive ticked tickIndex numberAt distance unitsIn equal handedIn repliedIn fairly packetFor checked
 rounds-55 past = refl
 
 pub rounds-105 : (past : List Event) → looked (checked hostEnd stationEnd true (runAt past 105) (rounds 50 105)) ≡ afterRounds past 50 105
-unfolding bodyOf packetOf short damaged kindOf lacking strange writtenOf afterWrite readOf shiftOne shifts octetInto crcFrom crcOf roundOf backOf runOf cleared slotIn laid unitOf endsIn lastEndIn sizeIn octetsIn filedMem filedBy filedLens filedMarks fallen fitWindow fitUnits fitTimers fitLimits fit clash named inRing inFlight sided asking rested marked slotFit slotsFit standing parked openStep closeStep anySpent tickStep reclaimStep reclaimOut wouldTransfer isAccepted transferStep transferMem transferLens controlAckStep isAwaited advanced dataAckStep againIn ready rankOf nextFields nextPayload nextOut handStep handOut r.leaving r.openStep r.openArrives r.closeArrives r.controlStep r.tickStep isHeld sortAt fitting movedBy acceptStep dataStep isFiled dataMem dataLens takeStep takeOut allSlots allOctets eachStands lawful same chosenFrom stored serveOne nextFor openedBy closedBy transferFor takeFor reclaimFor tickedBy isOurs lookOf unfit arriveBy arrivalFor anyInactive ticked numberAt distance unitsIn equal handedIn repliedIn fairly packetFor checked
+unfolding headOf bodyOf packetOf short damaged kindOf lacking strange writtenOf afterWrite readOf shiftOne shifts octetInto crcFrom crcOf roundOf backOf runOf cleared slotIn laid unitOf endsIn lastEndIn sizeIn octetsIn filedMem filedBy filedLens filedMarks fallen fitWindow fitUnits fitTimers fitLimits each prefixOf fitPrefix samePrefix fitAddresses fit clash named inRing inFlight sided asking rested marked slotFit slotsFit standing parked openStep closeStep anySpent tickStep reclaimStep reclaimOut wouldTransfer isAccepted transferStep transferMem transferLens controlAckStep isAwaited advanced dataAckStep againIn ready rankOf nextFields nextPayload nextOut handStep handOut r.leaving r.openStep r.openArrives r.closeArrives r.controlStep r.tickStep isHeld sortAt fitting movedBy acceptStep dataStep isFiled dataMem dataLens takeStep takeOut allSlots allOctets eachStands lawful same chosenFrom stored serveOne indexServed nextFor openedBy closedBy transferFor takeFor reclaimFor tickedBy isOurs lookOf unfit arriveBy arrivalFor anyInactive firstInactive ticked tickIndex numberAt distance unitsIn equal handedIn repliedIn fairly packetFor checked
 rounds-105 past = refl
 
 pub rounds-155 : (past : List Event) → looked (checked hostEnd stationEnd true (runAt past 155) (rounds 50 155)) ≡ afterRounds past 50 155
-unfolding bodyOf packetOf short damaged kindOf lacking strange writtenOf afterWrite readOf shiftOne shifts octetInto crcFrom crcOf roundOf backOf runOf cleared slotIn laid unitOf endsIn lastEndIn sizeIn octetsIn filedMem filedBy filedLens filedMarks fallen fitWindow fitUnits fitTimers fitLimits fit clash named inRing inFlight sided asking rested marked slotFit slotsFit standing parked openStep closeStep anySpent tickStep reclaimStep reclaimOut wouldTransfer isAccepted transferStep transferMem transferLens controlAckStep isAwaited advanced dataAckStep againIn ready rankOf nextFields nextPayload nextOut handStep handOut r.leaving r.openStep r.openArrives r.closeArrives r.controlStep r.tickStep isHeld sortAt fitting movedBy acceptStep dataStep isFiled dataMem dataLens takeStep takeOut allSlots allOctets eachStands lawful same chosenFrom stored serveOne nextFor openedBy closedBy transferFor takeFor reclaimFor tickedBy isOurs lookOf unfit arriveBy arrivalFor anyInactive ticked numberAt distance unitsIn equal handedIn repliedIn fairly packetFor checked
+unfolding headOf bodyOf packetOf short damaged kindOf lacking strange writtenOf afterWrite readOf shiftOne shifts octetInto crcFrom crcOf roundOf backOf runOf cleared slotIn laid unitOf endsIn lastEndIn sizeIn octetsIn filedMem filedBy filedLens filedMarks fallen fitWindow fitUnits fitTimers fitLimits each prefixOf fitPrefix samePrefix fitAddresses fit clash named inRing inFlight sided asking rested marked slotFit slotsFit standing parked openStep closeStep anySpent tickStep reclaimStep reclaimOut wouldTransfer isAccepted transferStep transferMem transferLens controlAckStep isAwaited advanced dataAckStep againIn ready rankOf nextFields nextPayload nextOut handStep handOut r.leaving r.openStep r.openArrives r.closeArrives r.controlStep r.tickStep isHeld sortAt fitting movedBy acceptStep dataStep isFiled dataMem dataLens takeStep takeOut allSlots allOctets eachStands lawful same chosenFrom stored serveOne indexServed nextFor openedBy closedBy transferFor takeFor reclaimFor tickedBy isOurs lookOf unfit arriveBy arrivalFor anyInactive firstInactive ticked tickIndex numberAt distance unitsIn equal handedIn repliedIn fairly packetFor checked
 rounds-155 past = refl
 
 pub rounds-205 : (past : List Event) → looked (checked hostEnd stationEnd true (runAt past 205) (rounds 50 205)) ≡ afterRounds past 50 205
-unfolding bodyOf packetOf short damaged kindOf lacking strange writtenOf afterWrite readOf shiftOne shifts octetInto crcFrom crcOf roundOf backOf runOf cleared slotIn laid unitOf endsIn lastEndIn sizeIn octetsIn filedMem filedBy filedLens filedMarks fallen fitWindow fitUnits fitTimers fitLimits fit clash named inRing inFlight sided asking rested marked slotFit slotsFit standing parked openStep closeStep anySpent tickStep reclaimStep reclaimOut wouldTransfer isAccepted transferStep transferMem transferLens controlAckStep isAwaited advanced dataAckStep againIn ready rankOf nextFields nextPayload nextOut handStep handOut r.leaving r.openStep r.openArrives r.closeArrives r.controlStep r.tickStep isHeld sortAt fitting movedBy acceptStep dataStep isFiled dataMem dataLens takeStep takeOut allSlots allOctets eachStands lawful same chosenFrom stored serveOne nextFor openedBy closedBy transferFor takeFor reclaimFor tickedBy isOurs lookOf unfit arriveBy arrivalFor anyInactive ticked numberAt distance unitsIn equal handedIn repliedIn fairly packetFor checked
+unfolding headOf bodyOf packetOf short damaged kindOf lacking strange writtenOf afterWrite readOf shiftOne shifts octetInto crcFrom crcOf roundOf backOf runOf cleared slotIn laid unitOf endsIn lastEndIn sizeIn octetsIn filedMem filedBy filedLens filedMarks fallen fitWindow fitUnits fitTimers fitLimits each prefixOf fitPrefix samePrefix fitAddresses fit clash named inRing inFlight sided asking rested marked slotFit slotsFit standing parked openStep closeStep anySpent tickStep reclaimStep reclaimOut wouldTransfer isAccepted transferStep transferMem transferLens controlAckStep isAwaited advanced dataAckStep againIn ready rankOf nextFields nextPayload nextOut handStep handOut r.leaving r.openStep r.openArrives r.closeArrives r.controlStep r.tickStep isHeld sortAt fitting movedBy acceptStep dataStep isFiled dataMem dataLens takeStep takeOut allSlots allOctets eachStands lawful same chosenFrom stored serveOne indexServed nextFor openedBy closedBy transferFor takeFor reclaimFor tickedBy isOurs lookOf unfit arriveBy arrivalFor anyInactive firstInactive ticked tickIndex numberAt distance unitsIn equal handedIn repliedIn fairly packetFor checked
 rounds-205 past = refl
 
 -- the ending: what is read from the history, what the host holds, and how far its window has come
@@ -164,5 +165,5 @@ afterEnding acc cnt back tak =
 pub the-ending : (past : List Event)
     → endedAs (checked hostEnd stationEnd true (runAt past 255) ending)
     ≡ afterEnding (accepted hostEnd past) (confirmed hostEnd past) (reclaimed hostEnd past) (taken stationEnd past)
-unfolding bodyOf packetOf short damaged kindOf lacking strange writtenOf afterWrite readOf shiftOne shifts octetInto crcFrom crcOf roundOf backOf runOf cleared slotIn laid unitOf endsIn lastEndIn sizeIn octetsIn filedMem filedBy filedLens filedMarks fallen fitWindow fitUnits fitTimers fitLimits fit clash named inRing inFlight sided asking rested marked slotFit slotsFit standing parked openStep closeStep anySpent tickStep reclaimStep reclaimOut wouldTransfer isAccepted transferStep transferMem transferLens controlAckStep isAwaited advanced dataAckStep againIn ready rankOf nextFields nextPayload nextOut handStep handOut r.leaving r.openStep r.openArrives r.closeArrives r.controlStep r.tickStep isHeld sortAt fitting movedBy acceptStep dataStep isFiled dataMem dataLens takeStep takeOut allSlots allOctets eachStands lawful same chosenFrom stored serveOne nextFor openedBy closedBy transferFor askedBy takeFor reclaimFor tickedBy isOurs lookOf unfit arriveBy arrivalFor anyInactive ticked numberAt distance unitsIn equal handedIn repliedIn fairly packetFor checked
+unfolding headOf bodyOf packetOf short damaged kindOf lacking strange writtenOf afterWrite readOf shiftOne shifts octetInto crcFrom crcOf roundOf backOf runOf cleared slotIn laid unitOf endsIn lastEndIn sizeIn octetsIn filedMem filedBy filedLens filedMarks fallen fitWindow fitUnits fitTimers fitLimits each prefixOf fitPrefix samePrefix fitAddresses fit clash named inRing inFlight sided asking rested marked slotFit slotsFit standing parked openStep closeStep anySpent tickStep reclaimStep reclaimOut wouldTransfer isAccepted transferStep transferMem transferLens controlAckStep isAwaited advanced dataAckStep againIn ready rankOf nextFields nextPayload nextOut handStep handOut r.leaving r.openStep r.openArrives r.closeArrives r.controlStep r.tickStep isHeld sortAt fitting movedBy acceptStep dataStep isFiled dataMem dataLens takeStep takeOut allSlots allOctets eachStands lawful same chosenFrom stored serveOne indexServed nextFor openedBy closedBy transferFor askedBy takeFor reclaimFor tickedBy isOurs lookOf unfit arriveBy arrivalFor anyInactive firstInactive ticked tickIndex numberAt distance unitsIn equal handedIn repliedIn fairly packetFor checked
 the-ending past = refl

@@ -7,6 +7,7 @@ use Rattle.channel.specs.declared.record.Limits.{Limits}
 use Rattle.channel.specs.declared.record.Settings.{Settings}
 use Rattle.channel.specs.declared.record.Channel.{Channel}
 use Rattle.channel.specs.declared.record.Timers.{Timers}
+use Rattle.channel.specs.Prefixes.{noPrefix}
 use Rattle.channel.specs.Record.{opened, madeOf, noLone, noMarks, noTimers}
 use Rattle.delivery.specs.Calls.{End, Kind, opens, transfers, asks, takes, reclaims, hands, ticks}
 use Rattle.delivery.specs.History.{host, subscriber, Event}
@@ -19,10 +20,10 @@ abbrev pub limits : Limits
 limits = record { window = 2; slots = 5; payload = 2; segments = 2; timeout = 3; closing = 3; retries = 1 }
 
 abbrev pub sending : Settings
-sending = record { addresses = record { channel = 7; remote = 65; direction = 0 }; limits = limits }
+sending = record { addresses = record { channel = 7; remote = 65; direction = 0; prefix = noPrefix; own = noPrefix }; limits = limits }
 
 abbrev pub receiving : Settings
-receiving = record { addresses = record { channel = 7; remote = 64; direction = 1 }; limits = limits }
+receiving = record { addresses = record { channel = 7; remote = 64; direction = 1; prefix = noPrefix; own = noPrefix }; limits = limits }
 
 abbrev pub hostEnd : End
 hostEnd = record { node = record { address = 64; protocol = 5 }; table = madeOf sending ∷ []; mem = replicate 10 0; lens = replicate 5 0; index = 0; start = 0 }

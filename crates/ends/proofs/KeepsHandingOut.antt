@@ -28,7 +28,7 @@ module _ (c : Channel) (lens : List ℕ) (h : Standing c lens) (s : c .addresses
       let n = named-is c (h .named) in
       let k = counted-is (c .limits) (c .window) (h .ring) (h .flight) in
       stand (newOut c) lens (h .fit) (h .count)
-      (record { direction = n .direction; state = n .state; reason = n .reason; kept = n .kept; accepted = n .accepted; control = n .control })
+      (record { addresses = n .addresses; state = n .state; reason = n .reason; kept = n .kept; accepted = n .accepted; control = n .control })
       (record { place = k .place; held = k .held; flight = omega arith; window = omega arith; way = k .way; unit = k .unit })
       (open-sided (c .addresses .direction) (c .phase .state) (oneMore (c .window)) s (sided-way (c .addresses .direction) (c .phase .state) (c .window) s (h .sided)) o)
       (open-rests (c .addresses .direction) (c .phase) (oneMore (c .window)) o)

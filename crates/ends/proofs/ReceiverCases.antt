@@ -33,20 +33,20 @@ unfolding openStep
 open-cases c P state untaken done =
     either P (not (eqb (c .phase .state) closed)) _ _ state (either P (not (eqb (heldIn (c .window)) 0)) _ _ untaken done)
 
-module _ (c : Channel) (P : Stepped → Type 0) (refused : P (refusing c refusal.State)) (repeated : P (repeating c ackLength)) where
-  open-arrives-cases : P (doing (withState c opened) ackLength) → P (failing (shutFor c lateOpen) lateOpen) → P (openArrives c)
+module _ (c : Channel) (P : Stepped → Type 0) (refused : P (refusing c refusal.State)) (repeated : P (repeating c (ackLength (c .addresses)))) where
+  open-arrives-cases : P (doing (withState c opened) (ackLength (c .addresses))) → P (failing (shutFor c lateOpen) lateOpen) → P (openArrives c)
   unfolding openArrives
   open-arrives-cases opens late =
       either P (eqb (c .phase .state) enabled) _ _ opens
       (either P (not (eqb (c .phase .state) opened)) _ _ refused (either P (eqb (c .phase .accepted) 0) _ _ repeated late))
 
-  close-arrives-cases : P (doing (leaving c closing (c .limits .closing)) ackLength) → P (closeArrives c)
+  close-arrives-cases : P (doing (leaving c closing (c .limits .closing)) (ackLength (c .addresses))) → P (closeArrives c)
   unfolding closeArrives
   close-arrives-cases closes = either P (eqb (c .phase .state) opened) _ _ closes (either P (eqb (c .phase .state) closing) _ _ repeated refused)
 
   pub control-cases : (opens : Bool) (number : ℕ)
-      → P (doing (withState c opened) ackLength)
-      → P (doing (leaving c closing (c .limits .closing)) ackLength)
+      → P (doing (withState c opened) (ackLength (c .addresses)))
+      → P (doing (leaving c closing (c .limits .closing)) (ackLength (c .addresses)))
       → P (failing (shutFor c lateOpen) lateOpen)
       → P (failing (shutFor c controlNumber) controlNumber)
       → P (controlStep c opens number)
@@ -78,7 +78,7 @@ tick-cases c P idle falls ends =
 
 module _ (c : Channel) (number flags : ℕ) (p mem lens : List ℕ) (P : Stepped → List ℕ → List ℕ → Type 0)
     (refused : P (refusing c refusal.State) mem lens) (full : P (refusing c refusal.Full) mem lens)
-    (repeated : P (repeating c ackLength) mem lens) (failed : P (failing (shutFor c dataNumber) dataNumber) mem lens)
+    (repeated : P (repeating c (ackLength (c .addresses))) mem lens) (failed : P (failing (shutFor c dataNumber) dataNumber) mem lens)
     (accepted : c .phase .state ≡ opened
     → c .window .behind + awayOf c number < c .limits .slots
     → P (acceptStep c (placeAt (c .limits) (c .window) (awayOf c number)) flags)
@@ -115,7 +115,7 @@ module _ (c : Channel) (number flags : ℕ) (p mem lens : List ℕ) (P : Stepped
 -- a segment accepted: at a break, or done
 pub accept-cases : (c : Channel) (place flags : ℕ) (P : Stepped → Type 0)
     → P (failing (shutFor (withWindow (marking c place flags) (movedOf (c .limits) (marking c place flags .marks) (c .window) .window)) brokenFlags) brokenFlags)
-    → P (doing (withWindow (marking c place flags) (movedOf (c .limits) (marking c place flags .marks) (c .window) .window)) ackLength)
+    → P (doing (withWindow (marking c place flags) (movedOf (c .limits) (marking c place flags .marks) (c .window) .window)) (ackLength (c .addresses)))
     → P (acceptStep c place flags)
 unfolding acceptStep
 accept-cases c place flags P broken done = either P (movedOf (c .limits) (marking c place flags .marks) (c .window) .broken) _ _ broken done

@@ -98,7 +98,7 @@ leaving-receives c lens state ticks small r =
       fit = r .fit;
       count = r .count;
       direction = r .direction;
-      small = record { direction = r .small .direction; state = small; reason = r .small .reason; kept = r .small .kept; accepted = r .small .accepted; control = r .small .control };
+      small = record { addresses = r .small .addresses; state = small; reason = r .small .reason; kept = r .small .kept; accepted = r .small .accepted; control = r .small .control };
       window = record { place = on; behind = omega arith; ahead = k .ahead; flight = k .flight; way = omega arith; unit = omega arith };
       rested = rests (c .addresses .direction) (leaving c state ticks .phase) (leaving c state ticks .window) refl refl (asking-receives (c .addresses .direction) (leaving c state ticks .phase) (r .direction));
       held = λ i less e.
@@ -120,7 +120,7 @@ shut-receives c lens why small r =
       fit = q .fit;
       count = q .count;
       direction = q .direction;
-      small = record { direction = s .direction; state = s .state; reason = small; kept = s .kept; accepted = s .accepted; control = s .control };
+      small = record { addresses = s .addresses; state = s .state; reason = small; kept = s .kept; accepted = s .accepted; control = s .control };
       window = q .window;
       rested = rested-on (leaving c 0 0 .addresses .direction) (leaving c 0 0 .phase) (shutFor c why .phase) refl (λ x. x) (leaving c 0 0 .window) (leaving c 0 0 .window) refl refl (q .rested);
       held = q .held;
@@ -135,7 +135,7 @@ state-receives c lens state small rest r =
       fit = r .fit;
       count = r .count;
       direction = r .direction;
-      small = record { direction = s .direction; state = small; reason = s .reason; kept = s .kept; accepted = s .accepted; control = s .control };
+      small = record { addresses = s .addresses; state = small; reason = s .reason; kept = s .kept; accepted = s .accepted; control = s .control };
       window = r .window;
       rested = rest;
       held = r .held;
@@ -198,7 +198,7 @@ marking-receives c lens place flags n on few short r =
       fit = r .fit;
       count = length-set lens (slotOf c place) n ∙ r .count;
       direction = r .direction;
-      small = record { direction = s .direction; state = s .state; reason = s .reason; kept = s .kept; accepted = omega arith; control = s .control };
+      small = record { addresses = s .addresses; state = s .state; reason = s .reason; kept = s .kept; accepted = omega arith; control = s .control };
       window = r .window;
       rested = rested-on (c .addresses .direction) (c .phase) (marking c place flags .phase) refl (λ x. x) (c .window) (c .window) refl refl (r .rested);
       held = λ i less. set-some (c .marks) place (roundOf (c .limits .slots) (backOf (c .limits .slots) (c .window .place) (c .window .behind) + i)) (flags + 1) (r .held i less) (λ z. omega arith);
@@ -213,7 +213,7 @@ moving-receives c lens o r =
       fit = r .fit;
       count = r .count;
       direction = r .direction;
-      small = record { direction = r .small .direction; state = r .small .state; reason = r .small .reason; kept = r .small .kept; accepted = r .small .accepted; control = r .small .control };
+      small = record { addresses = r .small .addresses; state = r .small .state; reason = r .small .reason; kept = r .small .kept; accepted = r .small .accepted; control = r .small .control };
       window = m .0;
       rested = open-rests (c .addresses .direction) (c .phase) (movedOf (c .limits) (c .marks) (c .window) .window) o;
       held = m .1;
@@ -233,7 +233,7 @@ dropped-receives c lens n some few r =
       fit = r .fit;
       count = r .count;
       direction = r .direction;
-      small = record { direction = r .small .direction; state = r .small .state; reason = r .small .reason; kept = r .small .kept; accepted = r .small .accepted; control = r .small .control };
+      small = record { addresses = r .small .addresses; state = r .small .state; reason = r .small .reason; kept = r .small .kept; accepted = r .small .accepted; control = r .small .control };
       window = record { place = k .place; behind = omega arith; ahead = k .ahead; flight = k .flight; way = omega arith; unit = k .unit };
       rested = rested-on (c .addresses .direction) (c .phase) (c .phase) refl (λ x. x) w (dropped c n .window) refl refl (r .rested);
       held = λ i less e.
@@ -254,7 +254,7 @@ timers-receives c lens t r =
       fit = r .fit;
       count = r .count;
       direction = r .direction;
-      small = record { direction = s .direction; state = s .state; reason = s .reason; kept = s .kept; accepted = s .accepted; control = s .control };
+      small = record { addresses = s .addresses; state = s .state; reason = s .reason; kept = s .kept; accepted = s .accepted; control = s .control };
       window = r .window;
       rested = r .rested;
       held = r .held;

@@ -16,6 +16,7 @@ use Rattle.channel.specs.declared.step.Stepped.{Stepped}
 use Rattle.channel.specs.declared.answer.Answer.the-variants.{Done}
 use Rattle.channel.specs.declared.answer.Refusal.the-variants as refusal
 use Rattle.channel.specs.Answers.{numberOf}
+use Rattle.channel.specs.Prefixes.{prefixOf}
 use Rattle.channel.specs.Steps.{refusing, doing}
 use Rattle.sender.specs.Directives.{openStep, closeStep}
 use Rattle.sender_units.specs.Transfer.{isAccepted, transferStep, transferMem, transferLens}
@@ -68,7 +69,7 @@ hand-unchanged node c lens mem rank out = go (ltb (length out) (nextLength c len
     after : Bool → List ℕ
     after a =
         if a then out
-        else afterWrite (written.Done (nextLength c lens rank)) (nextFields node c rank) (nextPayload c lens mem rank) out
+        else afterWrite (written.Done (nextLength c lens rank)) (nextFields node c rank) (prefixOf (c .addresses .own)) (nextPayload c lens mem rank) out
 
     go : (a : Bool) → Refuses (by a) → (by a .channel ≡ c) × (after a ≡ out)
     go true n = (refl, refl)

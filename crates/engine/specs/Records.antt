@@ -9,6 +9,7 @@ use Rattle.channel.specs.declared.record.Node.{Node}
 use Rattle.channel.specs.declared.record.Settings.{Settings}
 use Rattle.channel.specs.declared.record.Channel.{Channel}
 use Rattle.channel.specs.Record.{sends, receives}
+use Rattle.channel.specs.Prefixes.{noPrefix}
 use Rattle.table.specs.declared.deciding.Told.{Told}
 use Rattle.table.specs.Serving.{toldOf}
 use Rattle.ticks.specs.Ticks.{ticked, tickIndex}
@@ -29,11 +30,11 @@ replayed t mem lens node kind body out =
     if eqb kind 2 then ticking t mem lens out
     else serving t mem lens (requestOf kind body node) (drop (octetsFrom kind body) body) out
 
--- k 4, slots 8, P 16, M 4, timeouts 4, retries 2
+-- k 4, slots 8, P 16, M 4, timeouts 4, retries 2; no prefixes
 abbrev pub settingsFor : ℕ → ℕ → ℕ → Settings
 settingsFor channel remote direction =
     record {
-      addresses = record { channel = channel; remote = remote; direction = direction };
+      addresses = record { channel = channel; remote = remote; direction = direction; prefix = noPrefix; own = noPrefix };
       limits = record { window = 4; slots = 8; payload = 16; segments = 4; timeout = 4; closing = 4; retries = 2 };
     }
 

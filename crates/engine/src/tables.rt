@@ -2,6 +2,7 @@
 use channel::Addresses;
 use channel::Channel;
 use channel::Limits;
+use channel::Prefix;
 use channel::Settings;
 use channel::record::RECEIVES;
 use channel::record::SENDS;
@@ -11,15 +12,21 @@ ghost use mathlib.Core.List.{map};
 ghost use Rattle.engine.specs.Records.{settingsFor, settingsOf};
 ghost use Rattle.channel.specs.Record.{madeOf};
 
-// One channel's: k 4, slots 8, P 16, M 4, timeouts 4, retries 2.
+// One channel's: k 4, slots 8, P 16, M 4, timeouts 4, retries 2; no prefixes.
 fn settings_for(channel: u16, remote: u8, direction: u8) -> Settings
     ensures { λ r. ⌜ r ≡ settingsFor channel remote direction ⌝ }
 {
+    let none = Prefix {
+        length: 0,
+        octets: [0; 15],
+    };
     Settings {
         addresses: Addresses {
             channel,
             remote,
             direction,
+            prefix: none,
+            own: none,
         },
         limits: Limits {
             window: 4,

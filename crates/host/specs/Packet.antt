@@ -23,15 +23,14 @@ blank =
       channel = 0;
       number = 0;
       reserved = 0;
-      prefix = 0;
       source = 0;
     }
 
 abbrev pub refusal : ℕ → Reading
-refusal n = record { answer = n; fields = blank; start = 0; length = 0 }
+refusal n = record { answer = n; fields = blank; prefix = 0; start = 0; length = 0 }
 
 abbrev pub readingOf : Read → Reading
-readingOf (Found f start x) = record { answer = readNumber (Found f start x); fields = f; start = start; length = x }
+readingOf (Found f n start x) = record { answer = readNumber (Found f n start x); fields = f; prefix = n; start = start; length = x }
 readingOf Short = refusal (readNumber Short)
 readingOf Damaged = refusal (readNumber Damaged)
 readingOf Lacking = refusal (readNumber Lacking)

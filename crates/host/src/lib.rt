@@ -34,8 +34,13 @@ pub extern "C" fn peat_read_packet(packet: &[u8]) -> Reading
 
 // Writes a packet alone: 0, 3, 4 or 11.
 #[no_mangle]
-pub extern "C" fn peat_write_packet(fields: Fields, payload: &[u8], out: &mut [u8]) -> Writing
-    ensures { λ r. ⌜ (r ≡ writingOf (writtenOf fields (length (now (payload .entry))) (length (now (out .entry))))) × (now (out .exit) ≡ afterWrite (writtenOf fields (length (now (payload .entry))) (length (now (out .entry)))) fields (now (payload .entry)) (now (out .entry))) ⌝ }
+pub extern "C" fn peat_write_packet(
+    fields: Fields,
+    prefix: &[u8],
+    payload: &[u8],
+    out: &mut [u8],
+) -> Writing
+    ensures { λ r. ⌜ (r ≡ writingOf (writtenOf fields (length (now (prefix .entry))) (length (now (payload .entry))) (length (now (out .entry))))) × (now (out .exit) ≡ afterWrite (writtenOf fields (length (now (prefix .entry))) (length (now (payload .entry))) (length (now (out .entry)))) fields (now (prefix .entry)) (now (payload .entry)) (now (out .entry))) ⌝ }
 {
-    writing_of(packet::write_packet(fields, payload, out))
+    writing_of(packet::write_packet(fields, prefix, payload, out))
 }

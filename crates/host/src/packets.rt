@@ -5,11 +5,13 @@ use packet::Written;
 ghost use mathlib.Core.Path.{_≡_};
 ghost use Rattle.host.specs.Packet.{readingOf, refusal, writingOf};
 
-// What reading gives: the answer number, and with 0 the fields, where the payload begins and how many octets it has. A refusal has 0 in all of these.
+// What reading gives: the answer number, and with 0 the fields, how many octets the prefix has, which stand from octet 9 on, where the payload
+// begins and how many octets it has. A refusal has 0 in all of these.
 #[repr(C)]
 pub struct Reading {
     pub answer: u32,
     pub fields: Fields,
+    pub prefix: usize,
     pub start: usize,
     pub length: usize,
 }
@@ -27,11 +29,13 @@ pub fn reading_of(r: Read) -> Reading
     match r {
         Read::Found {
             fields,
+            prefix,
             start,
             length,
         } => Reading {
             answer: 0,
             fields,
+            prefix,
             start,
             length,
         },
@@ -57,9 +61,9 @@ fn refused(answer: u32) -> Reading
             channel: 0,
             number: 0,
             reserved: 0,
-            prefix: 0,
             source: 0,
         },
+        prefix: 0,
         start: 0,
         length: 0,
     }

@@ -25,8 +25,10 @@ use Rattle.channel.specs.declared.answer.Answer.{Answer}
 use Rattle.channel.specs.declared.answer.Answer.the-variants.{Refused}
 use Rattle.channel.specs.declared.answer.Refusal.{Refusal}
 use Rattle.channel.specs.declared.step.Stepped.{Stepped}
+use Rattle.channel.specs.declared.record.Prefix.{Prefix}
 use Rattle.table.specs.declared.looking.Look.{Look}
-use Rattle.table.specs.declared.looking.Look.the-variants.{Index, Packet, Nobody}
+use Rattle.table.specs.declared.looking.Sought.the-variants.{Index, Packet, Nobody}
+use Rattle.table.specs.Looking.{seeking}
 use Rattle.table.specs.Looking.{addressed, graded, missing, Chosen, chosenFrom, isFound, chosen as choice}
 use Rattle.table.specs.Lent.{areaOf, partOf, slotAt, octetAt}
 use Rattle.table.specs.Serving.{blank, recordAt, ownMem, ownLens, Step, stored, serveOne}
@@ -107,7 +109,7 @@ said t mem lens t2 mem2 lens2 i w w2 e = (ap (λ (y : Worked Stepped). y .made .
 -- ---- the channel that is served
 
 -- a request that is served is served at its index
-pub index-served : (i at rank : ℕ) (c : Channel) (mem lens : List ℕ) → Given (Index i) at rank c mem lens → at ≡ i
+pub index-served : (i at rank : ℕ) (c : Channel) (mem lens : List ℕ) → Given (seeking (Index i)) at rank c mem lens → at ≡ i
 index-served i at rank c mem lens g = go (eqb i at) refl
   where
     go : (b : Bool) → eqb i at ≡ b → at ≡ i
@@ -150,13 +152,13 @@ module _ (look : Look) (step : Step) (t : List Channel) (mem lens out : List ℕ
 abbrev pub ByAddresses : Look → Type 0
 ByAddresses look = (j : ℕ) (c d : Channel) → c .addresses ≡ d .addresses → graded look j c ≡ graded look j d
 
-pub index-by-addresses : (i : ℕ) → ByAddresses (Index i)
+pub index-by-addresses : (i : ℕ) → ByAddresses (seeking (Index i))
 index-by-addresses i j c d e = refl
 
-pub packet-by-addresses : (f : Fields) (x : ℕ) → ByAddresses (Packet f x)
-packet-by-addresses f x j c d e = ap (addressed f) e
+pub packet-by-addresses : (f : Fields) (q : Prefix) (start x : ℕ) → ByAddresses (record { sought = Packet f start x; prefix = q })
+packet-by-addresses f q start x j c d e = ap (addressed f q) e
 
-pub nobody-by-addresses : (why : Refusal) → ByAddresses (Nobody why)
+pub nobody-by-addresses : (why : Refusal) → ByAddresses (seeking (Nobody why))
 nobody-by-addresses why j c d e = refl
 
 abbrev headOr : Addresses → List Addresses → Addresses
@@ -250,5 +252,5 @@ module _ (look : Look) (step : Step) (out : List ℕ) (shapes : Shapes look step
           let one = serve-missing look step t mem lens out e f in
           let two = serve-missing look step t2 mem2 lens2 out e2 (ap isFound (sym eq) ∙ f) in
           subst (λ (a : Called Answer Channel). SameFor i a (serveOne look step t2 mem2 lens2 out)) (sym one)
-          (subst (λ (b : Called Answer Channel). SameFor i (leaves (Refused (missing look)) t mem lens out) b) (sym two)
+          (subst (λ (b : Called Answer Channel). SameFor i (leaves (Refused (missing (look .sought))) t mem lens out) b) (sym two)
           (record { answer = refl; own = own; out = refl }))

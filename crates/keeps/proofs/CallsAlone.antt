@@ -7,7 +7,7 @@ use mathlib.Core.List.{List, [], _∷_, map}
 use Prim.Native.Nat.{ℕ, zero, suc, _<_}
 use native.Mathlib.Nat.{not-suc-le-zero, le-of-suc-le-suc}
 use lib.Dec.{ltb, eqb}
-use lib.ListN.{length, set}
+use lib.ListN.{length, set, take, drop}
 use Rattle.laws.specs.Choice.{if_then_else_}
 use Rattle.laws.proofs.Choice.{chosen}
 use Rattle.packet.specs.declared.reading.Read.{Read}
@@ -24,9 +24,12 @@ use Rattle.channel.specs.Steps.{refusing}
 use Rattle.sender_units.specs.Transfer.{transferStep, transferMem, transferLens}
 use Rattle.ends.proofs.KeepsTransfer.{transfer-sized}
 use Rattle.ends.proofs.SenderFixed.{transfer-fixed}
-use Rattle.receiver.specs.Receiving.{ackLength}
+use Rattle.packet.specs.Layout.{least, prefixFrom}
+use Rattle.channel.specs.declared.record.Prefix.{Prefix}
+use Rattle.channel.specs.Prefixes.{prefixWith}
 use Rattle.table.specs.declared.looking.Look.{Look}
-use Rattle.table.specs.declared.looking.Look.the-variants.{Index, Packet, Ready, Nobody}
+use Rattle.table.specs.declared.looking.Sought.the-variants.{Index, Packet, Ready, Nobody}
+use Rattle.table.specs.Looking.{seeking}
 use Rattle.table.specs.Looking.{chosen as choice}
 use Rattle.table.specs.Lent.{areaOf, slotAt, octetAt, lawful}
 use Rattle.table.specs.Serving.{recordAt, Step, alone, stored, serveOne, tableOf}
@@ -74,29 +77,32 @@ alone-called look step t mem lens =
 
 arrival-by-addresses : (node : Node) (s : List ℕ) (room : ℕ) → ByAddresses (lookOf node s room)
 unfolding lookOf
-arrival-by-addresses node s room = by-room (ltb room ackLength) (readOf s)
+arrival-by-addresses node s room = by-room (ltb room least) (readOf s)
   where
-    by-read : (r : Read) → ByAddresses (lookBy node r)
-    by-read (Found f start x) = by-ours (isOurs node f)
+    by-read : (r : Read) → ByAddresses (lookBy node s r)
+    by-read (Found f n start x) = by-ours (isOurs node f)
       where
-        by-ours : (b : Bool) → ByAddresses (if b then Packet f x else Nobody refusal.Strange)
-        by-ours true = packet-by-addresses f x
+        q : Prefix
+        q = prefixWith n (take n (drop prefixFrom s))
+
+        by-ours : (b : Bool) → ByAddresses (if b then record { sought = Packet f start x; prefix = q } else seeking (Nobody refusal.Strange))
+        by-ours true = packet-by-addresses f q start x
         by-ours false = nobody-by-addresses refusal.Strange
     by-read Short = nobody-by-addresses refusal.Short
     by-read Damaged = nobody-by-addresses refusal.Damaged
     by-read Lacking = nobody-by-addresses refusal.Lacking
     by-read Strange = nobody-by-addresses refusal.Strange
 
-    by-room : (b : Bool) (r : Read) → ByAddresses (if b then Nobody (refusal.Small ackLength) else lookBy node r)
-    by-room true r = nobody-by-addresses (refusal.Small ackLength)
+    by-room : (b : Bool) (r : Read) → ByAddresses (if b then seeking (Nobody (refusal.Small least)) else lookBy node s r)
+    by-room true r = nobody-by-addresses (refusal.Small least)
     by-room false r = by-read r
 
 -- ---- each call changes its own channel alone
 
 module _ (t : List Channel) (mem lens : List ℕ) where
-  index-stays : (index : ℕ) (step : Step) (out : List ℕ) → Shapes (Index index) step out → OthersStay t mem lens index (serveOne (Index index) step t mem lens out)
+  index-stays : (index : ℕ) (step : Step) (out : List ℕ) → Shapes (seeking (Index index)) step out → OthersStay t mem lens index (serveOne (seeking (Index index)) step t mem lens out)
   index-stays index step out s =
-      others-stay (Index index) step t mem lens out s index (λ g. index-served index _ _ _ _ _ g)
+      others-stay (seeking (Index index)) step t mem lens out s index (λ g. index-served index _ _ _ _ _ g)
 
   -- the channel that the packet's head names
   pub arrival-others-stay : (node : Node) (packet reply : List ℕ)
@@ -106,45 +112,45 @@ module _ (t : List Channel) (mem lens : List ℕ) where
       others-stay look (arrivalFor node packet) t mem lens reply (shapes look (arrivalFor node packet) reply (arrival-keeps node packet reply)) (choice look t .at) (λ g. refl)
 
   -- the channel that is served
-  pub next-packet-others-stay : (node : Node) (out : List ℕ) → OthersStay t mem lens (choice Ready t .at) (nextPacketCall t mem lens node out)
+  pub next-packet-others-stay : (node : Node) (out : List ℕ) → OthersStay t mem lens (choice (seeking Ready) t .at) (nextPacketCall t mem lens node out)
   next-packet-others-stay node out =
-      others-stay Ready (nextFor node) t mem lens out (shapes Ready (nextFor node) out (next-keeps node out)) (choice Ready t .at) (λ g. refl)
+      others-stay (seeking Ready) (nextFor node) t mem lens out (shapes (seeking Ready) (nextFor node) out (next-keeps node out)) (choice (seeking Ready) t .at) (λ g. refl)
 
   pub open-others-stay : (index : ℕ) → OthersStay t mem lens index (staying (openCall t mem lens index) mem lens)
   open-others-stay index =
-      subst (OthersStay t mem lens index) (alone-called (Index index) openedBy t mem lens)
-      (index-stays index (alone openedBy) [] (shapes (Index index) (alone openedBy) [] (open-keeps (Index index) [])))
+      subst (OthersStay t mem lens index) (alone-called (seeking (Index index)) openedBy t mem lens)
+      (index-stays index (alone openedBy) [] (shapes (seeking (Index index)) (alone openedBy) [] (open-keeps (seeking (Index index)) [])))
 
   pub close-others-stay : (index : ℕ) → OthersStay t mem lens index (staying (closeCall t mem lens index) mem lens)
   close-others-stay index =
-      subst (OthersStay t mem lens index) (alone-called (Index index) closedBy t mem lens)
-      (index-stays index (alone closedBy) [] (shapes (Index index) (alone closedBy) [] (close-keeps (Index index) [])))
+      subst (OthersStay t mem lens index) (alone-called (seeking (Index index)) closedBy t mem lens)
+      (index-stays index (alone closedBy) [] (shapes (seeking (Index index)) (alone closedBy) [] (close-keeps (seeking (Index index)) [])))
 
   pub transfer-others-stay : (index : ℕ) (unit : List ℕ) → OthersStay t mem lens index (transferCall t mem lens index unit)
-  transfer-others-stay index unit = index-stays index (transferFor unit) [] (transfer-shapes (Index index) unit [])
+  transfer-others-stay index unit = index-stays index (transferFor unit) [] (transfer-shapes (seeking (Index index)) unit [])
 
   pub take-others-stay : (index : ℕ) (out : List ℕ) → OthersStay t mem lens index (takeCall t mem lens index out)
-  take-others-stay index out = index-stays index takeFor out (shapes (Index index) takeFor out (take-keeps (Index index) out))
+  take-others-stay index out = index-stays index takeFor out (shapes (seeking (Index index)) takeFor out (take-keeps (seeking (Index index)) out))
 
   pub reclaim-others-stay : (index : ℕ) (out : List ℕ) → OthersStay t mem lens index (reclaimCall t mem lens index out)
-  reclaim-others-stay index out = index-stays index reclaimFor out (shapes (Index index) reclaimFor out (reclaim-keeps (Index index) out))
+  reclaim-others-stay index out = index-stays index reclaimFor out (shapes (seeking (Index index)) reclaimFor out (reclaim-keeps (seeking (Index index)) out))
 
   -- ---- and reads its own channel alone
 
-  index-alone : (index : ℕ) (step : Step) (out : List ℕ) → Shapes (Index index) step out
-      → OwnChannelAlone (λ s m l. serveOne (Index index) step s m l out) index t mem lens
+  index-alone : (index : ℕ) (step : Step) (out : List ℕ) → Shapes (seeking (Index index)) step out
+      → OwnChannelAlone (λ s m l. serveOne (seeking (Index index)) step s m l out) index t mem lens
   index-alone index step out s =
-      own-channel-alone (Index index) step out s (index-by-addresses index) t mem lens index (λ g. index-served index _ _ _ _ _ g)
+      own-channel-alone (seeking (Index index)) step out s (index-by-addresses index) t mem lens index (λ g. index-served index _ _ _ _ _ g)
 
   -- a directive, of which the table alone is told
-  order-alone : (index : ℕ) (step : Channel → Stepped) → Keeps (Index index) (alone step) []
-      → OwnChannelAlone (λ s m l. staying (tableOf (serveOne (Index index) (alone step) s m l [])) m l) index t mem lens
+  order-alone : (index : ℕ) (step : Channel → Stepped) → Keeps (seeking (Index index)) (alone step) []
+      → OwnChannelAlone (λ s m l. staying (tableOf (serveOne (seeking (Index index)) (alone step) s m l [])) m l) index t mem lens
   order-alone index step keeps t2 mem2 lens2 e e2 same own =
-      subst (λ (g : Called Answer Channel). SameFor index g (staying (tableOf (serveOne (Index index) (alone step) t2 mem2 lens2 [])) mem2 lens2))
-      (alone-called (Index index) step t mem lens)
-      (subst (λ (g : Called Answer Channel). SameFor index (serveOne (Index index) (alone step) t mem lens []) g)
-      (alone-called (Index index) step t2 mem2 lens2)
-      (index-alone index (alone step) [] (shapes (Index index) (alone step) [] keeps) t2 mem2 lens2 e e2 same own))
+      subst (λ (g : Called Answer Channel). SameFor index g (staying (tableOf (serveOne (seeking (Index index)) (alone step) t2 mem2 lens2 [])) mem2 lens2))
+      (alone-called (seeking (Index index)) step t mem lens)
+      (subst (λ (g : Called Answer Channel). SameFor index (serveOne (seeking (Index index)) (alone step) t mem lens []) g)
+      (alone-called (seeking (Index index)) step t2 mem2 lens2)
+      (index-alone index (alone step) [] (shapes (seeking (Index index)) (alone step) [] keeps) t2 mem2 lens2 e e2 same own))
 
   pub arrival-own-channel-alone : (node : Node) (packet reply : List ℕ)
       → OwnChannelAlone (λ s m l. arrivalCall s m l node packet reply) (choice (lookOf node packet (length reply)) t .at) t mem lens
@@ -153,19 +159,19 @@ module _ (t : List Channel) (mem lens : List ℕ) where
       own-channel-alone look (arrivalFor node packet) reply (shapes look (arrivalFor node packet) reply (arrival-keeps node packet reply)) (arrival-by-addresses node packet (length reply)) t mem lens (choice look t .at) (λ g. refl)
 
   pub open-own-channel-alone : (index : ℕ) → OwnChannelAlone (λ s m l. staying (openCall s m l index) m l) index t mem lens
-  open-own-channel-alone index = order-alone index openedBy (open-keeps (Index index) [])
+  open-own-channel-alone index = order-alone index openedBy (open-keeps (seeking (Index index)) [])
 
   pub close-own-channel-alone : (index : ℕ) → OwnChannelAlone (λ s m l. staying (closeCall s m l index) m l) index t mem lens
-  close-own-channel-alone index = order-alone index closedBy (close-keeps (Index index) [])
+  close-own-channel-alone index = order-alone index closedBy (close-keeps (seeking (Index index)) [])
 
   pub transfer-own-channel-alone : (index : ℕ) (unit : List ℕ) → OwnChannelAlone (λ s m l. transferCall s m l index unit) index t mem lens
-  transfer-own-channel-alone index unit = index-alone index (transferFor unit) [] (transfer-shapes (Index index) unit [])
+  transfer-own-channel-alone index unit = index-alone index (transferFor unit) [] (transfer-shapes (seeking (Index index)) unit [])
 
   pub take-own-channel-alone : (index : ℕ) (out : List ℕ) → OwnChannelAlone (λ s m l. takeCall s m l index out) index t mem lens
-  take-own-channel-alone index out = index-alone index takeFor out (shapes (Index index) takeFor out (take-keeps (Index index) out))
+  take-own-channel-alone index out = index-alone index takeFor out (shapes (seeking (Index index)) takeFor out (take-keeps (seeking (Index index)) out))
 
   pub reclaim-own-channel-alone : (index : ℕ) (out : List ℕ) → OwnChannelAlone (λ s m l. reclaimCall s m l index out) index t mem lens
-  reclaim-own-channel-alone index out = index-alone index reclaimFor out (shapes (Index index) reclaimFor out (reclaim-keeps (Index index) out))
+  reclaim-own-channel-alone index out = index-alone index reclaimFor out (shapes (seeking (Index index)) reclaimFor out (reclaim-keeps (seeking (Index index)) out))
 
 -- ---- a tick treats each channel alone
 

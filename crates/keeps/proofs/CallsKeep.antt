@@ -20,7 +20,8 @@ use Rattle.channel.specs.declared.step.Stepped.{Stepped}
 use Rattle.channel.specs.Standing.{standing}
 use Rattle.channel.proofs.StandingLaws.{stands-is, is-stands}
 use Rattle.table.specs.declared.looking.Look.{Look}
-use Rattle.table.specs.declared.looking.Look.the-variants.{Index, Ready}
+use Rattle.table.specs.declared.looking.Sought.the-variants.{Index, Ready}
+use Rattle.table.specs.Looking.{seeking}
 use Rattle.table.specs.Lent.{areaOf, slotAt, octetAt, allSlots, allOctets, eachStands, lawful}
 use Rattle.table.specs.Serving.{recordAt, ownMem, ownLens, Step, alone, stored, serveOne, tableOf}
 use Rattle.table.proofs.SurveyLaws.{stands-first, stands-both}
@@ -71,27 +72,27 @@ module _ (t : List Channel) (mem lens : List ℕ) where
       serve-lawful (lookOf node packet (length reply)) (arrivalFor node packet) t mem lens reply (arrival-keeps node packet reply)
 
   pub next-packet-lawful : (node : Node) (out : List ℕ) → KeepsLawful t mem lens (nextPacketCall t mem lens node out)
-  next-packet-lawful node out = serve-lawful Ready (nextFor node) t mem lens out (next-keeps node out)
+  next-packet-lawful node out = serve-lawful (seeking Ready) (nextFor node) t mem lens out (next-keeps node out)
 
   pub open-lawful : (index : ℕ) → KeepsTable t mem lens (openCall t mem lens index)
-  open-lawful index = alone-lawful (Index index) openedBy t mem lens [] (open-keeps (Index index) [])
+  open-lawful index = alone-lawful (seeking (Index index)) openedBy t mem lens [] (open-keeps (seeking (Index index)) [])
 
   pub close-lawful : (index : ℕ) → KeepsTable t mem lens (closeCall t mem lens index)
-  close-lawful index = alone-lawful (Index index) closedBy t mem lens [] (close-keeps (Index index) [])
+  close-lawful index = alone-lawful (seeking (Index index)) closedBy t mem lens [] (close-keeps (seeking (Index index)) [])
 
   -- a table of records as they are made: each has its 128 marks
   pub transfer-lawful : (index : ℕ) (unit : List ℕ) → Wide t → KeepsLawful t mem lens (transferCall t mem lens index unit)
   transfer-lawful index unit wide =
-      let look = Index index in
+      let look = seeking (Index index) in
       let i = servedAt look (transferFor unit) t mem lens [] in
       serve-keeps look (transferFor unit) t mem lens []
       (λ below g. transfer-keeps look unit [] i _ (recordAt t i) (ownMem t i mem) (ownLens t i lens) (wide i below) g)
 
   pub take-lawful : (index : ℕ) (out : List ℕ) → KeepsLawful t mem lens (takeCall t mem lens index out)
-  take-lawful index out = serve-lawful (Index index) takeFor t mem lens out (take-keeps (Index index) out)
+  take-lawful index out = serve-lawful (seeking (Index index)) takeFor t mem lens out (take-keeps (seeking (Index index)) out)
 
   pub reclaim-lawful : (index : ℕ) (out : List ℕ) → KeepsLawful t mem lens (reclaimCall t mem lens index out)
-  reclaim-lawful index out = serve-lawful (Index index) reclaimFor t mem lens out (reclaim-keeps (Index index) out)
+  reclaim-lawful index out = serve-lawful (seeking (Index index)) reclaimFor t mem lens out (reclaim-keeps (seeking (Index index)) out)
 
 -- ---- a tick
 

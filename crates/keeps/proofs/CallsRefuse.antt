@@ -38,7 +38,8 @@ use Rattle.receiver_data.specs.Data.{dataStep}
 use Rattle.ends.proofs.ReceiverCases.{take-cases}
 use Rattle.ends.proofs.ReceiverRefusals as received
 use Rattle.table.specs.declared.looking.Look.{Look}
-use Rattle.table.specs.declared.looking.Look.the-variants.{Index, Ready}
+use Rattle.table.specs.declared.looking.Sought.the-variants.{Index, Ready}
+use Rattle.table.specs.Looking.{seeking}
 use Rattle.table.specs.Looking.{chosen as choice}
 use Rattle.table.specs.Lent.{areaOf, slotAt, octetAt, lawful}
 use Rattle.table.specs.Serving.{blank, recordAt, ownMem, ownLens, Step, alone, stored, serveOne}
@@ -47,7 +48,8 @@ use Rattle.requests.specs.Handing.{nextFor}
 use Rattle.arrivals.specs.Finding.{lookOf}
 use Rattle.arrivals.specs.Data.{replyLength, unfit, dataFor}
 use Rattle.arrivals.specs.Replying.{repliedBy}
-use Rattle.arrivals.specs.Arriving.{arriveAs, arriveBy, payloadIn, arrivalFor}
+use Rattle.arrivals.specs.Arriving.{arriveAs, arriveBy, arrivalFor}
+use Rattle.packet.specs.Layout.{payloadIn}
 use Rattle.table.proofs.Parts.{laid-own}
 use Rattle.ticks.specs.Ticks.{tickOf, anyInactive, firstInactive, ticked}
 use Rattle.node.specs.Calls.{openCall, closeCall, transferCall, takeCall, reclaimCall, nextPacketCall, arrivalCall}
@@ -255,23 +257,23 @@ module _ (t : List Channel) (mem lens : List ℕ) where
       serve-still (lookOf node packet (length reply)) (arrivalFor node packet) t mem lens reply (λ c rank m l. arrival-still node packet c rank m l reply)
 
   pub next-packet-refusals-change-nothing : (node : Node) (out : List ℕ) → RefusalsChangeNothing t mem lens out (nextPacketCall t mem lens node out)
-  next-packet-refusals-change-nothing node out = serve-still Ready (nextFor node) t mem lens out (λ c rank m l. next-still c rank m l out node)
+  next-packet-refusals-change-nothing node out = serve-still (seeking Ready) (nextFor node) t mem lens out (λ c rank m l. next-still c rank m l out node)
 
   pub open-refusals-change-nothing : (index : ℕ) → RefusalsChangeNoRecord t (openCall t mem lens index)
-  open-refusals-change-nothing index n = serve-still (Index index) (alone openedBy) t mem lens [] (λ c rank m l. open-still c rank m l []) n .0
+  open-refusals-change-nothing index n = serve-still (seeking (Index index)) (alone openedBy) t mem lens [] (λ c rank m l. open-still c rank m l []) n .0
 
   pub close-refusals-change-nothing : (index : ℕ) → RefusalsChangeNoRecord t (closeCall t mem lens index)
-  close-refusals-change-nothing index n = serve-still (Index index) (alone closedBy) t mem lens [] (λ c rank m l. close-still c rank m l []) n .0
+  close-refusals-change-nothing index n = serve-still (seeking (Index index)) (alone closedBy) t mem lens [] (λ c rank m l. close-still c rank m l []) n .0
 
   pub transfer-refusals-change-nothing : (index : ℕ) (unit : List ℕ) → RefusalsChangeNothing t mem lens [] (transferCall t mem lens index unit)
   transfer-refusals-change-nothing index unit =
-      serve-still (Index index) (transferFor unit) t mem lens [] (λ c rank m l. transfer-still c rank m l [] unit)
+      serve-still (seeking (Index index)) (transferFor unit) t mem lens [] (λ c rank m l. transfer-still c rank m l [] unit)
 
   pub take-refusals-change-nothing : (index : ℕ) (out : List ℕ) → RefusalsChangeNothing t mem lens out (takeCall t mem lens index out)
-  take-refusals-change-nothing index out = serve-still (Index index) takeFor t mem lens out (λ c rank m l. take-still c rank m l out)
+  take-refusals-change-nothing index out = serve-still (seeking (Index index)) takeFor t mem lens out (λ c rank m l. take-still c rank m l out)
 
   pub reclaim-refusals-change-nothing : (index : ℕ) (out : List ℕ) → RefusalsChangeNothing t mem lens out (reclaimCall t mem lens index out)
-  reclaim-refusals-change-nothing index out = serve-still (Index index) reclaimFor t mem lens out (λ c rank m l. reclaim-still c rank m l out)
+  reclaim-refusals-change-nothing index out = serve-still (seeking (Index index)) reclaimFor t mem lens out (λ c rank m l. reclaim-still c rank m l out)
 
   -- a tick answers 0 or 9, or 13
   pub tick-refusals-change-nothing : RefusalsChangeNoRecord t (ticked t mem lens)
@@ -293,10 +295,10 @@ module _ (t : List Channel) (mem lens : List ℕ) where
       serve-silent (lookOf node packet (length reply)) (arrivalFor node packet) t mem lens reply (λ c rank m l. arrival-silent node packet c rank m l reply)
 
   pub next-packet-nine-writes-nothing : (node : Node) (out : List ℕ) → NineWritesNothing out (nextPacketCall t mem lens node out)
-  next-packet-nine-writes-nothing node out = serve-silent Ready (nextFor node) t mem lens out (λ c rank m l. next-silent c rank m l out node)
+  next-packet-nine-writes-nothing node out = serve-silent (seeking Ready) (nextFor node) t mem lens out (λ c rank m l. next-silent c rank m l out node)
 
   pub take-nine-writes-nothing : (index : ℕ) (out : List ℕ) → NineWritesNothing out (takeCall t mem lens index out)
-  take-nine-writes-nothing index out = serve-silent (Index index) takeFor t mem lens out (λ c rank m l. take-silent c rank m l out)
+  take-nine-writes-nothing index out = serve-silent (seeking (Index index)) takeFor t mem lens out (λ c rank m l. take-silent c rank m l out)
 
   pub reclaim-nine-writes-nothing : (index : ℕ) (out : List ℕ) → NineWritesNothing out (reclaimCall t mem lens index out)
-  reclaim-nine-writes-nothing index out = serve-silent (Index index) reclaimFor t mem lens out (λ c rank m l. reclaim-silent c rank m l out)
+  reclaim-nine-writes-nothing index out = serve-silent (seeking (Index index)) reclaimFor t mem lens out (λ c rank m l. reclaim-silent c rank m l out)

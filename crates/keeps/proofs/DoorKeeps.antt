@@ -9,7 +9,8 @@ use Rattle.channel.specs.declared.record.Channel.{Channel}
 use Rattle.channel.specs.declared.answer.Refusal.the-variants as refusal
 use Rattle.channel.specs.Steps.{refusing}
 use Rattle.table.specs.declared.looking.Look.{Look}
-use Rattle.table.specs.declared.looking.Look.the-variants.{Index, Ready, Nobody}
+use Rattle.table.specs.declared.looking.Sought.the-variants.{Index, Ready, Nobody}
+use Rattle.table.specs.Looking.{seeking}
 use Rattle.table.specs.Serving.{recordAt, ownMem, ownLens, alone}
 use Rattle.requests.specs.Requests.{openedBy, closedBy, askedBy, takeFor, reclaimFor}
 use Rattle.requests.specs.Handing.{nextFor}
@@ -41,15 +42,15 @@ unknown-keeps look out at rank c mem lens g = record { addresses = refl; limits 
 
 step-keeps : (n : Request) (x out : List ℕ) (at rank : ℕ) (c : Channel) (mem lens : List ℕ) → Full c
     → Given (lookIn n x (length out)) at rank c mem lens → Kept c (stepFor n x c rank mem lens out)
-step-keeps (Open index) x out at rank c mem lens w = open-keeps (Index index) out at rank c mem lens
-step-keeps (Close index) x out at rank c mem lens w = close-keeps (Index index) out at rank c mem lens
-step-keeps (Transfer index) x out at rank c mem lens w = transfer-keeps (Index index) x out at rank c mem lens w
-step-keeps (WouldTransfer index count) x out at rank c mem lens w = question-keeps (Index index) count out at rank c mem lens
-step-keeps (Take index) x out at rank c mem lens w = take-keeps (Index index) out at rank c mem lens
-step-keeps (Reclaim index) x out at rank c mem lens w = reclaim-keeps (Index index) out at rank c mem lens
+step-keeps (Open index) x out at rank c mem lens w = open-keeps (seeking (Index index)) out at rank c mem lens
+step-keeps (Close index) x out at rank c mem lens w = close-keeps (seeking (Index index)) out at rank c mem lens
+step-keeps (Transfer index) x out at rank c mem lens w = transfer-keeps (seeking (Index index)) x out at rank c mem lens w
+step-keeps (WouldTransfer index count) x out at rank c mem lens w = question-keeps (seeking (Index index)) count out at rank c mem lens
+step-keeps (Take index) x out at rank c mem lens w = take-keeps (seeking (Index index)) out at rank c mem lens
+step-keeps (Reclaim index) x out at rank c mem lens w = reclaim-keeps (seeking (Index index)) out at rank c mem lens
 step-keeps (Arrival node) x out at rank c mem lens w = arrival-keeps node x out at rank c mem lens
 step-keeps (NextPacket node) x out at rank c mem lens w = next-keeps node out at rank c mem lens
-step-keeps Unknown x out at rank c mem lens w = unknown-keeps (Nobody refusal.NoChannel) out at rank c mem lens
+step-keeps Unknown x out at rank c mem lens w = unknown-keeps (seeking (Nobody refusal.NoChannel)) out at rank c mem lens
 
 step-marking : (n : Request) (x out : List ℕ) → Marking (stepFor n x) out
 step-marking (Open index) x out = open-marking out
@@ -63,15 +64,15 @@ step-marking (NextPacket node) x out = next-marking node out
 step-marking Unknown x out = λ c rank mem lens w. w
 
 step-fixing : (n : Request) (x out : List ℕ) → Fixing (lookIn n x (length out)) (stepFor n x) out
-step-fixing (Open index) x out = keeps-fixing (Index index) (alone openedBy) out (open-keeps (Index index) out)
-step-fixing (Close index) x out = keeps-fixing (Index index) (alone closedBy) out (close-keeps (Index index) out)
-step-fixing (Transfer index) x out = transfer-fixing (Index index) x out
+step-fixing (Open index) x out = keeps-fixing (seeking (Index index)) (alone openedBy) out (open-keeps (seeking (Index index)) out)
+step-fixing (Close index) x out = keeps-fixing (seeking (Index index)) (alone closedBy) out (close-keeps (seeking (Index index)) out)
+step-fixing (Transfer index) x out = transfer-fixing (seeking (Index index)) x out
 step-fixing (WouldTransfer index count) x out =
-    keeps-fixing (Index index) (alone (askedBy count)) out (question-keeps (Index index) count out)
-step-fixing (Take index) x out = keeps-fixing (Index index) takeFor out (take-keeps (Index index) out)
-step-fixing (Reclaim index) x out = keeps-fixing (Index index) reclaimFor out (reclaim-keeps (Index index) out)
+    keeps-fixing (seeking (Index index)) (alone (askedBy count)) out (question-keeps (seeking (Index index)) count out)
+step-fixing (Take index) x out = keeps-fixing (seeking (Index index)) takeFor out (take-keeps (seeking (Index index)) out)
+step-fixing (Reclaim index) x out = keeps-fixing (seeking (Index index)) reclaimFor out (reclaim-keeps (seeking (Index index)) out)
 step-fixing (Arrival node) x out = keeps-fixing (lookOf node x (length out)) (arrivalFor node x) out (arrival-keeps node x out)
-step-fixing (NextPacket node) x out = keeps-fixing Ready (nextFor node) out (next-keeps node out)
+step-fixing (NextPacket node) x out = keeps-fixing (seeking Ready) (nextFor node) out (next-keeps node out)
 step-fixing Unknown x out = λ at rank c mem lens g. (refl, refl)
 
 -- ---- the door

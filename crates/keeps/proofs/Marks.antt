@@ -40,7 +40,8 @@ use Rattle.receiver_data.specs.Taking as taking
 use Rattle.ends.proofs.SenderCases as sent
 use Rattle.ends.proofs.ReceiverCases.{open-cases, control-cases, take-cases, tick-cases, data-cases, accept-cases}
 use Rattle.table.specs.declared.looking.Look.{Look}
-use Rattle.table.specs.declared.looking.Look.the-variants.{Index, Ready}
+use Rattle.table.specs.declared.looking.Sought.the-variants.{Index, Ready}
+use Rattle.table.specs.Looking.{seeking}
 use Rattle.table.specs.Looking.{chosen as choice}
 use Rattle.table.specs.Lent.{lawful}
 use Rattle.table.specs.Serving.{blank, recordAt, ownMem, ownLens, Step, alone, stored, serveOne}
@@ -49,7 +50,8 @@ use Rattle.requests.specs.Handing.{nextFor}
 use Rattle.ticks.specs.declared.ticking.Ticked.{Ticked as OneTick}
 use Rattle.ticks.specs.Ticking.{tickedBy}
 use Rattle.arrivals.specs.Finding.{lookOf}
-use Rattle.arrivals.specs.Arriving.{payloadIn, arrivalFor}
+use Rattle.arrivals.specs.Arriving.{arrivalFor}
+use Rattle.packet.specs.Layout.{payloadIn}
 use Rattle.ticks.specs.Ticks.{tickOf, tickAnswer, ticked}
 use Rattle.node.specs.Calls.{openCall, closeCall, transferCall, takeCall, reclaimCall, nextPacketCall, arrivalCall}
 use Rattle.keeps.specs.Keeping.{Wide}
@@ -219,22 +221,22 @@ module _ (t : List Channel) (mem lens : List ℕ) (wide : Wide t) where
       serve-wide (lookOf node packet (length reply)) (arrivalFor node packet) t mem lens reply (arrival-marking node packet reply) wide
 
   pub next-packet-wide : (node : Node) (out : List ℕ) → Wide (nextPacketCall t mem lens node out .table)
-  next-packet-wide node out = serve-wide Ready (nextFor node) t mem lens out (next-marking node out) wide
+  next-packet-wide node out = serve-wide (seeking Ready) (nextFor node) t mem lens out (next-marking node out) wide
 
   pub open-wide : (index : ℕ) → Wide (openCall t mem lens index .table)
-  open-wide index = serve-wide (Index index) (alone openedBy) t mem lens [] (open-marking []) wide
+  open-wide index = serve-wide (seeking (Index index)) (alone openedBy) t mem lens [] (open-marking []) wide
 
   pub close-wide : (index : ℕ) → Wide (closeCall t mem lens index .table)
-  close-wide index = serve-wide (Index index) (alone closedBy) t mem lens [] (close-marking []) wide
+  close-wide index = serve-wide (seeking (Index index)) (alone closedBy) t mem lens [] (close-marking []) wide
 
   pub transfer-wide : (index : ℕ) (unit : List ℕ) → Wide (transferCall t mem lens index unit .table)
-  transfer-wide index unit = serve-wide (Index index) (transferFor unit) t mem lens [] (transfer-marking unit []) wide
+  transfer-wide index unit = serve-wide (seeking (Index index)) (transferFor unit) t mem lens [] (transfer-marking unit []) wide
 
   pub take-wide : (index : ℕ) (out : List ℕ) → Wide (takeCall t mem lens index out .table)
-  take-wide index out = serve-wide (Index index) takeFor t mem lens out (take-marking out) wide
+  take-wide index out = serve-wide (seeking (Index index)) takeFor t mem lens out (take-marking out) wide
 
   pub reclaim-wide : (index : ℕ) (out : List ℕ) → Wide (reclaimCall t mem lens index out .table)
-  reclaim-wide index out = serve-wide (Index index) reclaimFor t mem lens out (reclaim-marking out) wide
+  reclaim-wide index out = serve-wide (seeking (Index index)) reclaimFor t mem lens out (reclaim-marking out) wide
 
   pub tick-wide : Wide (ticked t mem lens .table)
   unfolding ticked

@@ -69,7 +69,7 @@ module _ (look : Look) (step : Step) (t : List Channel) (mem lens out : List ℕ
   serve-unlawful e = simp (e)
 
   pub serve-missing : lawful t mem lens ≡ true → isFound (choice look t) ≡ false
-      → serveOne look step t mem lens out ≡ leaves (Refused (missing look)) t mem lens out
+      → serveOne look step t mem lens out ≡ leaves (Refused (missing (look .sought))) t mem lens out
   unfolding serveOne
   serve-missing e f = simp (e, f)
 
@@ -102,7 +102,7 @@ module _ (look : Look) (step : Step) (t : List Channel) (mem lens out : List ℕ
   -- what holds in each case holds of the call
   pub serve-cases : (P : Called Answer Channel → Type 0)
       → P (leaves (Refused refusal.Settings) t mem lens out)
-      → P (leaves (Refused (missing look)) t mem lens out)
+      → P (leaves (Refused (missing (look .sought))) t mem lens out)
       → (Lawful t mem lens → servedAt < length t
       → Given look servedAt (choice look t .rank) (recordAt t servedAt) (ownMem t servedAt mem) (ownLens t servedAt lens)
       → P (stored t mem lens servedAt worked))

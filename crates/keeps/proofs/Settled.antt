@@ -23,7 +23,8 @@ use Rattle.channel.proofs.StandingLaws.{stands-is}
 use Rattle.sender_units.specs.Transfer.{transferStep, transferMem, transferLens}
 use Rattle.ends.proofs.SenderFixed.{transfer-fixed}
 use Rattle.table.specs.declared.looking.Look.{Look}
-use Rattle.table.specs.declared.looking.Look.the-variants.{Index, Ready}
+use Rattle.table.specs.declared.looking.Sought.the-variants.{Index, Ready}
+use Rattle.table.specs.Looking.{seeking}
 use Rattle.table.specs.Looking.{chosen as choice}
 use Rattle.table.specs.Lent.{eachStands, lawful}
 use Rattle.table.specs.Serving.{blank, recordAt, ownMem, ownLens, Step, alone, stored, serveOne}
@@ -83,25 +84,25 @@ module _ (t : List Channel) (mem lens : List ℕ) where
       settings-stay look (arrivalFor node packet) t mem lens reply (keeps-fixing look (arrivalFor node packet) reply (arrival-keeps node packet reply))
 
   pub next-packet-settings-stay : (node : Node) (out : List ℕ) → SettingsStay t (nextPacketCall t mem lens node out .table)
-  next-packet-settings-stay node out = settings-stay Ready (nextFor node) t mem lens out (keeps-fixing Ready (nextFor node) out (next-keeps node out))
+  next-packet-settings-stay node out = settings-stay (seeking Ready) (nextFor node) t mem lens out (keeps-fixing (seeking Ready) (nextFor node) out (next-keeps node out))
 
   pub open-settings-stay : (index : ℕ) → SettingsStay t (openCall t mem lens index .table)
   open-settings-stay index =
-      settings-stay (Index index) (alone openedBy) t mem lens [] (keeps-fixing (Index index) (alone openedBy) [] (open-keeps (Index index) []))
+      settings-stay (seeking (Index index)) (alone openedBy) t mem lens [] (keeps-fixing (seeking (Index index)) (alone openedBy) [] (open-keeps (seeking (Index index)) []))
 
   pub close-settings-stay : (index : ℕ) → SettingsStay t (closeCall t mem lens index .table)
   close-settings-stay index =
-      settings-stay (Index index) (alone closedBy) t mem lens [] (keeps-fixing (Index index) (alone closedBy) [] (close-keeps (Index index) []))
+      settings-stay (seeking (Index index)) (alone closedBy) t mem lens [] (keeps-fixing (seeking (Index index)) (alone closedBy) [] (close-keeps (seeking (Index index)) []))
 
   pub transfer-settings-stay : (index : ℕ) (unit : List ℕ) → SettingsStay t (transferCall t mem lens index unit .table)
-  transfer-settings-stay index unit = settings-stay (Index index) (transferFor unit) t mem lens [] (transfer-fixing (Index index) unit [])
+  transfer-settings-stay index unit = settings-stay (seeking (Index index)) (transferFor unit) t mem lens [] (transfer-fixing (seeking (Index index)) unit [])
 
   pub take-settings-stay : (index : ℕ) (out : List ℕ) → SettingsStay t (takeCall t mem lens index out .table)
-  take-settings-stay index out = settings-stay (Index index) takeFor t mem lens out (keeps-fixing (Index index) takeFor out (take-keeps (Index index) out))
+  take-settings-stay index out = settings-stay (seeking (Index index)) takeFor t mem lens out (keeps-fixing (seeking (Index index)) takeFor out (take-keeps (seeking (Index index)) out))
 
   pub reclaim-settings-stay : (index : ℕ) (out : List ℕ) → SettingsStay t (reclaimCall t mem lens index out .table)
   reclaim-settings-stay index out =
-      settings-stay (Index index) reclaimFor t mem lens out (keeps-fixing (Index index) reclaimFor out (reclaim-keeps (Index index) out))
+      settings-stay (seeking (Index index)) reclaimFor t mem lens out (keeps-fixing (seeking (Index index)) reclaimFor out (reclaim-keeps (seeking (Index index)) out))
 
 -- ---- a tick
 

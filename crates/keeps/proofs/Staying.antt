@@ -20,7 +20,8 @@ use Rattle.channel.specs.Steps.{refusing}
 use Rattle.sender_units.specs.Reclaiming.{reclaimStep, reclaimOut}
 use Rattle.receiver_data.specs.Taking.{takeStep, takeOut}
 use Rattle.table.specs.declared.looking.Look.{Look}
-use Rattle.table.specs.declared.looking.Look.the-variants.{Index, Ready}
+use Rattle.table.specs.declared.looking.Sought.the-variants.{Index, Ready}
+use Rattle.table.specs.Looking.{seeking}
 use Rattle.table.specs.Looking.{chosen as choice}
 use Rattle.table.specs.Lent.{areaOf, slotAt, octetAt}
 use Rattle.table.specs.Serving.{blank, recordAt, ownMem, ownLens, Step, alone, stored, serveOne}
@@ -75,26 +76,26 @@ next-files-nothing node out c rank m l = (refl, refl)
 
 module _ (t : List Channel) (mem lens x out : List ℕ) where
   pub open-stays : (index : ℕ) → MemoryStays mem lens (served t mem lens (Open index) x out)
-  open-stays index = files-nothing (Index index) (alone openedBy) t mem lens out (λ c rank m l. (refl, refl))
+  open-stays index = files-nothing (seeking (Index index)) (alone openedBy) t mem lens out (λ c rank m l. (refl, refl))
 
   pub close-stays : (index : ℕ) → MemoryStays mem lens (served t mem lens (Close index) x out)
-  close-stays index = files-nothing (Index index) (alone closedBy) t mem lens out (λ c rank m l. (refl, refl))
+  close-stays index = files-nothing (seeking (Index index)) (alone closedBy) t mem lens out (λ c rank m l. (refl, refl))
 
   pub take-stays : (index : ℕ) → MemoryStays mem lens (served t mem lens (Take index) x out)
-  take-stays index = files-nothing (Index index) takeFor t mem lens out (take-files-nothing out)
+  take-stays index = files-nothing (seeking (Index index)) takeFor t mem lens out (take-files-nothing out)
 
   pub reclaim-stays : (index : ℕ) → MemoryStays mem lens (served t mem lens (Reclaim index) x out)
-  reclaim-stays index = files-nothing (Index index) reclaimFor t mem lens out (reclaim-files-nothing out)
+  reclaim-stays index = files-nothing (seeking (Index index)) reclaimFor t mem lens out (reclaim-files-nothing out)
 
   pub next-stays : (node : Node) → MemoryStays mem lens (served t mem lens (NextPacket node) x out)
-  next-stays node = files-nothing Ready (nextFor node) t mem lens out (next-files-nothing node out)
+  next-stays node = files-nothing (seeking Ready) (nextFor node) t mem lens out (next-files-nothing node out)
 
   pub question-stays : (index count : ℕ) → MemoryStays mem lens (served t mem lens (WouldTransfer index count) x out)
-  question-stays index count = files-nothing (Index index) (alone (askedBy count)) t mem lens out (λ c rank m l. (refl, refl))
+  question-stays index count = files-nothing (seeking (Index index)) (alone (askedBy count)) t mem lens out (λ c rank m l. (refl, refl))
 
   -- and no record changes
   pub question-changes-nothing : (index count : ℕ) → served t mem lens (WouldTransfer index count) x out .table ≡ t
   unfolding stored askedBy
   question-changes-nothing index count =
-      serve-cases (Index index) (alone (askedBy count)) t mem lens out (λ (g : Called Answer Channel). g .table ≡ t) refl refl
-      (λ h below g. set-getD t (servedAt (Index index) (alone (askedBy count)) t mem lens out) blank)
+      serve-cases (seeking (Index index)) (alone (askedBy count)) t mem lens out (λ (g : Called Answer Channel). g .table ≡ t) refl refl
+      (λ h below g. set-getD t (servedAt (seeking (Index index)) (alone (askedBy count)) t mem lens out) blank)

@@ -5,13 +5,14 @@ use mathlib.Core.Bool.{Bool, true, false, _||_}
 use mathlib.Core.List.{List}
 use Prim.Native.Nat.{ℕ, _≤_, _<_}
 use native.Mathlib.Omega.{arith}
-use borrow.Author.Tests.{eqb-true, eqb-false, eq-eqb, ne-eqb}
-use lib.Dec.{eqb}
+use borrow.Author.Tests.{ltb-true, ltb-false, eqb-true, eqb-false, eq-eqb, ne-eqb}
+use lib.Dec.{ltb, eqb}
 use lib.ListN.{length, drop, length-take}
+use Rattle.channel.proofs.SettingsLaws.{directed}
 use Rattle.laws.proofs.Choice.{either-way, chosen, passed-by}
 use Rattle.slots.specs.Slots.{Sized}
 use Rattle.packet.specs.declared.fields.Fields.{Fields}
-use Rattle.packet.specs.Layout.{fieldsAt, lengthAt, payloadAt}
+use Rattle.packet.specs.Layout.{fieldsAt, prefixAt, lengthAt, payloadAt, payloadIn}
 use Rattle.walks.specs.Serving.{works}
 use Rattle.packet.specs.declared.kinds.Kind.{Kind}
 use Rattle.packet.specs.declared.kinds.Kind.the-variants.{Data, DataAck, Open, Close, ControlAck, Lacking}
@@ -41,23 +42,24 @@ use Rattle.receiver_data.specs.Taking.{takeStep, takeOut}
 use Rattle.ends.proofs.ReceiverKeeps as received
 use Rattle.ends.proofs.ReceiverFixed as fixed
 use Rattle.table.specs.declared.looking.Look.{Look}
-use Rattle.table.specs.declared.looking.Look.the-variants.{Ready}
+use Rattle.table.specs.declared.looking.Sought.the-variants.{Ready}
+use Rattle.table.specs.Looking.{seeking}
 use Rattle.table.specs.Looking.{looksFor, graded}
 use Rattle.table.specs.Serving.{alone}
 use Rattle.ticks.specs.declared.ticking.Ticked.{Ticked}
 use Rattle.requests.specs.Requests.{openedBy, closedBy, transferFor, takeFor, reclaimFor}
 use Rattle.requests.specs.Handing.{nextFor}
-use Rattle.arrivals.specs.Finding.{lookOf}
-use Rattle.arrivals.specs.Data.{unfit}
+use Rattle.arrivals.specs.Finding.{lookOf, prefixRead}
+use Rattle.arrivals.specs.Data.{replyLength, unfit}
 use Rattle.arrivals.specs.Replying.{repliedBy, replying}
-use Rattle.arrivals.specs.Arriving.{arriveAs, arriveBy, payloadIn, arrivalFor, Framed}
+use Rattle.arrivals.specs.Arriving.{arriveAs, arriveBy, arrivalFor, Framed}
 use Rattle.table.proofs.OneLaws.{kind-finds}
 use Rattle.requests.proofs.HandLaws.{ready-is}
 use Rattle.ticks.proofs.TickLaws.{tick-sends, tick-receives}
 use Rattle.requests.proofs.RequestLaws.{opened-sends, opened-receives, closed-sends, closed-receives}
 use Rattle.arrivals.proofs.FindLaws.{found-packet}
 use Rattle.arrivals.proofs.DataLaws.{fit-payload}
-use Rattle.arrivals.proofs.ArriveLaws.{framed, by-unfit, by-kind}
+use Rattle.arrivals.proofs.ArriveLaws.{framed, by-small, by-unfit, by-kind}
 use Rattle.ticks.specs.Ticks.{tickOf}
 use Rattle.keeps.specs.Keeping.{Given, Kept, Keeps}
 
@@ -71,7 +73,7 @@ pub by-direction : {P : Type 0} (c : Channel) (lens : List ℕ) → Standing c l
 by-direction c lens h s r =
     either-way (eqb (c .addresses .direction) sends)
     (λ e. s (eqb-true (c .addresses .direction) sends e))
-    (λ e. r (omega (arith, eqb-false (c .addresses .direction) sends e, named-is c (h .named) .direction)))
+    (λ e. r (omega (arith, eqb-false (c .addresses .direction) sends e, directed (c .addresses) (named-is c (h .named) .addresses))))
 
 -- ---- a step that leaves memory and lengths, and one that writes them
 
@@ -148,7 +150,7 @@ reclaim-keeps look out at rank c mem lens g =
 
 -- ---- the next packet
 
-pub next-keeps : (node : Node) (out : List ℕ) → Keeps Ready (nextFor node) out
+pub next-keeps : (node : Node) (out : List ℕ) → Keeps (seeking Ready) (nextFor node) out
 unfolding nextFor
 next-keeps node out at rank c mem lens g =
     let r = ready-is c rank (g .suits) (g .found) in
@@ -160,11 +162,11 @@ next-keeps node out at rank c mem lens g =
 -- the payload of Data that is fit has at most P octets
 payload-short : (c : Channel) (s : List ℕ) → unfit c (fieldsAt s) (lengthAt s) ≡ false → kindOf (fieldsAt s .kind) ≡ Data → length (payloadIn s) ≤ c .limits .payload
 payload-short c s fit k =
-    omega (arith, fit-payload c (fieldsAt s) (lengthAt s) fit k, length-take (lengthAt s) (drop (payloadAt (fieldsAt s)) s))
+    omega (arith, fit-payload c (fieldsAt s) (lengthAt s) fit k, length-take (lengthAt s) (drop (payloadAt (prefixAt s)) s))
 
 pub arrival-keeps : (node : Node) (packet out : List ℕ) → Keeps (lookOf node packet (length out)) (arrivalFor node packet) out
 unfolding arrivalFor
-arrival-keeps node packet out at rank c mem lens g = by-fit (unfit c f x) refl
+arrival-keeps node packet out at rank c mem lens g = either-way (ltb (length out) (replyLength c (kindOf (f .kind)))) small (λ e. by-fit (ltb-false _ _ e) (unfit c f x) refl)
   where
     f : Fields
     f = fieldsAt packet
@@ -178,8 +180,10 @@ arrival-keeps node packet out at rank c mem lens g = by-fit (unfit c f x) refl
     suits : graded (lookOf node packet (length out)) at c < 3
     suits = subst (λ (k : ℕ). k < 3) (g .suits) (g .found)
 
-    told : Framed c f x packet out
-    told = framed node packet out at c (lookOf node packet (length out)) f x refl suits (found-packet node packet (length out) at c suits .3)
+    told : Framed c f (payloadAt (prefixAt packet)) x packet out
+    told =
+        framed node packet out at c (lookOf node packet (length out)) f (payloadAt (prefixAt packet)) x refl suits
+        (ap (λ (l : Look). l .sought) (found-packet node packet (length out) at c suits .3))
 
     n : ℕ
     n = f .number
@@ -210,12 +214,17 @@ arrival-keeps node packet out at rank c mem lens g = by-fit (unfit c f x) refl
         quiet-kept c mem lens out (g .sized) (controlAckStep c n) (sent.control-ack-fixed c n) (control-ack-stands c lens n (g .standing) dir)
     as-kind fit (Lacking code) is dir = refused-kept c mem lens out (g .sized) refusal.Lacking (g .standing)
 
-    by-fit : (b : Bool) → unfit c f x ≡ b → Wanted
-    by-fit true e =
-        subst (Kept c) (sym (by-unfit node f x p c rank mem lens out (told .room) e)) (refused-kept c mem lens out (g .sized) refusal.Strange (g .standing))
-    by-fit false e =
+    small : ltb (length out) (replyLength c (kindOf (f .kind))) ≡ true → Wanted
+    small e =
+        subst (Kept c) (sym (by-small node f x p c rank mem lens out (kindOf (f .kind)) refl (ltb-true _ _ e)))
+        (refused-kept c mem lens out (g .sized) (refusal.Small (replyLength c (kindOf (f .kind)))) (g .standing))
+
+    by-fit : replyLength c (kindOf (f .kind)) ≤ length out → (b : Bool) → unfit c f x ≡ b → Wanted
+    by-fit room true e =
+        subst (Kept c) (sym (by-unfit node f x p c rank mem lens out room e)) (refused-kept c mem lens out (g .sized) refusal.Strange (g .standing))
+    by-fit room false e =
         let k = kindOf (f .kind) in
-        subst (Kept c) (sym (by-kind node f x p c rank mem lens out (told .room) e k refl)) (as-kind e k refl (kind-finds (c .addresses) f k (told .ours) refl))
+        subst (Kept c) (sym (by-kind node f x p c rank mem lens out room e k refl)) (as-kind e k refl (kind-finds (c .addresses) f (prefixRead packet) k (told .ours) refl))
 
 -- ---- a tick of one channel
 

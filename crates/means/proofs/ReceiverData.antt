@@ -18,7 +18,7 @@ use Rattle.channel.specs.Record.{receives, dataNumber, brokenFlags, withWindow}
 use Rattle.channel.specs.Answers.{numberOf}
 use Rattle.channel.specs.Asked.{Asked}
 use Rattle.channel.proofs.StandingLaws.{ringed}
-use Rattle.receiver.specs.Receiving.{leaving}
+use Rattle.receiver.specs.Receiving.{ackLength, leaving}
 use Rattle.receiver_data.specs.declared.sorting.Sort.{Sort}
 use Rattle.receiver_data.specs.declared.sorting.Sort.the-variants.{New, Held, Behind, Other}
 use Rattle.receiver_data.specs.Sorting.{placeAt}
@@ -141,7 +141,7 @@ module _ (c : Channel) (mem lens : List ℕ) (r : Receiver) (asked : Asked c mem
       unfolding leaving
       settles true e =
           subst (λ (s : Stepped). Result s mem₁ lens₁ (receiver.movedAnswer true r f (x .0)))
-          (sym (accept-done c place flags k m refl refl (ended .same ∙ ap not e))) (
+          (sym (accept-done c place flags k m refl refl (ackLength (c .addresses)) (ended .same ∙ ap not e) refl)) (
             record {
               state = t .state;
               before = λ z. absurd (omega (arith, phase-is));

@@ -10,7 +10,8 @@ use Rattle.channel.specs.declared.answer.Answer.{Answer}
 use Rattle.channel.specs.declared.answer.Refusal.the-variants as refusal
 use Rattle.channel.specs.Steps.{refusing}
 use Rattle.table.specs.declared.looking.Look.{Look}
-use Rattle.table.specs.declared.looking.Look.the-variants.{Index, Ready, Nobody}
+use Rattle.table.specs.declared.looking.Sought.the-variants.{Index, Ready, Nobody}
+use Rattle.table.specs.Looking.{seeking}
 use Rattle.table.specs.Serving.{Step, serveOne, indexServed, tableOf, alone}
 use Rattle.requests.specs.Requests.{openedBy, closedBy, transferFor, askedBy, takeFor, reclaimFor}
 use Rattle.requests.specs.Handing.{nextFor}
@@ -22,15 +23,15 @@ use Rattle.node.specs.declared.request.Request.the-variants.{Open, Close
 -- ---- which channel a request is for, with the octets x read and a lent buffer of so many octets
 
 abbrev pub lookIn : Request → List ℕ → ℕ → Look
-lookIn (Open index) x room = Index index
-lookIn (Close index) x room = Index index
-lookIn (Transfer index) x room = Index index
-lookIn (WouldTransfer index count) x room = Index index
-lookIn (Take index) x room = Index index
-lookIn (Reclaim index) x room = Index index
+lookIn (Open index) x room = seeking (Index index)
+lookIn (Close index) x room = seeking (Index index)
+lookIn (Transfer index) x room = seeking (Index index)
+lookIn (WouldTransfer index count) x room = seeking (Index index)
+lookIn (Take index) x room = seeking (Index index)
+lookIn (Reclaim index) x room = seeking (Index index)
 lookIn (Arrival node) x room = lookOf node x room
-lookIn (NextPacket node) x room = Ready
-lookIn Unknown x room = Nobody refusal.NoChannel
+lookIn (NextPacket node) x room = seeking Ready
+lookIn Unknown x room = seeking (Nobody refusal.NoChannel)
 
 -- ---- what it does to that channel
 

@@ -3,6 +3,8 @@ use arrivals::finding::look_of;
 use channel::Node;
 use channel::Refusal;
 use table::Look;
+use table::Sought;
+use table::looking::seek;
 ghost use mathlib.Core.Path.{_≡_};
 ghost use Rattle.node.specs.Calls.{lookIn};
 
@@ -30,14 +32,14 @@ pub fn look_in(n: Request, x: &[u8], room: usize) -> Look
     ensures { λ r. ⌜ r ≡ lookIn n (now (x .entry)) room ⌝ }
 {
     match n {
-        Request::Open(index) => Look::Index(index),
-        Request::Close(index) => Look::Index(index),
-        Request::Transfer(index) => Look::Index(index),
-        Request::WouldTransfer { index, count: _ } => Look::Index(index),
-        Request::Take(index) => Look::Index(index),
-        Request::Reclaim(index) => Look::Index(index),
+        Request::Open(index) => seek(Sought::Index(index)),
+        Request::Close(index) => seek(Sought::Index(index)),
+        Request::Transfer(index) => seek(Sought::Index(index)),
+        Request::WouldTransfer { index, count: _ } => seek(Sought::Index(index)),
+        Request::Take(index) => seek(Sought::Index(index)),
+        Request::Reclaim(index) => seek(Sought::Index(index)),
         Request::Arrival(node) => look_of(node, x, room),
-        Request::NextPacket(_) => Look::Ready,
-        Request::Unknown => Look::Nobody(Refusal::NoChannel),
+        Request::NextPacket(_) => seek(Sought::Ready),
+        Request::Unknown => seek(Sought::Nobody(Refusal::NoChannel)),
     }
 }

@@ -15,7 +15,7 @@ use Rattle.crc.specs.Crc.{crcOf}
 use Rattle.packet.specs.declared.fields.Fields.{Fields}
 use Rattle.packet.specs.declared.kinds.Kind.{Kind}
 use Rattle.packet.specs.Kinds.{kindOf, isData}
-use Rattle.packet.specs.Layout.{least, wholeLength, fieldsAt, lengthAt}
+use Rattle.packet.specs.Layout.{least, mostPrefix, wholeLength, prefixAt, lengthAt}
 use Rattle.packet.proofs.KindLaws.{carried-small}
 use Rattle.packet.specs.Tests.{short, damaged, lacking, strange, flagsAllowed, payloadAllowed, Sound}
 
@@ -26,11 +26,15 @@ module _ (s : List ℕ) (e : short s ≡ false) where
   unfolding short
   long = ltb-false _ _ (neither _ _ e .0)
 
-  pub whole : length s ≡ wholeLength (fieldsAt s) (lengthAt s)
+  pub whole : length s ≡ wholeLength (prefixAt s) (lengthAt s)
   unfolding short
   whole = eqb-true _ _ (not-false _ (neither (ltb (length s) least) _ e .1))
 
-pub not-short : (s : List ℕ) → least ≤ length s → length s ≡ wholeLength (fieldsAt s) (lengthAt s) → short s ≡ false
+  -- the source address stands within it
+  pub sourced : wholeLength (prefixAt s) 0 ≤ length s
+  sourced = omega (arith, whole)
+
+pub not-short : (s : List ℕ) → least ≤ length s → length s ≡ wholeLength (prefixAt s) (lengthAt s) → short s ≡ false
 unfolding short
 not-short s l w = simp (le-ltb _ _ l, eq-eqb _ _ w)
 
@@ -60,9 +64,9 @@ payload-small k g x = go (isData k)
     go true e = counted (eqb x 0) refl e
     go false e = omega (arith, eqb-true x 0 e)
 
-pub sound : (f : Fields) (x : ℕ) → lacking f ≡ false → strange f x ≡ false → Sound f x
+pub sound : (f : Fields) (n x : ℕ) → lacking f n ≡ false → strange f x ≡ false → Sound f n x
 unfolding lacking strange
-sound f x l e =
+sound f n x l e =
     let l1 = neither _ _ l in
     let l2 = neither _ _ (l1 .0) in
     let e1 = neither _ _ e in
@@ -70,7 +74,7 @@ sound f x l e =
     let e3 = neither _ _ (e2 .0) in
     record {
       secondary = eqb-true _ _ (not-false _ (l2 .0));
-      prefix = eqb-true _ _ (not-false _ (l2 .1));
+      prefix = ltb-false mostPrefix n (l2 .1);
       kind = carried-small _ (not-false _ (l1 .1));
       version = eqb-true _ _ (not-false _ (e3 .0));
       reserved = eqb-true _ _ (not-false _ (e3 .1));

@@ -1,6 +1,6 @@
 -- The tests of a packet alone, one definition for each answer: short 1, damaged 2, lacking 4, strange 3 (document 01, Answer numbers).
 use mathlib.Core.Path.{_≡_}
-use Prim.Native.Nat.{ℕ, _-_, _<_}
+use Prim.Native.Nat.{ℕ, _-_, _≤_, _<_}
 use mathlib.Core.Bool.{Bool, true, false, not, _||_}
 use mathlib.Core.List.{List}
 use lib.ListN.{length, take}
@@ -11,7 +11,7 @@ use Rattle.crc.specs.Crc.{crcOf}
 use Rattle.packet.specs.declared.fields.Fields.{Fields}
 use Rattle.packet.specs.declared.kinds.Kind.{Kind}
 use Rattle.packet.specs.Kinds.{kindOf, isData, carried}
-use Rattle.packet.specs.Layout.{least, wholeLength, fieldsAt, lengthAt}
+use Rattle.packet.specs.Layout.{least, mostPrefix, wholeLength, prefixAt, lengthAt}
 
 -- the sequence flags of a segment that ends its unit, 10 if others came before it, 11 if it is the whole (000, Table 4-1)
 abbrev pub flagsLast : ℕ
@@ -20,20 +20,21 @@ flagsLast = 2
 abbrev pub flagsWhole : ℕ
 flagsWhole = 3
 
--- ---- 1: under 12 octets, or not 12 + X
+-- ---- 1: under 12 octets, or not 12 + N + X
 
 unfoldable pub short : List ℕ → Bool
-short s = ltb (length s) least || not (eqb (length s) (wholeLength (fieldsAt s) (lengthAt s)))
+short s = ltb (length s) least || not (eqb (length s) (wholeLength (prefixAt s) (lengthAt s)))
 
 -- ---- 2: the last two octets are not the check sum of those before
 
 unfoldable pub damaged : List ℕ → Bool
 damaged s = not (eqb (crcOf (take (length s - 2) s)) (pairAt s (length s - 2)))
 
--- ---- 4: a secondary header, a prefix, or a type that the base lacks
+-- ---- 4: a secondary header, a prefix of n octets where four bits cannot count them, or a type that the base lacks. No packet that is read
+-- has such a prefix: it is for a writer (document 02, A7)
 
-unfoldable pub lacking : Fields → Bool
-lacking f = not (eqb (f .secondary) 0) || not (eqb (f .prefix) 0) || not (carried (kindOf (f .kind)))
+unfoldable pub lacking : Fields → ℕ → Bool
+lacking f n = not (eqb (f .secondary) 0) || ltb mostPrefix n || not (carried (kindOf (f .kind)))
 
 -- ---- 3: another header field unexpected
 
@@ -55,9 +56,9 @@ strange f x =
 
 -- ---- what passes 4 and 3, as numbers: by these bounds the octets of a head hold its fields
 
-pub record Sound (f : Fields) (x : ℕ) : Type 0 where
+pub record Sound (f : Fields) (n x : ℕ) : Type 0 where
   pub secondary : f .secondary ≡ 0
-  pub prefix : f .prefix ≡ 0
+  pub prefix : n ≤ mostPrefix
   pub kind : f .kind < 8
   pub version : f .version ≡ 1
   pub reserved : f .reserved ≡ 0

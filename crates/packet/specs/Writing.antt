@@ -1,4 +1,4 @@
--- What writing a packet alone gives, for whatever fields, payload and buffer: tests 4, 3, 11 in this order (document 01, The packet).
+-- What writing a packet alone gives, for whatever fields, prefix, payload and buffer: tests 4, 3, 11 in this order (document 01, The packet).
 use Prim.Native.Nat.{ℕ}
 use mathlib.Core.List.{List, _++_}
 use lib.ListN.{length, drop}
@@ -10,20 +10,20 @@ use Rattle.packet.specs.declared.writing.Written.the-variants.{Done, Lac
 use Rattle.packet.specs.Layout.{wholeLength, packetOf}
 use Rattle.packet.specs.Tests.{lacking, strange}
 
--- the answer, for a payload of x octets and a buffer of n
-unfoldable pub writtenOf : Fields → ℕ → ℕ → Written
-writtenOf f x n =
-    if lacking f then Lacking
+-- the answer, for a prefix of n octets, a payload of x and a buffer of room
+unfoldable pub writtenOf : Fields → ℕ → ℕ → ℕ → Written
+writtenOf f n x room =
+    if lacking f n then Lacking
     else if strange f x then Strange
-    else if ltb n (wholeLength f x) then Small (wholeLength f x)
-    else Done (wholeLength f x)
+    else if ltb room (wholeLength n x) then Small (wholeLength n x)
+    else Done (wholeLength n x)
 
 -- the buffer after the answer: the packet at its front, or as it was
-unfoldable pub afterWrite : Written → Fields → List ℕ → List ℕ → List ℕ
-afterWrite (Done n) f p out = packetOf f p ++ drop n out
-afterWrite Lacking f p out = out
-afterWrite Strange f p out = out
-afterWrite (Small n) f p out = out
+unfoldable pub afterWrite : Written → Fields → List ℕ → List ℕ → List ℕ → List ℕ
+afterWrite (Done count) f q p out = packetOf f q p ++ drop count out
+afterWrite Lacking f q p out = out
+afterWrite Strange f q p out = out
+afterWrite (Small count) f q p out = out
 
 -- the answer number of each case (document 01, Answer numbers)
 abbrev pub writtenNumber : Written → ℕ

@@ -7,7 +7,7 @@ ghost use Rattle.packet.specs.Kinds.{carried};
 ghost use Rattle.packet.specs.Tests.{lacking, flagsAllowed, payloadAllowed, strange};
 
 // As 000, 4.2.3, names and orders them, each subfield a number of its own, so that a caller can also say what is refused.
-// The payload's length is not among them: it is the payload's own.
+// The lengths of the prefix and of the payload are not among them: they are the prefix's and the payload's own.
 #[repr(C)]
 pub struct Fields {
     pub destination: u8,
@@ -19,14 +19,18 @@ pub struct Fields {
     pub channel: u16,
     pub number: u8,
     pub reserved: u8,
-    pub prefix: u8,
     pub source: u8,
 }
 
-// Where the payload begins, and the octets of a packet without one (document 01, The packet).
+// Without a prefix: where the payload begins, and the octets of a packet that has none (document 01, The packet). A prefix comes on top.
 pub const HEAD: usize = 10;
 
 pub const LEAST: usize = 12;
+
+// Where the prefix begins, and the most octets that it has (document 02, A7; 000, 4.2.3.8.3).
+pub const FRONT: usize = 9;
+
+pub const MOST_PREFIX: usize = 15;
 
 // Sequence flags (000, Table 4-1).
 pub const MIDDLE: u8 = 0;
@@ -40,14 +44,14 @@ pub const WHOLE: u8 = 3;
 // The version of the protocol (000, 4.2.3.4.2).
 pub const VERSION: u8 = 1;
 
-// A secondary header, a prefix, or a type that the base lacks.
-pub fn is_lacking(f: Fields) -> bool
-    ensures { λ r. ⌜ r ≡ lacking f ⌝ }
+// A secondary header, a prefix of more octets than can be counted, or a type that the base lacks.
+pub fn is_lacking(f: Fields, prefix: usize) -> bool
+    ensures { λ r. ⌜ r ≡ lacking f prefix ⌝ }
 {
     if f.secondary != 0 {
         return true;
     }
-    if f.prefix != 0 {
+    if MOST_PREFIX < prefix {
         return true;
     }
     !is_carried(kind_of(f.kind))

@@ -1,4 +1,5 @@
 // A packet is read where it lies: the answer says where its payload is.
+use crate::fields::FRONT;
 use crate::fields::Fields;
 use crate::fields::HEAD;
 use crate::fields::LEAST;
@@ -8,14 +9,15 @@ ghost use mathlib.Core.Path.{_≡_};
 ghost use Prim.Native.Nat.{_≤_};
 ghost use lib.ListN.{length};
 ghost use Rattle.laws.specs.Octets.{pairOf};
-ghost use Rattle.packet.specs.Layout.{least, fieldsAt, lengthAt};
+ghost use Rattle.packet.specs.Layout.{least, mostPrefix, wholeLength, fieldsAt, prefixAt, lengthAt};
 ghost use Rattle.packet.specs.Tests.{short, damaged};
 ghost use Rattle.packet.specs.Reading.{readOf, readNumber};
 
 pub enum Read {
-    // The fields, where the payload begins, and how many octets it has.
+    // The fields, how many octets the prefix has, where the payload begins, and how many octets it has.
     Found {
         fields: Fields,
+        prefix: usize,
         start: usize,
         length: usize,
     },
@@ -35,8 +37,9 @@ pub fn read_packet(packet: &[u8]) -> Read
     if is_damaged(packet) {
         return Read::Damaged;
     }
-    let fields = fields_at(packet);
-    if is_lacking(fields) {
+    let prefix = prefix_at(packet);
+    let fields = fields_at(packet, prefix);
+    if is_lacking(fields, prefix) {
         return Read::Lacking;
     }
     let length = length_at(packet);
@@ -45,7 +48,8 @@ pub fn read_packet(packet: &[u8]) -> Read
     }
     Read::Found {
         fields,
-        start: HEAD,
+        prefix,
+        start: HEAD + prefix,
         length,
     }
 }
@@ -57,6 +61,7 @@ pub fn read_number(r: Read) -> u32
     match r {
         Read::Found {
             fields: _,
+            prefix: _,
             start: _,
             length: _,
         } => 0,
@@ -67,14 +72,14 @@ pub fn read_number(r: Read) -> u32
     }
 }
 
-// Under 12 octets, or not 12 + X.
+// Under 12 octets, or not 12 + N + X.
 fn is_short(packet: &[u8]) -> bool
     ensures { λ r. ⌜ r ≡ short (now (packet .entry)) ⌝ }
 {
     if packet.len() < LEAST {
         return true;
     }
-    packet.len() != LEAST + length_at(packet)
+    packet.len() != LEAST + prefix_at(packet) + length_at(packet)
 }
 
 // The last two octets are not the check sum of those before.
@@ -86,13 +91,15 @@ fn is_damaged(packet: &[u8]) -> bool
     crc::crc_of(&packet[..end]) != pair(packet[end], packet[end + 1])
 }
 
-fn fields_at(packet: &[u8]) -> Fields
-    requires { ⌜ least ≤ length (now packet) ⌝ }
+// With a prefix of so many octets.
+fn fields_at(packet: &[u8], prefix: usize) -> Fields
+    requires { ⌜ (prefix ≡ prefixAt (now packet)) × (wholeLength prefix 0 ≤ length (now packet)) ⌝ }
     ensures { λ r. ⌜ r ≡ fieldsAt (now (packet .entry)) ⌝ }
 {
     let control = packet[2];
     let address = packet[8];
     let channel = pair(packet[5], packet[6]);
+    let source = FRONT + prefix;
     Fields {
         destination: packet[0],
         protocol: packet[1],
@@ -103,9 +110,15 @@ fn fields_at(packet: &[u8]) -> Fields
         channel,
         number: packet[7],
         reserved: address / 16,
-        prefix: address % 16,
-        source: packet[9],
+        source: packet[source],
     }
+}
+
+fn prefix_at(packet: &[u8]) -> usize
+    requires { ⌜ least ≤ length (now packet) ⌝ }
+    ensures { λ r. ⌜ (r ≡ prefixAt (now (packet .entry))) × (r ≤ mostPrefix) ⌝ }
+{
+    (packet[8] % 16) as usize
 }
 
 fn length_at(packet: &[u8]) -> usize

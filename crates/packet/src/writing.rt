@@ -1,4 +1,5 @@
 // A packet is written into a lent buffer, whole or not at all.
+use crate::fields::FRONT;
 use crate::fields::Fields;
 use crate::fields::HEAD;
 use crate::fields::LEAST;
@@ -10,7 +11,7 @@ ghost use Prim.Native.Nat.{_+_, _≤_};
 ghost use lib.ListN.{length, take, drop};
 ghost use Rattle.laws.specs.Octets.{octetsOf};
 ghost use Rattle.crc.specs.Crc.{crcOf};
-ghost use Rattle.packet.specs.Layout.{headOf};
+ghost use Rattle.packet.specs.Layout.{payloadAt, frontOf, headOf};
 ghost use Rattle.packet.specs.Tests.{Sound};
 ghost use Rattle.packet.specs.Writing.{writtenOf, afterWrite, writtenNumber};
 
@@ -25,24 +26,25 @@ pub enum Written {
 
 // Whatever is given: tests 4, 3, 11 in this order, else the packet at the buffer's front. The octets past it stay, and a
 // refusal leaves the whole buffer as it was.
-pub fn write_packet(fields: Fields, payload: &[u8], out: &mut [u8]) -> Written
-    ensures { λ r. ⌜ (r ≡ writtenOf fields (length (now (payload .entry))) (length (now (out .entry)))) × (now (out .exit) ≡ afterWrite r fields (now (payload .entry)) (now (out .entry))) ⌝ }
+pub fn write_packet(fields: Fields, prefix: &[u8], payload: &[u8], out: &mut [u8]) -> Written
+    ensures { λ r. ⌜ (r ≡ writtenOf fields (length (now (prefix .entry))) (length (now (payload .entry))) (length (now (out .entry)))) × (now (out .exit) ≡ afterWrite r fields (now (prefix .entry)) (now (payload .entry)) (now (out .entry))) ⌝ }
 {
     let length = payload.len();
-    if is_lacking(fields) {
+    if is_lacking(fields, prefix.len()) {
         return Written::Lacking;
     }
     if is_strange(fields, length) {
         return Written::Strange;
     }
-    if out.len() < LEAST + length {
-        return Written::Small(LEAST + length);
+    let head = HEAD + prefix.len();
+    let whole = LEAST + prefix.len() + length;
+    if out.len() < whole {
+        return Written::Small(whole);
     }
-    let head = head_of(fields, length as u16);
-    bytes::copy(&head, out);
-    bytes::copy(payload, &mut out[HEAD..]);
-    seal(out, HEAD + length);
-    Written::Done(LEAST + length)
+    lay_head(fields, prefix, length as u16, out);
+    bytes::copy(payload, &mut out[head..]);
+    seal(out, head + length);
+    Written::Done(whole)
 }
 
 // The answer number of document 01.
@@ -57,22 +59,33 @@ pub fn written_number(w: Written) -> u32
     }
 }
 
-// What stands before a payload of so many octets.
-fn head_of(f: Fields, length: u16) -> [u8; HEAD]
-    requires { ⌜ Sound f length ⌝ }
-    ensures { λ r. ⌜ r ≡ headOf f length ⌝ }
+// What stands before a payload of so many octets goes to the buffer's front.
+fn lay_head(f: Fields, prefix: &[u8], count: u16, out: &mut [u8])
+    requires { ⌜ (Sound f (length (now prefix)) count) × (payloadAt (length (now prefix)) ≤ length (now out)) ⌝ }
+    ensures { λ _. ⌜ now (out .exit) ≡ headOf f (now (prefix .entry)) count ++ drop (payloadAt (length (now (prefix .entry)))) (now (out .entry)) ⌝ }
+{
+    let n = prefix.len();
+    let front = front_of(f, n as u8, count);
+    bytes::copy(&front, out);
+    bytes::copy(prefix, &mut out[FRONT..]);
+    out[FRONT + n] = f.source;
+}
+
+// What stands before a prefix of n octets.
+fn front_of(f: Fields, n: u8, count: u16) -> [u8; FRONT]
+    requires { ⌜ Sound f n count ⌝ }
+    ensures { λ r. ⌜ r ≡ frontOf f n count ⌝ }
 {
     [
         f.destination,
         f.protocol,
         f.version * 64 + f.secondary * 32 + f.flags * 8 + f.kind,
-        (length / 256) as u8,
-        (length % 256) as u8,
+        (count / 256) as u8,
+        (count % 256) as u8,
         (f.channel / 256) as u8,
         (f.channel % 256) as u8,
         f.number,
-        f.reserved * 16 + f.prefix,
-        f.source,
+        f.reserved * 16 + n,
     ]
 }
 

@@ -4,12 +4,12 @@ use mathlib.Core.Path.{_≡_, refl, ap, _∙_}
 use mathlib.Core.Bool.{Bool, true, false}
 use mathlib.Core.List.{List, [], _++_}
 use Prim.Native.Nat.{ℕ, _-_, _≤_, _<_}
-use borrow.Author.Tests.{lt-leb, le-leb, eq-eqb, ne-eqb}
+use borrow.Author.Tests.{lt-leb, le-leb, le-ltb, eq-eqb, ne-eqb}
 use lib.ListN.{length, drop}
 use Rattle.packet.specs.declared.fields.Fields.{Fields}
 use Rattle.packet.specs.declared.writing.Written.{Written}
 use Rattle.packet.specs.declared.writing.Written.the-variants as written
-use Rattle.packet.specs.Layout.{packetOf}
+use Rattle.packet.specs.Layout.{mostPrefix, packetOf}
 use Rattle.packet.specs.Tests.{lacking, strange, flagsWhole}
 use Rattle.packet.specs.Writing.{writtenOf, afterWrite}
 use Rattle.packet.proofs.WriteLaws.{write-done}
@@ -20,6 +20,8 @@ use Rattle.channel.specs.declared.answer.Refusal.the-variants as refusal
 use Rattle.channel.specs.Record.{closed, enabled, opened, closing, lateOpen, controlNumber, noLone, heldIn, withState, withTimers}
 use Rattle.packet.specs.declared.kinds.Kind.{Kind}
 use Rattle.packet.specs.Kinds.{kindOf}
+use Rattle.channel.specs.Prefixes.{prefixOf, fitPrefix}
+use Rattle.channel.proofs.PrefixLaws.{prefix-short}
 use Rattle.channel.specs.Steps.{refusing, doing, repeating, failing, enabledOf, outgoingOf}
 use Rattle.receiver.specs.Receiving.{ackLength, ackKind, leaving, shutFor, withClosing, openStep, openArrives, closeArrives, controlStep, tickStep}
 
@@ -40,7 +42,7 @@ module _ (c : Channel) where
 
   -- ---- an Open
 
-  pub open-opens : c .phase .state ≡ enabled → openArrives c ≡ doing (withState c opened) ackLength
+  pub open-opens : c .phase .state ≡ enabled → openArrives c ≡ doing (withState c opened) (ackLength (c .addresses))
   unfolding openArrives
   open-opens h = simp (eq-eqb _ _ h)
 
@@ -48,7 +50,7 @@ module _ (c : Channel) where
   unfolding openArrives
   open-other h k = simp (ne-eqb _ _ h, ne-eqb _ _ k)
 
-  pub open-again : (c .phase .state ≡ enabled → ⊥) → c .phase .state ≡ opened → c .phase .accepted ≡ 0 → openArrives c ≡ repeating c ackLength
+  pub open-again : (c .phase .state ≡ enabled → ⊥) → c .phase .state ≡ opened → c .phase .accepted ≡ 0 → openArrives c ≡ repeating c (ackLength (c .addresses))
   unfolding openArrives
   open-again h k a = simp (ne-eqb _ _ h, eq-eqb _ _ k, eq-eqb _ _ a)
 
@@ -58,11 +60,11 @@ module _ (c : Channel) where
 
   -- ---- a Close
 
-  pub close-closes : c .phase .state ≡ opened → closeArrives c ≡ doing (leaving c closing (c .limits .closing)) ackLength
+  pub close-closes : c .phase .state ≡ opened → closeArrives c ≡ doing (leaving c closing (c .limits .closing)) (ackLength (c .addresses))
   unfolding closeArrives
   close-closes h = simp (eq-eqb _ _ h)
 
-  pub close-again : (c .phase .state ≡ opened → ⊥) → c .phase .state ≡ closing → closeArrives c ≡ repeating c ackLength
+  pub close-again : (c .phase .state ≡ opened → ⊥) → c .phase .state ≡ closing → closeArrives c ≡ repeating c (ackLength (c .addresses))
   unfolding closeArrives
   close-again h k = simp (ne-eqb _ _ h, eq-eqb _ _ k)
 
@@ -105,11 +107,11 @@ module _ (c : Channel) where
 
 -- ---- an ack: the writer never refuses its fields
 
-module _ (node : Node) (a : Addresses) (number : ℕ) where
-  ack-base : (ofData : Bool) → lacking (outgoingOf node a (ackKind ofData) flagsWhole number) ≡ false
+module _ (node : Node) (a : Addresses) (number : ℕ) (fits : fitPrefix (a .own) ≡ true) where
+  ack-base : (ofData : Bool) → lacking (outgoingOf node a (ackKind ofData) flagsWhole number) (a .own .length) ≡ false
   unfolding lacking kindOf
-  ack-base true = refl
-  ack-base false = refl
+  ack-base true = simp (le-ltb mostPrefix (a .own .length) (prefix-short (a .own) fits))
+  ack-base false = simp (le-ltb mostPrefix (a .own .length) (prefix-short (a .own) fits))
 
   ack-plain : (ofData : Bool) → strange (outgoingOf node a (ackKind ofData) flagsWhole number) 0 ≡ false
   unfolding strange kindOf
@@ -119,13 +121,17 @@ module _ (node : Node) (a : Addresses) (number : ℕ) where
   pub ack-written : (ofData : Bool) (kind : Kind) (f : Fields) (w : Written) (out s : List ℕ)
       → kind ≡ ackKind ofData
       → f ≡ outgoingOf node a kind flagsWhole number
-      → w ≡ writtenOf f 0 (length out)
-      → s ≡ afterWrite w f [] out
-      → ackLength ≤ length out
-      → s ≡ packetOf (outgoingOf node a (ackKind ofData) flagsWhole number) [] ++ drop ackLength out
+      → w ≡ writtenOf f (a .own .length) 0 (length out)
+      → s ≡ afterWrite w f (prefixOf (a .own)) [] out
+      → ackLength a ≤ length out
+      → s ≡ packetOf (outgoingOf node a (ackKind ofData) flagsWhole number) (prefixOf (a .own)) [] ++ drop (ackLength a) out
   unfolding afterWrite
   ack-written ofData kind f w out s ek ef ew es h =
       let g = outgoingOf node a (ackKind ofData) flagsWhole number in
+      let q = prefixOf (a .own) in
       let same : f ≡ g = ef ∙ ap (λ (x : Kind). outgoingOf node a x flagsWhole number) ek in
-      let done : w ≡ written.Done ackLength = ew ∙ ap (λ (x : Fields). writtenOf x 0 (length out)) same ∙ write-done g 0 (length out) (ack-base ofData) (ack-plain ofData) h in
-      es ∙ ap (λ (x : Written). afterWrite x f [] out) done ∙ ap (λ (x : Fields). packetOf x [] ++ drop ackLength out) same
+      let done : w ≡ written.Done (ackLength a) =
+      ew
+      ∙ ap (λ (x : Fields). writtenOf x (a .own .length) 0 (length out)) same
+      ∙ write-done g (a .own .length) 0 (length out) (ack-base ofData) (ack-plain ofData) h in
+      es ∙ ap (λ (x : Written). afterWrite x f q [] out) done ∙ ap (λ (x : Fields). packetOf x q [] ++ drop (ackLength a) out) same

@@ -7,7 +7,7 @@ use Rattle.laws.specs.Choice.{if_then_else_}
 use Rattle.slots.specs.Ring.{backOf, cleared}
 use Rattle.packet.specs.declared.kinds.Kind.{Kind}
 use Rattle.packet.specs.declared.kinds.Kind.the-variants.{DataAck, ControlAck}
-use Rattle.packet.specs.Layout.{least}
+use Rattle.channel.specs.declared.record.Addresses.{Addresses}
 use Rattle.channel.specs.declared.record.Limits.{Limits}
 use Rattle.channel.specs.declared.record.Window.{Window}
 use Rattle.channel.specs.declared.record.Timers.{Timers}
@@ -15,11 +15,11 @@ use Rattle.channel.specs.declared.record.Channel.{Channel}
 use Rattle.channel.specs.declared.step.Stepped.{Stepped}
 use Rattle.channel.specs.declared.answer.Refusal.the-variants as refusal
 use Rattle.channel.specs.Record.{closed, enabled, opened, closing, lateOpen, controlNumber, noLone, heldIn, withState, withReason, withWindow, withTimers, withMarks}
-use Rattle.channel.specs.Steps.{refusing, doing, repeating, failing, enabledOf}
+use Rattle.channel.specs.Steps.{refusing, doing, repeating, failing, enabledOf, outgoingLength}
 
--- an Ack's octets: it has no payload
-abbrev pub ackLength : ℕ
-ackLength = least
+-- the octets of an Ack to a channel's other end: it has no payload
+abbrev pub ackLength : Addresses → ℕ
+ackLength a = outgoingLength a 0
 
 -- the kind of the Ack of a Data packet, or else of a Control packet
 abbrev pub ackKind : Bool → Kind
@@ -72,16 +72,16 @@ closeStep c = refusing c refusal.State
 -- in ENABLED it leads to OPEN; in OPEN it is acknowledged while no Data was accepted, and makes the channel inactive after that
 unfoldable pub openArrives : Channel → Stepped
 openArrives c =
-    if eqb (c .phase .state) enabled then doing (withState c opened) ackLength
+    if eqb (c .phase .state) enabled then doing (withState c opened) (ackLength (c .addresses))
     else if not (eqb (c .phase .state) opened) then refusing c refusal.State
-    else if eqb (c .phase .accepted) 0 then repeating c ackLength
+    else if eqb (c .phase .accepted) 0 then repeating c (ackLength (c .addresses))
     else failing (shutFor c lateOpen) lateOpen
 
 -- in OPEN it leads to CLOSING, and the close timer starts; there further ones are acknowledged
 unfoldable pub closeArrives : Channel → Stepped
 closeArrives c =
-    if eqb (c .phase .state) opened then doing (leaving c closing (c .limits .closing)) ackLength
-    else if eqb (c .phase .state) closing then repeating c ackLength
+    if eqb (c .phase .state) opened then doing (leaving c closing (c .limits .closing)) (ackLength (c .addresses))
+    else if eqb (c .phase .state) closing then repeating c (ackLength (c .addresses))
     else refusing c refusal.State
 
 -- a number other than 0 makes the channel inactive but in CLOSED (000, 4.5.3.4 (2) d)

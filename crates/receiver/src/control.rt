@@ -1,5 +1,5 @@
 // Directives, and the Control packets that open and close the channel.
-use crate::leaving::ACK;
+use crate::leaving::ack_length;
 use crate::leaving::failed;
 use crate::leaving::leave;
 use crate::leaving::repeated;
@@ -56,7 +56,7 @@ fn open_arrives(c: Channel) -> Stepped
     if c.phase.state == ENABLED {
         let mut d = c;
         d.phase.state = OPEN;
-        return done(d, ACK);
+        return done(d, ack_length(c.addresses));
     }
     if c.phase.state != OPEN {
         return refused(c, Refusal::State);
@@ -73,7 +73,8 @@ fn close_arrives(c: Channel) -> Stepped
     ensures { λ r. ⌜ r ≡ closeArrives c ⌝ }
 {
     if c.phase.state == OPEN {
-        return done(leave(c, CLOSING, c.limits.closing), ACK);
+        let d = leave(c, CLOSING, c.limits.closing);
+        return done(d, ack_length(c.addresses));
     }
     if c.phase.state == CLOSING {
         return repeated(c);

@@ -1,4 +1,5 @@
 // A channel leaves OPEN: complete units stay to be taken (house), unfinished ones and segments past the start are dropped.
+use channel::Addresses;
 use channel::Answer;
 use channel::Channel;
 use channel::Stepped;
@@ -10,8 +11,12 @@ ghost use Rattle.channel.specs.Steps.{repeating, failing};
 ghost use Rattle.channel.specs.Asked.{Ringed};
 ghost use Rattle.receiver.specs.Receiving.{ackLength, leaving, shutFor};
 
-// The octets of an ack.
-pub const ACK: usize = LEAST;
+// The octets of an ack: it carries the own prefix, and no payload.
+pub fn ack_length(a: Addresses) -> usize
+    ensures { λ r. ⌜ r ≡ ackLength a ⌝ }
+{
+    LEAST + (a.own.length as usize)
+}
 
 // Into another state, with the close timer at so many ticks. What is kept ends where the unit on the way begins.
 pub fn leave(c: Channel, state: u8, ticks: u16) -> Channel
@@ -58,10 +63,11 @@ pub fn failed(c: Channel, why: u8) -> Stepped
 
 // Acknowledged once more, and nothing has changed.
 pub fn repeated(c: Channel) -> Stepped
-    ensures { λ r. ⌜ r ≡ repeating c ackLength ⌝ }
+    ensures { λ r. ⌜ r ≡ repeating c (ackLength (c .addresses)) ⌝ }
 {
+    let length = ack_length(c.addresses);
     Stepped {
         channel: c,
-        answer: Answer::Repeated { length: ACK },
+        answer: Answer::Repeated { length },
     }
 }

@@ -12,7 +12,7 @@ use channel::record::DATA_NUMBER;
 use channel::record::OPEN;
 use channel::step::done;
 use channel::step::refused;
-use receiver::leaving::ACK;
+use receiver::leaving::ack_length;
 use receiver::leaving::failed;
 use receiver::leaving::repeated;
 use slots::ring;
@@ -50,7 +50,7 @@ fn accept(c: Channel, place: usize, flags: u8) -> Stepped
     if moved.broken {
         return failed(d, BROKEN_FLAGS);
     }
-    done(d, ACK)
+    done(d, ack_length(c.addresses))
 }
 
 // A new segment, d past the start: filed and accepted, or refused where it lies as many slots or more past the oldest one kept.

@@ -6,7 +6,8 @@ use table::Decision;
 use table::surveying::area;
 ghost use mathlib.Core.Path.{_≡_};
 ghost use Rattle.walks.specs.Serving.{works};
-ghost use Rattle.table.specs.declared.looking.Look.the-variants.{Ready};
+ghost use Rattle.table.specs.declared.looking.Sought.the-variants.{Ready};
+ghost use Rattle.table.specs.Looking.{seeking};
 ghost use Rattle.table.specs.Surveying.{Served, stepping};
 ghost use Rattle.requests.specs.Handing.{nextFor};
 
@@ -18,7 +19,7 @@ pub fn next_step(
     lens: &[u16],
     out: &mut [u8],
 ) -> Stepped
-    requires { ⌜ (Served c d (now mem) (now lens)) × (d .look ≡ Ready) ⌝ }
+    requires { ⌜ (Served c d (now mem) (now lens)) × (d .look ≡ seeking Ready) ⌝ }
     ensures { λ r. ⌜ works r (now (mem .entry)) (now (lens .entry)) (now (out .exit)) ≡ stepping (nextFor node) c d (now (mem .entry)) (now (lens .entry)) (now (out .entry)) ⌝ }
 {
     let octet = d.spot.octet;

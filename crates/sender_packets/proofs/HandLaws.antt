@@ -18,7 +18,7 @@ use Rattle.packet.specs.declared.fields.Fields.{Fields}
 use Rattle.packet.specs.declared.kinds.Kind.the-variants.{Data, Open, Close}
 use Rattle.packet.specs.declared.writing.Written.the-variants as written
 use Rattle.packet.specs.Kinds.{kindOf}
-use Rattle.packet.specs.Layout.{wholeLength}
+use Rattle.packet.specs.Layout.{mostPrefix}
 use Rattle.packet.specs.Tests.{lacking, strange, flagsLast, flagsWhole}
 use Rattle.packet.specs.Writing.{afterWrite}
 use Rattle.channel.specs.declared.record.Node.{Node}
@@ -27,6 +27,8 @@ use Rattle.channel.specs.declared.record.Channel.{Channel}
 use Rattle.channel.specs.declared.answer.Answer.the-variants.{Done}
 use Rattle.channel.specs.declared.answer.Refusal.the-variants as refusal
 use Rattle.channel.specs.Record.{enabled, opened, closing}
+use Rattle.channel.specs.Prefixes.{prefixOf, fitPrefix}
+use Rattle.channel.proofs.PrefixLaws.{prefix-short}
 use Rattle.channel.specs.Steps.{refusing, doing, outgoingOf, outgoingLength}
 use Rattle.sender_packets.specs.Asked.{Plain}
 use Rattle.sender.specs.Directives.{placeAt}
@@ -150,22 +152,25 @@ module _ (before after : Channel) (x n : ℕ) where
   pub sent-done : outgoingLength (before .addresses) x ≤ n → sentStep before after x n ≡ doing after (outgoingLength (before .addresses) x)
   sent-done h = passed-by (ltb n (outgoingLength (before .addresses) x)) _ _ (le-ltb _ _ h)
 
-module _ (f : Fields) (p out : List ℕ) where
-  pub out-small : length out < wholeLength f (length p) → sentOut f p out ≡ out
-  out-small h = chosen (ltb (length out) (wholeLength f (length p))) _ _ (lt-ltb _ _ h)
+module _ (a : Addresses) (f : Fields) (p out : List ℕ) where
+  pub out-small : length out < outgoingLength a (length p) → sentOut a f p out ≡ out
+  out-small h = chosen (ltb (length out) (outgoingLength a (length p))) _ _ (lt-ltb _ _ h)
 
-  pub out-done : wholeLength f (length p) ≤ length out → sentOut f p out ≡ afterWrite (written.Done (wholeLength f (length p))) f p out
-  out-done h = passed-by (ltb (length out) (wholeLength f (length p))) _ _ (le-ltb _ _ h)
+  pub out-done : outgoingLength a (length p) ≤ length out → sentOut a f p out ≡ afterWrite (written.Done (outgoingLength a (length p))) f (prefixOf (a .own)) p out
+  out-done h = passed-by (ltb (length out) (outgoingLength a (length p))) _ _ (le-ltb _ _ h)
 
 -- its writer never refuses it
-module _ (node : Node) (a : Addresses) where
-  open-base : lacking (outgoingOf node a Open flagsWhole 0) ≡ false
-  unfolding lacking kindOf
-  open-base = refl
+module _ (node : Node) (a : Addresses) (fits : fitPrefix (a .own) ≡ true) where
+  few : ltb mostPrefix (a .own .length) ≡ false
+  few = le-ltb mostPrefix (a .own .length) (prefix-short (a .own) fits)
 
-  close-base : lacking (outgoingOf node a Close flagsWhole 0) ≡ false
+  open-base : lacking (outgoingOf node a Open flagsWhole 0) (a .own .length) ≡ false
   unfolding lacking kindOf
-  close-base = refl
+  open-base = simp (few)
+
+  close-base : lacking (outgoingOf node a Close flagsWhole 0) (a .own .length) ≡ false
+  unfolding lacking kindOf
+  close-base = simp (few)
 
   open-plain : strange (outgoingOf node a Open flagsWhole 0) 0 ≡ false
   unfolding strange kindOf
@@ -175,17 +180,17 @@ module _ (node : Node) (a : Addresses) where
   unfolding strange kindOf
   close-plain = refl
 
-  pub control-plain : (state : ℕ) → Plain (outgoingOf node a (if eqb state enabled then Open else Close) flagsWhole 0) 0
+  pub control-plain : (state : ℕ) → Plain a (outgoingOf node a (if eqb state enabled then Open else Close) flagsWhole 0) 0
   control-plain state = go (eqb state enabled)
     where
-      go : (t : Bool) → Plain (outgoingOf node a (if t then Open else Close) flagsWhole 0) 0
-      go true = record { base = open-base; plain = open-plain; short = omega arith }
-      go false = record { base = close-base; plain = close-plain; short = omega arith }
+      go : (t : Bool) → Plain a (outgoingOf node a (if t then Open else Close) flagsWhole 0) 0
+      go true = record { fits = fits; base = open-base; plain = open-plain; short = omega arith }
+      go false = record { fits = fits; base = close-base; plain = close-plain; short = omega arith }
 
   module _ (flags number x : ℕ) where
-    data-base : lacking (outgoingOf node a Data flags number) ≡ false
+    data-base : lacking (outgoingOf node a Data flags number) (a .own .length) ≡ false
     unfolding lacking kindOf
-    data-base = refl
+    data-base = simp (few)
 
     -- one that does not end its unit is not empty
     data-strange : flags ≤ 3 → x ≤ 1024 → (x ≡ 0 → flagsLast ≤ flags) → strange (outgoingOf node a Data flags number) x ≡ false
@@ -195,8 +200,8 @@ module _ (node : Node) (a : Addresses) where
         (λ e. simp (le-leb flags 3 h, e, le-leb flagsLast flags (some (eqb-true x 0 e))))
         (λ e. simp (le-leb flags 3 h, e, le-leb x 65535 (omega arith)))
 
-    pub data-plain : flags ≤ 3 → x ≤ 1024 → (x ≡ 0 → flagsLast ≤ flags) → Plain (outgoingOf node a Data flags number) x
-    data-plain h k some = record { base = data-base; plain = data-strange h k some; short = k }
+    pub data-plain : flags ≤ 3 → x ≤ 1024 → (x ≡ 0 → flagsLast ≤ flags) → Plain a (outgoingOf node a Data flags number) x
+    data-plain h k some = record { fits = fits; base = data-base; plain = data-strange h k some; short = k }
 
 -- ---- the hand-out of each rank
 
@@ -213,21 +218,26 @@ module _ (node : Node) (c : Channel) (lens mem out : List ℕ) where
   unfolding handStep nextOut
   hand-new = refl
 
-  pub out-control : handOut node c lens mem 0 out ≡ sentOut (controlFields node c) [] out
+  pub out-control : handOut node c lens mem 0 out ≡ sentOut (c .addresses) (controlFields node c) [] out
   unfolding handOut nextFields nextPayload
   out-control = refl
 
   -- the buffer, where the segment in the slot has the slot's length
   sized-out : (f : Fields) (p : List ℕ) (x : ℕ) → length p ≡ x
-      → (if ltb (length out) (wholeLength f x) then out else afterWrite (written.Done (wholeLength f x)) f p out) ≡ sentOut f p out
-  sized-out f p x e = ap (λ (k : ℕ). if ltb (length out) (wholeLength f k) then out else afterWrite (written.Done (wholeLength f k)) f p out) (sym e)
+      → (if ltb (length out) (outgoingLength (c .addresses) x) then out else afterWrite (written.Done (outgoingLength (c .addresses) x)) f (prefixOf (c .addresses .own)) p out)
+      ≡ sentOut (c .addresses) f p out
+  sized-out f p x e =
+      ap
+      (λ (k : ℕ).
+      if ltb (length out) (outgoingLength (c .addresses) k) then out else afterWrite (written.Done (outgoingLength (c .addresses) k)) f (prefixOf (c .addresses .own)) p out)
+      (sym e)
 
   pub out-again : length (segmentIn (c .limits .payload) mem lens (slotOf c (placeAt c (againAt c)))) ≡ getD lens (slotOf c (placeAt c (againAt c))) 0
-      → handOut node c lens mem 1 out ≡ sentOut (dataFields node c (againAt c)) (segmentIn (c .limits .payload) mem lens (slotOf c (placeAt c (againAt c)))) out
+      → handOut node c lens mem 1 out ≡ sentOut (c .addresses) (dataFields node c (againAt c)) (segmentIn (c .limits .payload) mem lens (slotOf c (placeAt c (againAt c)))) out
   unfolding handOut nextFields nextPayload
   out-again e = sized-out (dataFields node c (againAt c)) (segmentIn (c .limits .payload) mem lens (slotOf c (placeAt c (againAt c)))) (getD lens (slotOf c (placeAt c (againAt c))) 0) e
 
   pub out-new : length (segmentIn (c .limits .payload) mem lens (slotOf c (placeAt c (c .window .flight)))) ≡ getD lens (slotOf c (placeAt c (c .window .flight))) 0
-      → handOut node c lens mem 2 out ≡ sentOut (dataFields node c (c .window .flight)) (segmentIn (c .limits .payload) mem lens (slotOf c (placeAt c (c .window .flight)))) out
+      → handOut node c lens mem 2 out ≡ sentOut (c .addresses) (dataFields node c (c .window .flight)) (segmentIn (c .limits .payload) mem lens (slotOf c (placeAt c (c .window .flight)))) out
   unfolding handOut nextFields nextPayload
   out-new e = sized-out (dataFields node c (c .window .flight)) (segmentIn (c .limits .payload) mem lens (slotOf c (placeAt c (c .window .flight)))) (getD lens (slotOf c (placeAt c (c .window .flight))) 0) e

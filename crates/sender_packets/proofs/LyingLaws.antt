@@ -19,6 +19,7 @@ use Rattle.sender_packets.specs.HandingOut.{dataFields, sentStep, sentOu
 use native.Mathlib.Nat.{pos-of-ne-zero, mul-le-mul-right}
 use Rattle.slots.proofs.SlotLaws.{slot-in}
 use Rattle.channel.proofs.PlaceLaws.{slot-bound}
+use Rattle.channel.proofs.StandingLaws.{own-fits}
 use Rattle.store.proofs.Laws.{segment-length}
 use Rattle.sender_packets.proofs.HandLaws.{data-plain}
 use Rattle.sender.proofs.AskedLaws.{place-lt, mark-set, mark-ends, mark-fits}
@@ -90,18 +91,18 @@ module _ (c : Channel) (mem lens : List ℕ) (a : Asked c mem lens) (i s t : ℕ
 
   module _ (node : Node) (number : ℕ) (g : Fields) (n : number ≡ (c .window .start + i) % 256)
       (is : g ≡ outgoingOf node (c .addresses) Data (getD (c .marks) s 0 - 1) number) where
-    pub part-plain : Plain g (length part)
+    pub part-plain : Plain (c .addresses) g (length part)
     part-plain =
         let y = lying c mem lens a i l s t e f in
-        subst (λ (x : Fields). Plain x (length part)) (sym is)
-        (data-plain node (c .addresses) (getD (c .marks) s 0 - 1) number (length part) (omega (arith, y .mark)) (omega (arith, part-length, y .short, y .most))
+        subst (λ (x : Fields). Plain (c .addresses) x (length part)) (sym is)
+        (data-plain node (c .addresses) (own-fits c lens (a .standing)) (getD (c .marks) s 0 - 1) number (length part) (omega (arith, y .mark)) (omega (arith, part-length, y .short, y .most))
         (λ z. omega (arith, y .ends (sym part-length ∙ z))))
 
     pub part-step : (after : Channel) (k : ℕ) → sentStep c after (length part) k ≡ sentStep c after (getD lens (slotOf c (placeAt c i)) 0) k
     part-step after k = ap (λ (x : ℕ). sentStep c after x k) (part-length ∙ ap (λ (p : ℕ). getD lens p 0) (f ∙ ap (slotOf c) e))
 
-    pub part-out : (out : List ℕ) → sentOut g part out ≡ sentOut (dataFields node c i) (segmentIn (c .limits .payload) mem lens (slotOf c (placeAt c i))) out
+    pub part-out : (out : List ℕ) → sentOut (c .addresses) g part out ≡ sentOut (c .addresses) (dataFields node c i) (segmentIn (c .limits .payload) mem lens (slotOf c (placeAt c i))) out
     part-out out =
-        ap₂ (λ (x : Fields) (p : List ℕ). sentOut x p out)
+        ap₂ (λ (x : Fields) (p : List ℕ). sentOut (c .addresses) x p out)
         (is ∙ ap₂ (λ (p k : ℕ). outgoingOf node (c .addresses) Data (getD (c .marks) p 0 - 1) k) e n)
         (part-is ∙ ap (segmentIn (c .limits .payload) mem lens) (f ∙ ap (slotOf c) e))

@@ -12,16 +12,17 @@ use Rattle.channel.specs.Places.{slotOf}
 use Rattle.packet.specs.declared.fields.Fields.{Fields}
 use Rattle.packet.specs.declared.kinds.Kind.the-variants.{Data, Open, Close}
 use Rattle.packet.specs.declared.writing.Written.the-variants as written
-use Rattle.packet.specs.Layout.{wholeLength}
 use Rattle.packet.specs.Tests.{flagsWhole}
 use Rattle.packet.specs.Writing.{afterWrite}
 use Rattle.channel.specs.declared.record.Node.{Node}
+use Rattle.channel.specs.declared.record.Addresses.{Addresses}
 use Rattle.channel.specs.declared.record.Limits.{Limits}
 use Rattle.channel.specs.declared.record.Window.{Window}
 use Rattle.channel.specs.declared.record.Channel.{Channel}
 use Rattle.channel.specs.declared.step.Stepped.{Stepped}
 use Rattle.channel.specs.declared.answer.Refusal.the-variants as refusal
 use Rattle.channel.specs.Record.{enabled, opened, closing, withControl, withWindow, withTimers, withAcked}
+use Rattle.channel.specs.Prefixes.{prefixOf}
 use Rattle.channel.specs.Steps.{refusing, doing, outgoingOf, outgoingLength}
 use Rattle.channel.specs.Lone.{isReady, handedOut}
 use Rattle.sender.specs.Directives.{placeAt}
@@ -119,7 +120,7 @@ nextPayload c lens mem rank =
 unfoldable pub nextOut : Channel → ℕ → Channel
 nextOut c rank = if eqb rank 0 then controlOut c else if eqb rank 1 then againOut c else newOut c
 
--- how many octets the packet has: only its payload's length counts
+-- how many octets the packet has: only the lengths of the own prefix and of its payload count
 abbrev pub nextLength : Channel → List ℕ → ℕ → ℕ
 nextLength c lens rank = outgoingLength (c .addresses) (if eqb rank 0 then 0 else getD lens (slotOf c (placeAt c (segmentFor c rank))) 0)
 
@@ -130,9 +131,9 @@ sentStep before after x n =
     else doing after (outgoingLength (before .addresses) x)
 
 -- the buffer afterwards
-abbrev pub sentOut : Fields → List ℕ → List ℕ → List ℕ
-sentOut f p out =
-    if ltb (length out) (wholeLength f (length p)) then out else afterWrite (written.Done (wholeLength f (length p))) f p out
+abbrev pub sentOut : Addresses → Fields → List ℕ → List ℕ → List ℕ
+sentOut a f p out =
+    if ltb (length out) (outgoingLength a (length p)) then out else afterWrite (written.Done (outgoingLength a (length p))) f (prefixOf (a .own)) p out
 
 -- the answer for a rank that is ready, with a buffer of n octets: 11 if the packet does not fit, and nothing changes
 unfoldable pub handStep : Channel → List ℕ → ℕ → ℕ → Stepped
@@ -144,4 +145,4 @@ handStep c lens rank n =
 unfoldable pub handOut : Node → Channel → List ℕ → List ℕ → ℕ → List ℕ → List ℕ
 handOut node c lens mem rank out =
     if ltb (length out) (nextLength c lens rank) then out
-    else afterWrite (written.Done (nextLength c lens rank)) (nextFields node c rank) (nextPayload c lens mem rank) out
+    else afterWrite (written.Done (nextLength c lens rank)) (nextFields node c rank) (prefixOf (c .addresses .own)) (nextPayload c lens mem rank) out

@@ -17,6 +17,7 @@ use channel::record::OPEN;
 use channel::step::done;
 use channel::step::outgoing;
 use channel::step::refused;
+use channel::step::write_outgoing;
 use packet::Fields;
 use packet::Kind;
 use packet::fields::LEAST;
@@ -24,10 +25,11 @@ use packet::fields::WHOLE;
 use sender::ticking::lower;
 use slots::ring;
 ghost use mathlib.Core.Path.{_≡_};
-ghost use mathlib.Core.Bool.{_&&_, _||_};
+ghost use mathlib.Core.Bool.{true, _&&_, _||_};
 ghost use Prim.Native.Nat.{_+_, _-_, _<_, _≤_};
 ghost use lib.Dec.{eqb};
 ghost use Rattle.channel.specs.Record.{enabled, closing};
+ghost use Rattle.channel.specs.Prefixes.{fitPrefix};
 ghost use Rattle.channel.specs.Lone.{isReady};
 ghost use Rattle.channel.specs.Asked.{Ringed, Asked};
 ghost use Rattle.sender_packets.specs.HandingOut.{againIn, againAt, nextInWindow, rankOf, timedAt, controlOut, againOut, newOut, controlFields, dataFields, sentStep, sentOut, handStep, handOut};
@@ -176,14 +178,15 @@ fn new_out(c: Channel) -> Channel
 
 // A packet goes out, and the channel is then another; where the buffer is too small, nothing changes.
 fn send(before: Channel, after: Channel, fields: Fields, payload: &[u8], out: &mut [u8]) -> Stepped
-    requires { ⌜ Plain fields (length (now payload)) ⌝ }
-    ensures { λ r. ⌜ (r ≡ sentStep before after (length (now (payload .entry))) (length (now (out .entry)))) × (now (out .exit) ≡ sentOut fields (now (payload .entry)) (now (out .entry))) ⌝ }
+    requires { ⌜ Plain (before .addresses) fields (length (now payload)) ⌝ }
+    ensures { λ r. ⌜ (r ≡ sentStep before after (length (now (payload .entry))) (length (now (out .entry)))) × (now (out .exit) ≡ sentOut (before .addresses) fields (now (payload .entry)) (now (out .entry))) ⌝ }
 {
-    let n = LEAST + payload.len();
+    let addresses = before.addresses;
+    let n = LEAST + (addresses.own.length as usize) + payload.len();
     if out.len() < n {
         return refused(before, Refusal::Small(n));
     }
-    packet::write_packet(fields, payload, out);
+    write_outgoing(addresses, fields, payload, out);
     done(after, n)
 }
 
@@ -199,7 +202,8 @@ fn control_kind(state: u8) -> Kind
 }
 
 fn hand_control(node: Node, c: Channel, out: &mut [u8]) -> Stepped
-    ensures { λ r. ⌜ (r ≡ sentStep c (controlOut c) 0 (length (now (out .entry)))) × (now (out .exit) ≡ sentOut (controlFields node c) [] (now (out .entry))) ⌝ }
+    requires { ⌜ fitPrefix (c .addresses .own) ≡ true ⌝ }
+    ensures { λ r. ⌜ (r ≡ sentStep c (controlOut c) 0 (length (now (out .entry)))) × (now (out .exit) ≡ sentOut (c .addresses) (controlFields node c) [] (now (out .entry))) ⌝ }
 {
     let kind = control_kind(c.phase.state);
     let fields = outgoing(node, c.addresses, kind, WHOLE, 0);
@@ -218,7 +222,7 @@ fn hand_data(
     out: &mut [u8],
 ) -> Stepped
     requires { ⌜ (Asked c (now mem) (now lens)) × (i < c .window .ahead) ⌝ }
-    ensures { λ r. ⌜ (r ≡ sentStep c after (getD (now (lens .entry)) (slotOf c (placeAt c i)) 0) (length (now (out .entry)))) × (now (out .exit) ≡ sentOut (dataFields node c i) (segmentIn (c .limits .payload) (now (mem .entry)) (now (lens .entry)) (slotOf c (placeAt c i))) (now (out .entry))) ⌝ }
+    ensures { λ r. ⌜ (r ≡ sentStep c after (getD (now (lens .entry)) (slotOf c (placeAt c i)) 0) (length (now (out .entry)))) × (now (out .exit) ≡ sentOut (c .addresses) (dataFields node c i) (segmentIn (c .limits .payload) (now (mem .entry)) (now (lens .entry)) (slotOf c (placeAt c i))) (now (out .entry))) ⌝ }
 {
     let place = ring::round(c.window.place + i, c.limits.slots);
     let slot = slot_of(c.limits, place);

@@ -10,7 +10,7 @@ use lib.Dec.{leb}
 use Rattle.channel.specs.declared.record.Addresses.{Addresses}
 use Rattle.channel.specs.declared.record.Settings.{Settings}
 use Rattle.channel.specs.Record.{receives}
-use Rattle.channel.specs.Settings.{fit, fitLimits, clash}
+use Rattle.channel.specs.Settings.{fit, fitAddresses, fitLimits, clash}
 use Rattle.channel.proofs.SettingsLaws.{fit-is}
 use Rattle.laws.proofs.Choice.{both}
 use Rattle.settings.specs.declared.seeing.Seen.{Seen}
@@ -36,7 +36,7 @@ module _ (v : Seen) (a : Addresses) (n i : ℕ) where
 -- settings that are fit ask for no more than this
 pub bounded : (s : Settings) → fit s ≡ true → (s .limits .slots ≤ 128) × (s .limits .payload ≤ 1024)
 unfolding fit
-bounded s e = let f = fit-is (s .limits) (both (leb (s .addresses .direction) receives) (fitLimits (s .limits)) e .1) in (f .most, f .payload)
+bounded s e = let f = fit-is (s .limits) (both (fitAddresses (s .addresses)) (fitLimits (s .limits)) e .1) in (f .most, f .payload)
 
 module _ (v : Seen) (s : Settings) (lens : List ℕ) (j : ℕ) where
   pub one-spoilt : v .sound ≡ false → seeOne v s lens j ≡ v

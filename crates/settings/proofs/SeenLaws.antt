@@ -16,6 +16,8 @@ use Rattle.walks.specs.Fold.{foldFrom}
 use Rattle.walks_sweeping.proofs.First.{first-count}
 use Rattle.channel.specs.declared.record.Addresses.{Addresses}
 use Rattle.channel.specs.declared.record.Settings.{Settings}
+use Rattle.channel.specs.Prefixes.{samePrefix}
+use Rattle.channel.proofs.PrefixLaws.{equal-swap, same-swap}
 use Rattle.channel.specs.Settings.{fit, clash}
 use Rattle.channel.specs.Tables.{clashes, eachFit}
 use Rattle.table.specs.Lent.{areaOf, allSlots, allOctets}
@@ -23,25 +25,16 @@ use Rattle.table.specs.Surveying.{lookedAt}
 use Rattle.table.proofs.Looked.{looked-enough}
 use Rattle.settings.specs.declared.seeing.Seen.{Seen}
 use Rattle.settings.specs.Configuring.{madeTable}
-use Rattle.settings.specs.Seeing.{nowhere, begun, unsound, addressesAt, clashesSeen, noted, seeOne}
+use Rattle.settings.specs.Seeing.{nowhere, beyond, begun, unsound, addressesAt, clashesSeen, noted, seeOne}
 use Rattle.settings.proofs.OneLaws.{bounded, one-spoilt, one-many, one-unfit, one-taken, one-noted}
 
 -- ---- two clash in either order
 
-same-swap : (a b : ℕ) → eqb a b ≡ eqb b a
-same-swap a b = go (eqb a b) refl (eqb b a) refl
-  where
-    go : (x : Bool) → eqb a b ≡ x → (y : Bool) → eqb b a ≡ y → eqb a b ≡ eqb b a
-    go true p true q = p ∙ sym q
-    go false p false q = p ∙ sym q
-    go true p false q = absurd (true≢false (sym (eq-eqb b a (sym (eqb-true a b p))) ∙ q))
-    go false p true q = absurd (true≢false (sym (eq-eqb a b (sym (eqb-true b a q))) ∙ p))
-
 pub clash-swap : (a b : Addresses) → clash a b ≡ clash b a
 unfolding clash
 clash-swap a b =
-    ap₂ (λ (x y : Bool). x && y && eqb (a .direction) (b .direction)) (same-swap (a .channel) (b .channel)) (same-swap (a .remote) (b .remote))
-    ∙ ap (λ (z : Bool). eqb (b .channel) (a .channel) && eqb (b .remote) (a .remote) && z) (same-swap (a .direction) (b .direction))
+    ap₂ (λ (x y : Bool). x && y && eqb (a .direction) (b .direction) && samePrefix (a .prefix) (b .prefix)) (equal-swap (a .channel) (b .channel)) (equal-swap (a .remote) (b .remote))
+    ∙ ap₂ (λ (x y : Bool). eqb (b .channel) (a .channel) && eqb (b .remote) (a .remote) && x && y) (equal-swap (a .direction) (b .direction)) (same-swap (a .prefix) (b .prefix))
 
 -- ---- the addresses seen
 
@@ -68,10 +61,10 @@ module _ (v : Seen) (s : Settings) (j : ℕ) (places : Sixteen v) (few : j < 16)
   noted-sixteen = length-set (v .addresses) j (s .addresses) ∙ places
 
   at-index : addressesAt (noted v s j) j ≡ s .addresses
-  at-index = getD-set-same (v .addresses) j (s .addresses) nowhere (omega (arith, few, places))
+  at-index = getD-set-same (v .addresses) j (s .addresses) beyond (omega (arith, few, places))
 
   before : (i : ℕ) → i < j → addressesAt (noted v s j) i ≡ addressesAt v i
-  before i h = getD-set-other (v .addresses) j i (s .addresses) nowhere (λ e. absurd (omega (arith, h, e)))
+  before i h = getD-set-other (v .addresses) j i (s .addresses) beyond (λ e. absurd (omega (arith, h, e)))
 
   taken-before : (a : Addresses) (n i : ℕ) → i + n ≤ j → clashesSeen (noted v s j) a n i ≡ clashesSeen v a n i
   unfolding clashesSeen

@@ -1,7 +1,7 @@
 -- How the settings of a table are looked at, one after another. What it amounts to is `configured` (specs/Configuring.antt): a reader need not look here.
 use Prim.Native.Nat.{ℕ, zero, suc, _+_}
 use mathlib.Core.Bool.{Bool, true, false, not, _&&_, _||_}
-use mathlib.Core.List.{List}
+use mathlib.Core.List.{List, []}
 use lib.Dec.{ltb, leb, eqb}
 use lib.ListN.{getD, set, replicate}
 use Rattle.laws.specs.Choice.{if_then_else_}
@@ -10,6 +10,7 @@ use Rattle.channel.specs.declared.record.Addresses.{Addresses}
 use Rattle.channel.specs.declared.record.Settings.{Settings}
 use Rattle.channel.specs.declared.answer.Answer.the-variants.{Done, Refused}
 use Rattle.channel.specs.declared.answer.Refusal.the-variants as refusal
+use Rattle.channel.specs.Prefixes.{noPrefix}
 use Rattle.channel.specs.Settings.{fit, clash}
 use Rattle.table.specs.declared.deciding.Told.{Told}
 use Rattle.table.specs.declared.deciding.Verdict.{Verdict}
@@ -19,7 +20,12 @@ use Rattle.settings.specs.declared.seeing.Seen.{Seen}
 
 -- what stands at an index that nothing was noted at
 abbrev pub nowhere : Addresses
-nowhere = record { channel = 0; remote = 0; direction = 0 }
+nowhere = record { channel = 0; remote = 0; direction = 0; prefix = noPrefix; own = noPrefix }
+
+-- what `getD` gives past the end of the array, where nothing looks
+abbrev pub beyond : Addresses
+beyond =
+    record { channel = 0; remote = 0; direction = 0; prefix = record { length = 0; octets = [] }; own = record { length = 0; octets = [] } }
 
 abbrev pub begun : Seen
 begun = record { sound = true; slots = 0; octets = 0; addresses = replicate 16 nowhere }
@@ -29,7 +35,7 @@ unsound v = record { sound = false; slots = v .slots; octets = v .octets; addres
 
 -- the addresses with an index
 abbrev pub addressesAt : Seen → ℕ → Addresses
-addressesAt v i = getD (v .addresses) i nowhere
+addressesAt v i = getD (v .addresses) i beyond
 
 -- one of the n from the i-th on has such addresses
 unfoldable pub clashesSeen : Seen → Addresses → ℕ → ℕ → Bool

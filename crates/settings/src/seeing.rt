@@ -1,5 +1,6 @@
 // How the settings of a table are looked at, one after another: each is fit, none clashes with one before it, and what memory they ask for together.
 use channel::Addresses;
+use channel::Prefix;
 use channel::Settings;
 use channel::settings::is_clash;
 use channel::settings::is_fit;
@@ -22,10 +23,16 @@ pub struct Seen {
 pub fn see_begin() -> Seen
     ensures { λ r. ⌜ r ≡ begun ⌝ }
 {
+    let nothing = Prefix {
+        length: 0,
+        octets: [0; 15],
+    };
     let none = Addresses {
         channel: 0,
         remote: 0,
         direction: 0,
+        prefix: nothing,
+        own: nothing,
     };
     let addresses = [none; 16];
     Seen {

@@ -1,6 +1,6 @@
 -- Laws of one record of the survey, and of what the survey decides: one for each case.
 -- Assumes nothing.
-use mathlib.Core.Path.{_≡_, refl, sym, ap, ap₂, _∙_}
+use mathlib.Core.Path.{_≡_, refl, sym, ap, _∙_}
 use mathlib.Core.Bool.{Bool, true, false, _&&_, _||_}
 use mathlib.Core.List.{List}
 use Prim.Native.Nat.{ℕ, _+_, _≤_, _<_}
@@ -14,6 +14,8 @@ use Rattle.packet.specs.declared.kinds.Kind.{Kind}
 use Rattle.packet.specs.Kinds.{kindOf}
 use Rattle.channel.specs.declared.record.Addresses.{Addresses}
 use Rattle.channel.specs.declared.record.Channel.{Channel}
+use Rattle.channel.specs.declared.record.Prefix.{Prefix}
+use Rattle.channel.specs.Prefixes.{samePrefix}
 use Rattle.channel.specs.Record.{sends, receives}
 use Rattle.sender_packets.specs.HandingOut.{rankOf}
 use Rattle.channel.specs.declared.answer.Refusal.the-variants as refusal
@@ -91,23 +93,26 @@ module _ (v : Survey) (n m l : ℕ) where
   unfolding decided
   decided-found e h = simp (e, lt-ltb (v .spot .rank) 3 h)
 
-  pub decided-none : isSound v n m l ≡ true → 3 ≤ v .spot .rank → decided v n m l ≡ refusedBy v n (missing (v .look))
+  pub decided-none : isSound v n m l ≡ true → 3 ≤ v .spot .rank → decided v n m l ≡ refusedBy v n (missing (v .look .sought))
   unfolding decided
   decided-none e h = simp (e, le-ltb (v .spot .rank) 3 h)
 
 -- ---- a packet's channel
 
-pub same-rest : (a : Addresses) (f : Fields) → a .channel ≡ f .channel → a .remote ≡ f .source → same a f ≡ eqb (a .direction) (looksFor (kindOf (f .kind)))
+pub same-rest : (a : Addresses) (f : Fields) (q : Prefix) → a .channel ≡ f .channel → a .remote ≡ f .source → samePrefix (a .prefix) q ≡ true
+    → same a f q ≡ eqb (a .direction) (looksFor (kindOf (f .kind)))
 unfolding same
-same-rest a f e e2 = ap₂ (λ (x y : Bool). x && y && eqb (a .direction) (looksFor (kindOf (f .kind)))) (eq-eqb _ _ e) (eq-eqb _ _ e2)
+same-rest a f q e e2 e3 = simp (eq-eqb (a .channel) (f .channel) e, eq-eqb (a .remote) (f .source) e2, e3)
 
 -- its direction is the one looked for: Acks find a sender, Data and Control a receiver
-pub same-direction : (a : Addresses) (f : Fields) → same a f ≡ true → a .direction ≡ looksFor (kindOf (f .kind))
+pub same-direction : (a : Addresses) (f : Fields) (q : Prefix) → same a f q ≡ true → a .direction ≡ looksFor (kindOf (f .kind))
 unfolding same
-same-direction a f e = eqb-true (a .direction) (looksFor (kindOf (f .kind))) (both (eqb (a .channel) (f .channel) && eqb (a .remote) (f .source)) _ e .1)
+same-direction a f q e =
+    eqb-true (a .direction) (looksFor (kindOf (f .kind)))
+    (both (eqb (a .channel) (f .channel) && eqb (a .remote) (f .source) && samePrefix (a .prefix) q) _ e .1)
 
-pub kind-finds : (a : Addresses) (f : Fields) (k : Kind) → same a f ≡ true → kindOf (f .kind) ≡ k → a .direction ≡ looksFor k
-kind-finds a f k e is = same-direction a f e ∙ ap looksFor is
+pub kind-finds : (a : Addresses) (f : Fields) (q : Prefix) (k : Kind) → same a f q ≡ true → kindOf (f .kind) ≡ k → a .direction ≡ looksFor k
+kind-finds a f q k e is = same-direction a f q e ∙ ap looksFor is
 
 pub ready-rank : (c : Channel) → c .addresses .direction ≡ sends → readied c ≡ rankOf c
 ready-rank c e = chosen (eqb (c .addresses .direction) sends) (rankOf c) 3 (eq-eqb _ _ e)

@@ -191,10 +191,10 @@ module _ (look : Look) (t : List Channel) (mem lens : List ℕ) (h : Lawful t me
   pub is-served : choice look t .rank < 3 → decision ≡ served whole
   is-served f = decided-found whole (length t) (length mem) (length lens) sound (rw whole-rank f)
 
-  pub is-missing : 3 ≤ choice look t .rank → decision ≡ refusedBy whole (length t) (missing look)
+  pub is-missing : 3 ≤ choice look t .rank → decision ≡ refusedBy whole (length t) (missing (look .sought))
   is-missing f =
       decided-none whole (length t) (length mem) (length lens) sound (rw whole-rank f)
-      ∙ ap (λ (l : Look). refusedBy whole (length t) (missing l)) look-kept
+      ∙ ap (λ (l : Look). refusedBy whole (length t) (missing (l .sought))) look-kept
 
   -- the record that is served has what its step asks
   pub serves : choice look t .rank < 3 → Served (recordAt t (choice look t .at)) (served whole) mem lens
@@ -275,7 +275,7 @@ module _ (look : Look) (t : List Channel) (mem lens : List ℕ) where
       go : (a : Bool) → lawful t mem lens ≡ a → (b : Bool) → ltb (choice look t .rank) 3 ≡ b → Served (recordAt t (decisionOf .at)) decisionOf mem lens
       go false p b q = not-n (surveyed t lens (begun look)) refusal.Settings (is-unlawful p)
       go true p false q =
-          not-n (surveyed t lens (begun look)) (missing look) (is-missing look t mem lens (lawful-is t mem lens p) (ltb-false (choice look t .rank) 3 q))
+          not-n (surveyed t lens (begun look)) (missing (look .sought)) (is-missing look t mem lens (lawful-is t mem lens p) (ltb-false (choice look t .rank) 3 q))
       go true p true q =
           let h = lawful-is t mem lens p in
           let f = ltb-true (choice look t .rank) 3 q in
@@ -310,7 +310,7 @@ module _ (look : Look) (t : List Channel) (mem lens : List ℕ) where
       go : (a : Bool) → lawful t mem lens ≡ a → (b : Bool) → ltb (choice look t .rank) 3 ≡ b → by decisionOf ≡ serveOne look step t mem lens out
       go false p b q = refused (surveyed t lens (begun look)) refusal.Settings (is-unlawful p) ∙ simp (p)
       go true p false q =
-          refused (surveyed t lens (begun look)) (missing look) (is-missing look t mem lens (lawful-is t mem lens p) (ltb-false (choice look t .rank) 3 q))
+          refused (surveyed t lens (begun look)) (missing (look .sought)) (is-missing look t mem lens (lawful-is t mem lens p) (ltb-false (choice look t .rank) 3 q))
           ∙ simp (p, q)
       go true p true q =
           let h = lawful-is t mem lens p in

@@ -13,10 +13,13 @@ use Rattle.channel.specs.declared.record.Addresses.{Addresses}
 use Rattle.channel.specs.declared.record.Channel.{Channel}
 use Rattle.channel.specs.declared.answer.Refusal.{Refusal}
 use Rattle.channel.specs.declared.answer.Refusal.the-variants as refusal
+use Rattle.channel.specs.declared.record.Prefix.{Prefix}
 use Rattle.channel.specs.Record.{sends, receives}
+use Rattle.channel.specs.Prefixes.{samePrefix, noPrefix}
 use Rattle.sender_packets.specs.HandingOut.{rankOf}
 use Rattle.table.specs.declared.looking.Look.{Look}
-use Rattle.table.specs.declared.looking.Look.the-variants.{Index, Packet, Ready, Nobody}
+use Rattle.table.specs.declared.looking.Sought.{Sought}
+use Rattle.table.specs.declared.looking.Sought.the-variants.{Index, Packet, Ready, Nobody}
 
 -- the direction of the record that a packet of a kind looks for
 abbrev pub looksFor : Kind → ℕ
@@ -27,28 +30,39 @@ looksFor Close = receives
 looksFor ControlAck = sends
 looksFor (Lacking code) = receives
 
--- a packet is for the channel with these addresses
-unfoldable pub same : Addresses → Fields → Bool
-same a f = eqb (a .channel) (f .channel) && eqb (a .remote) (f .source) && eqb (a .direction) (looksFor (kindOf (f .kind)))
+-- a packet with the prefix q is for the channel with these addresses
+unfoldable pub same : Addresses → Fields → Prefix → Bool
+same a f q =
+    eqb (a .channel) (f .channel)
+    && eqb (a .remote) (f .source)
+    && samePrefix (a .prefix) q
+    && eqb (a .direction) (looksFor (kindOf (f .kind)))
+
+-- what is looked for where no prefix counts
+abbrev pub seeking : Sought → Look
+seeking sought = record { sought = sought; prefix = noPrefix }
 
 -- ---- how well a record suits: 0 best, 3 not at all
 
 abbrev pub indexed : ℕ → ℕ → ℕ
 indexed i j = if eqb i j then 0 else 3
 
-abbrev pub addressed : Fields → Addresses → ℕ
-addressed f a = if same a f then 0 else 3
+abbrev pub addressed : Fields → Prefix → Addresses → ℕ
+addressed f q a = if same a f q then 0 else 3
 
 -- Control before resent Data before new Data; a receiver hands out nothing
 abbrev pub readied : Channel → ℕ
 readied c = if eqb (c .addresses .direction) sends then rankOf c else 3
 
 -- the record at index j
+abbrev pub gradedBy : Sought → Prefix → ℕ → Channel → ℕ
+gradedBy (Index i) q j c = indexed i j
+gradedBy (Packet f start x) q j c = addressed f q (c .addresses)
+gradedBy Ready q j c = readied c
+gradedBy (Nobody why) q j c = 3
+
 abbrev pub graded : Look → ℕ → Channel → ℕ
-graded (Index i) j c = indexed i j
-graded (Packet f x) j c = addressed f (c .addresses)
-graded Ready j c = readied c
-graded (Nobody why) j c = 3
+graded look j c = gradedBy (look .sought) (look .prefix) j c
 
 -- the index of the record that suits best, the lowest among equals, and how well it does
 pub record Chosen : Type 0 where
@@ -68,8 +82,8 @@ abbrev pub isFound : Chosen → Bool
 isFound x = ltb (x .rank) 3
 
 -- the refusal where none suits: 14, for the next packet 12
-abbrev pub missing : Look → Refusal
+abbrev pub missing : Sought → Refusal
 missing (Index i) = refusal.NoChannel
-missing (Packet f x) = refusal.NoChannel
+missing (Packet f start x) = refusal.NoChannel
 missing Ready = refusal.Nothing
 missing (Nobody why) = why

@@ -14,6 +14,7 @@ use Rattle.channel.specs.declared.answer.Answer.the-variants.{Refused}
 use Rattle.channel.specs.declared.answer.Refusal.the-variants as refusal
 use Rattle.channel.specs.declared.step.Stepped.{Stepped}
 use Rattle.channel.specs.Record.{madeOf}
+use Rattle.channel.specs.Prefixes.{noPrefix}
 use Rattle.table.specs.declared.looking.Look.{Look}
 use Rattle.table.specs.declared.deciding.Told.{Told}
 use Rattle.table.specs.Looking.{chosen, isFound, missing}
@@ -23,7 +24,7 @@ use Rattle.table.specs.Lent.{areaOf, partOf, slotAt, octetAt, lawful}
 pub unset : Settings
 unset =
     record {
-      addresses = record { channel = 0; remote = 0; direction = 0 };
+      addresses = record { channel = 0; remote = 0; direction = 0; prefix = noPrefix; own = noPrefix };
       limits = record { window = 0; slots = 0; payload = 0; segments = 0; timeout = 0; closing = 0; retries = 0 };
     }
 
@@ -53,7 +54,7 @@ stored t mem lens i w =
 unfoldable pub serveOne : Look → Step → List Channel → List ℕ → List ℕ → List ℕ → Called Answer Channel
 serveOne look step t mem lens out =
     if not (lawful t mem lens) then leaves (Refused refusal.Settings) t mem lens out
-    else if not (isFound (chosen look t)) then leaves (Refused (missing look)) t mem lens out
+    else if not (isFound (chosen look t)) then leaves (Refused (missing (look .sought))) t mem lens out
     else stored t mem lens (chosen look t .at)
     (step (recordAt t (chosen look t .at)) (chosen look t .rank) (ownMem t (chosen look t .at) mem) (ownLens t (chosen look t .at) lens) out)
 

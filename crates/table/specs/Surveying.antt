@@ -82,7 +82,7 @@ unfoldable pub decided : Survey → ℕ → ℕ → ℕ → Decision
 decided v n m l =
     if not (isSound v n m l) then refusedBy v n refusal.Settings
     else if ltb (v .spot .rank) 3 then servedBy v
-    else refusedBy v n (missing (v .look))
+    else refusedBy v n (missing (v .look .sought))
 
 abbrev pub judged : Survey → ℕ → ℕ → ℕ → Verdict
 judged v n m l = record { ok = isSound v n m l; told = toldOf n (Refused refusal.Settings) }

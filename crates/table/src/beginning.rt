@@ -1,13 +1,10 @@
 // The survey that every call begins with.
-use crate::looking::Look;
 use crate::surveying::Survey;
-use crate::surveying::begin;
 use crate::surveying::looked_at;
 use crate::surveying::survey_one;
 use channel::Channel;
 ghost use mathlib.Core.Path.{_≡_};
-ghost use Rattle.table.specs.declared.looking.Look.the-variants as look;
-ghost use Rattle.table.specs.Surveying.{begun, surveyed};
+ghost use Rattle.table.specs.Surveying.{surveyed};
 
 // Every record in turn, up to the first that is too many: nothing after it counts.
 pub fn survey(t: &[Channel], lens: &[u16], start: Survey) -> Survey
@@ -22,11 +19,4 @@ pub fn survey(t: &[Channel], lens: &[u16], start: Survey) -> Survey
         j = j + 1;
     }
     a
-}
-
-// A request that names its channel by index.
-pub fn request_begin(index: usize) -> Survey
-    ensures { λ r. ⌜ r ≡ begun (look.Index index) ⌝ }
-{
-    begin(Look::Index(index))
 }

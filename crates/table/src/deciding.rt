@@ -1,5 +1,6 @@
 // What a survey decides: the record that is served, or the refusal.
 use crate::looking::Look;
+use crate::looking::Sought;
 use crate::looking::UNFIT;
 use crate::surveying::Spot;
 use crate::surveying::Survey;
@@ -53,17 +54,18 @@ fn is_sound(v: Survey, n: usize, m: usize, l: usize) -> bool
 }
 
 // The refusal where no record suits.
-fn refusal(look: Look) -> Refusal
-    ensures { λ r. ⌜ r ≡ missing look ⌝ }
+fn refusal(sought: Sought) -> Refusal
+    ensures { λ r. ⌜ r ≡ missing sought ⌝ }
 {
-    match look {
-        Look::Index(_) => Refusal::NoChannel,
-        Look::Packet {
+    match sought {
+        Sought::Index(_) => Refusal::NoChannel,
+        Sought::Packet {
             fields: _,
+            start: _,
             length: _,
         } => Refusal::NoChannel,
-        Look::Ready => Refusal::Nothing,
-        Look::Nobody(why) => why,
+        Sought::Ready => Refusal::Nothing,
+        Sought::Nobody(why) => why,
     }
 }
 
@@ -110,7 +112,8 @@ pub fn decide(v: Survey, n: usize, m: usize, l: usize) -> Decision
         return serve(v);
     }
     let look = v.look;
-    let why = refusal(look);
+    let sought = look.sought;
+    let why = refusal(sought);
     refuse(v, n, why)
 }
 

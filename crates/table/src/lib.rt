@@ -10,4 +10,5 @@ pub use deciding::Placed;
 pub use deciding::Told;
 pub use deciding::Verdict;
 pub use looking::Look;
+pub use looking::Sought;
 pub use surveying::Survey;

@@ -1,7 +1,9 @@
 // Which record of the table a call is for: the one with an index, the one that a packet is for, or the one whose packet goes next.
 use channel::Addresses;
 use channel::Channel;
+use channel::Prefix;
 use channel::Refusal;
+use channel::prefixes;
 use channel::record::RECEIVES;
 use channel::record::SENDS;
 use packet::Fields;
@@ -10,17 +12,40 @@ use packet::kinds::kind_of;
 use sender_packets::rank_of;
 ghost use mathlib.Core.Path.{_≡_};
 ghost use Rattle.channel.specs.Asked.{Ringed};
-ghost use Rattle.table.specs.Looking.{looksFor, same, indexed, addressed, readied, graded};
+ghost use Rattle.table.specs.Looking.{looksFor, same, seeking, indexed, addressed, readied, graded};
 
-pub enum Look {
+pub enum Sought {
     // A request names its channel.
     Index(usize),
-    // A packet that was read, with its payload's length.
-    Packet { fields: Fields, length: usize },
+    // A packet that was read, with where its payload begins and how many octets it has.
+    Packet {
+        fields: Fields,
+        start: usize,
+        length: usize,
+    },
     // The packet that goes next.
     Ready,
     // The call is refused whatever the table holds.
     Nobody(Refusal),
+}
+
+// What is looked for, and of a packet the prefix: an array, which stands beside the enum.
+pub struct Look {
+    pub sought: Sought,
+    pub prefix: Prefix,
+}
+
+// Where no prefix counts.
+pub fn seek(sought: Sought) -> Look
+    ensures { λ r. ⌜ r ≡ seeking sought ⌝ }
+{
+    Look {
+        sought,
+        prefix: Prefix {
+            length: 0,
+            octets: [0; 15],
+        },
+    }
 }
 
 // The grade of a record that does not suit.
@@ -40,14 +65,17 @@ fn looks_for(kind: Kind) -> u8
     }
 }
 
-// The packet is for the channel with these addresses.
-fn is_same(a: Addresses, f: Fields) -> bool
-    ensures { λ r. ⌜ r ≡ same a f ⌝ }
+// The packet, with its prefix, is for the channel with these addresses.
+fn is_same(a: Addresses, f: Fields, prefix: Prefix) -> bool
+    ensures { λ r. ⌜ r ≡ same a f prefix ⌝ }
 {
     if a.channel != f.channel {
         return false;
     }
     if a.remote != f.source {
+        return false;
+    }
+    if !prefixes::is_same(a.prefix, prefix) {
         return false;
     }
     a.direction == looks_for(kind_of(f.kind))
@@ -59,10 +87,10 @@ fn grade_index(i: usize, j: usize) -> usize
     if i == j { 0 } else { UNFIT }
 }
 
-fn grade_packet(f: Fields, a: Addresses) -> usize
-    ensures { λ r. ⌜ r ≡ addressed f a ⌝ }
+fn grade_packet(f: Fields, prefix: Prefix, a: Addresses) -> usize
+    ensures { λ r. ⌜ r ≡ addressed f prefix a ⌝ }
 {
-    if is_same(a, f) { 0 } else { UNFIT }
+    if is_same(a, f, prefix) { 0 } else { UNFIT }
 }
 
 // Only a sender hands out packets.
@@ -81,10 +109,15 @@ pub fn grade(look: Look, j: usize, c: Channel) -> usize
     requires { ⌜ Ringed (c .limits) (c .window) ⌝ }
     ensures { λ r. ⌜ r ≡ graded look j c ⌝ }
 {
-    match look {
-        Look::Index(i) => grade_index(i, j),
-        Look::Packet { fields, length: _ } => grade_packet(fields, c.addresses),
-        Look::Ready => grade_ready(c),
-        Look::Nobody(_) => UNFIT,
+    let sought = look.sought;
+    match sought {
+        Sought::Index(i) => grade_index(i, j),
+        Sought::Packet {
+            fields,
+            start: _,
+            length: _,
+        } => grade_packet(fields, look.prefix, c.addresses),
+        Sought::Ready => grade_ready(c),
+        Sought::Nobody(_) => UNFIT,
     }
 }

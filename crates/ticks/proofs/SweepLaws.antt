@@ -13,7 +13,8 @@ use Rattle.channel.specs.declared.record.Channel.{Channel}
 use Rattle.channel.specs.declared.answer.Answer.the-variants.{Done, Inactive, Refused}
 use Rattle.channel.specs.declared.answer.Refusal.the-variants as refusal
 use Rattle.channel.proofs.StandingLaws.{stands-is, ringed}
-use Rattle.table.specs.declared.looking.Look.the-variants.{Nobody}
+use Rattle.table.specs.declared.looking.Sought.the-variants.{Nobody}
+use Rattle.table.specs.Looking.{seeking}
 use Rattle.table.specs.Lent.{lawful}
 use Rattle.table.specs.declared.deciding.Told.{Told}
 use Rattle.table.specs.Serving.{blank, toldOf}
@@ -64,9 +65,9 @@ swept-end (c ∷ t) i h = go (tickedBy c .inactive) refl (swept-end t (i + 1) (o
         ∙ sym (simp (e) refl)
 
 pub may-tick : (t : List Channel) (mem lens : List ℕ)
-    → isSound (surveyed t lens (begun (Nobody refusal.NoChannel))) (length t) (length mem) (length lens) ≡ true → Every blank ticks t
+    → isSound (surveyed t lens (begun (seeking (Nobody refusal.NoChannel)))) (length t) (length mem) (length lens) ≡ true → Every blank ticks t
 may-tick t mem lens e i l =
-    let h = lawful-is t mem lens (sym (sound-lawful (Nobody refusal.NoChannel) t lens mem) ∙ e) in
+    let h = lawful-is t mem lens (sym (sound-lawful (seeking (Nobody refusal.NoChannel)) t lens mem) ∙ e) in
     ringed (getD t i blank) _ (stands-is (getD t i blank) _ (each-stands t lens (h .stand) i l))
 
 -- what is told of a table that does not pass the test
@@ -74,12 +75,12 @@ abbrev refused : List Channel → Told
 refused t = toldOf (length t) (Refused refusal.Settings)
 
 pub tick-agreed : (t : List Channel) (mem lens : List ℕ)
-    → doneBy (refused t) (isSound (surveyed t lens (begun (Nobody refusal.NoChannel))) (length t) (length mem) (length lens)) t
+    → doneBy (refused t) (isSound (surveyed t lens (begun (seeking (Nobody refusal.NoChannel)))) (length t) (length mem) (length lens)) t
     (changes (tickEnd (sweptRound t (quiet 0))) (sweptTable t (quiet 0)))
     ≡ telling (toldOf (tickIndex t mem lens)) (ticked t mem lens)
 unfolding doneBy ticked tickIndex
 tick-agreed t mem lens =
-    ap (λ (b : Bool). doneBy (refused t) b t (changes (tickEnd (sweptRound t (quiet 0))) (sweptTable t (quiet 0)))) (sound-lawful (Nobody refusal.NoChannel) t lens mem)
+    ap (λ (b : Bool). doneBy (refused t) b t (changes (tickEnd (sweptRound t (quiet 0))) (sweptTable t (quiet 0)))) (sound-lawful (seeking (Nobody refusal.NoChannel)) t lens mem)
     ∙ go (lawful t mem lens) refl
   where
     go : (b : Bool) → lawful t mem lens ≡ b

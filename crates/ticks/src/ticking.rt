@@ -3,11 +3,12 @@ use channel::Answer;
 use channel::Channel;
 use channel::Refusal;
 use channel::record::SENDS;
-use table::Look;
+use table::Sought;
 use table::Survey;
 use table::Told;
 use table::beginning::survey;
 use table::deciding::judge;
+use table::looking::seek;
 use table::surveying::begin;
 ghost use mathlib.Core.Path.{_≡_};
 ghost use Rattle.channel.specs.Asked.{Ringed};
@@ -16,7 +17,8 @@ ghost use Rattle.walks.specs.Sweep.{Every};
 ghost use Rattle.walks.specs.Serving.{changes, telling};
 ghost use Rattle.channel.specs.declared.answer.Refusal.the-variants as refusal;
 ghost use Rattle.channel.specs.declared.record.Channel.{Channel as Record};
-ghost use Rattle.table.specs.declared.looking.Look.the-variants as look;
+ghost use Rattle.table.specs.declared.looking.Sought.the-variants as sought;
+ghost use Rattle.table.specs.Looking.{seeking};
 ghost use Rattle.table.specs.Serving.{blank, toldOf};
 ghost use Rattle.table.specs.Surveying.{begun};
 ghost use Rattle.ticks.specs.Ticks.{ticks, sweptTable, sweptRound, tickEnd, tickIndex, ticked};
@@ -103,9 +105,9 @@ fn tick_next(c: Channel, r: Round) -> Turned
 
 // A tick is for no channel.
 fn tick_begin() -> Survey
-    ensures { λ r. ⌜ r ≡ begun (look.Nobody refusal.NoChannel) ⌝ }
+    ensures { λ r. ⌜ r ≡ begun (seeking (sought.Nobody refusal.NoChannel)) ⌝ }
 {
-    begin(Look::Nobody(Refusal::NoChannel))
+    begin(seek(Sought::Nobody(Refusal::NoChannel)))
 }
 
 fn tick_start() -> Round

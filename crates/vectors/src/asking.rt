@@ -4,6 +4,7 @@ use channel::Addresses;
 use channel::Channel;
 use channel::Limits;
 use channel::Node;
+use channel::Prefix;
 use channel::Settings;
 use channel::record::PROTOCOL;
 use channel::record::RECEIVES;
@@ -71,6 +72,8 @@ fn settings(window: usize, slots: usize, direction: u8) -> Settings {
             channel: 1,
             remote: OWN,
             direction,
+            prefix: none(),
+            own: none(),
         },
         limits: Limits {
             window,
@@ -81,5 +84,13 @@ fn settings(window: usize, slots: usize, direction: u8) -> Settings {
             closing: 4,
             retries: 2,
         },
+    }
+}
+
+// logical addressing
+fn none() -> Prefix {
+    Prefix {
+        length: 0,
+        octets: [0; 15],
     }
 }

@@ -56,7 +56,7 @@ fn packet_controls() {
 
 fn say_segment(flags: u8) {
     let mut out = [0u8; 13];
-    packet::write_packet(fields(flags, 0), b"x", &mut out);
+    packet::write_packet(fields(flags, 0), b"", b"x", &mut out);
     say(b" ");
     say_octet(out[2]);
 }
@@ -66,13 +66,13 @@ fn say_empty(flags: u8) {
     let mut out = [0u8; 12];
     say(b" ");
     say_number(
-        packet::written_number(packet::write_packet(fields(flags, 0), b"", &mut out)) as u64,
+        packet::written_number(packet::write_packet(fields(flags, 0), b"", b"", &mut out)) as u64,
     );
 }
 
 fn say_control(kind: u8) {
     let mut out = [0u8; 12];
-    packet::write_packet(fields(3, kind), b"", &mut out);
+    packet::write_packet(fields(3, kind), b"", b"", &mut out);
     say(b" ");
     say_octet(out[2]);
 }
@@ -89,7 +89,6 @@ fn fields(flags: u8, kind: u8) -> Fields {
         channel: 258,
         number: 7,
         reserved: 0,
-        prefix: 0,
         source: 64,
     }
 }
@@ -101,7 +100,7 @@ fn one_packet() {
 }
 
 fn show_packet(out: &mut [u8]) {
-    let answer = packet::written_number(packet::write_packet(fields(3, 0), b"fan 3 off", out));
+    let answer = packet::written_number(packet::write_packet(fields(3, 0), b"", b"fan 3 off", out));
     say(b"\na whole unit \"fan 3 off\", written: answer ");
     say_number(answer as u64);
     say(b"\nthe buffer:");
@@ -135,6 +134,7 @@ fn say_found(found: Read) {
     match found {
         Read::Found {
             fields,
+            prefix: _,
             start,
             length,
         } => {

@@ -106,9 +106,8 @@ fn empty_packet(kind: u8, number: u8) -> [u8; 12] {
         channel: 1,
         number,
         reserved: 0,
-        prefix: 0,
         source: OWN,
     };
-    packet::write_packet(fields, b"", &mut octets);
+    packet::write_packet(fields, b"", b"", &mut octets);
     octets
 }

@@ -3,6 +3,7 @@
 
 use std::time::Instant;
 
+use peer::prefix::Prefix;
 use peer::settings::{Direction, Settings};
 
 use crate::side::Side;
@@ -33,6 +34,8 @@ pub fn table(direction: Direction, remote: u8, channels: usize, payload: usize) 
         direction,
         channel,
         remote,
+        remote_prefix: Prefix::NONE,
+        own_prefix: Prefix::NONE,
         window: WINDOW as u32,
         slots: SLOTS as u32,
         most_payload: payload as u32,

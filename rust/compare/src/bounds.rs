@@ -1,6 +1,7 @@
 //! Settings at and past each bound, asked of both libraries.
 
 use link::Noise;
+use peer::prefix::Prefix;
 use peer::settings::{Direction, Settings};
 use peer::state::State;
 use proved::record::Node;
@@ -19,7 +20,7 @@ const NODE: Node = Node {
 pub type Bound = (&'static str, fn(&mut Vec<Settings>));
 
 /// Each bound of document 01, one at a time: all else is good.
-pub const REFUSED: [Bound; 14] = [
+pub const REFUSED: [Bound; 19] = [
     ("settings: window 0", |table| table[0].window = 0),
     ("settings: window not a power of two", |table| {
         table[0].window = 3;
@@ -54,10 +55,35 @@ pub const REFUSED: [Bound; 14] = [
         let last = table.len() - 1;
         table.push(table[last]);
     }),
+    ("settings: apart in the own prefix alone", |table| {
+        let other = Settings {
+            own_prefix: FULL,
+            ..table[table.len() - 1]
+        };
+        table.push(other);
+    }),
+    ("settings: a remote prefix over 15 octets", |table| {
+        table[0].remote_prefix.length = 16;
+    }),
+    ("settings: an own prefix over 15 octets", |table| {
+        table[0].own_prefix.length = 255;
+    }),
+    ("settings: an octet past the remote prefix", |table| {
+        table[0].remote_prefix = Prefix { length: 14, ..FULL };
+    }),
+    ("settings: an octet past the own prefix", |table| {
+        table[0].own_prefix.octets[0] = 1;
+    }),
 ];
 
+/// A prefix of as many octets as can be, and its last is not 0.
+const FULL: Prefix = Prefix {
+    length: 15,
+    octets: [0, 0, 0, 0, 0, 0, 0, 0, 0, 0, 0, 0, 0, 0, 1],
+};
+
 /// Changes that lie just within the bounds.
-pub const ACCEPTED: [Bound; 8] = [
+pub const ACCEPTED: [Bound; 11] = [
     ("settings: window and slots 1", |table| {
         (table[0].window, table[0].slots, table[0].most_segments) = (1, 1, 1);
     }),
@@ -77,6 +103,24 @@ pub const ACCEPTED: [Bound; 8] = [
         table[0].close_timeout = 65_535;
         table[0].retries = 255;
     }),
+    ("settings: prefixes of 15 octets", |table| {
+        (table[0].remote_prefix, table[0].own_prefix) = (FULL, FULL);
+    }),
+    ("settings: apart in the remote prefix alone", |table| {
+        let other = Settings {
+            remote_prefix: FULL,
+            ..table[table.len() - 1]
+        };
+        table.push(other);
+    }),
+    (
+        "settings: apart in the remote prefix's length alone",
+        |table| {
+            let mut other = table[table.len() - 1];
+            other.remote_prefix.length = 15;
+            table.push(other);
+        },
+    ),
     ("settings: apart in direction alone", |table| {
         let mut other = table[table.len() - 1];
         other.direction = match other.direction {
@@ -136,7 +180,27 @@ pub fn check_bounds(noise: &mut Noise, tally: &mut Tally) {
         tally.case(name);
     }
     check_storage(noise, tally);
+    check_prefixes(noise, tally);
     check_unsayable(noise, tally);
+}
+
+/// Prefixes of every length, and some that are too long, with one octet that is not
+/// 0: within the prefix or past it.
+fn check_prefixes(noise: &mut Noise, tally: &mut Tally) {
+    let places = (0..15).flat_map(|place| (0..=17).map(move |length| (place, length)));
+    for (place, length) in places {
+        let mut prefix = Prefix::NONE;
+        prefix.length = length;
+        prefix.octets[place] = noise.octet() | 1;
+        let mut settings = good(1, noise);
+        match noise.one_in(2) {
+            true => settings[0].own_prefix = prefix,
+            false => settings[0].remote_prefix = prefix,
+        }
+        let good = length <= 15 && place < length.into();
+        let answer = give(&settings, 1, noise, tally);
+        assert_eq!(answer, if good { 0 } else { 13 }, "{prefix:?}");
+    }
 }
 
 /// Settings that ask for other storage than is lent.

@@ -1,6 +1,7 @@
 //! One call of a node, to be made of both libraries.
 
 use peer::answer::Answer;
+use peer::prefix::Prefix;
 use peer::settings::{Direction, Settings};
 use proved::calls;
 use proved::record::{direction, Addresses, Channel, Limits, Node};
@@ -129,6 +130,8 @@ pub fn to_proved(settings: &Settings) -> proved::record::Settings {
                 Direction::Sending => direction::SENDS,
                 Direction::Receiving => direction::RECEIVES,
             },
+            remote_prefix: prefix_to_proved(settings.remote_prefix),
+            own_prefix: prefix_to_proved(settings.own_prefix),
         },
         limits: Limits {
             window: settings.window as usize,
@@ -140,4 +143,10 @@ pub fn to_proved(settings: &Settings) -> proved::record::Settings {
             retries: narrow(settings.retries),
         },
     }
+}
+
+/// The same prefix, be it a good one or not.
+fn prefix_to_proved(prefix: Prefix) -> proved::record::Prefix {
+    let Prefix { length, octets } = prefix;
+    proved::record::Prefix { length, octets }
 }

@@ -26,12 +26,16 @@ pub fn writing(request: &Request, noise: &mut Noise) -> u32 {
     let expected = writing_of_peer(request, &mut by_peer[lent.clone()]);
     let mut by_proved = before.clone();
     let fields = to_proved(&request.fields);
-    let given = proved::write_packet(fields, &request.payload, &mut by_proved[lent]);
+    let Request {
+        prefix, payload, ..
+    } = request;
+    let given = proved::write_packet(fields, prefix, payload, &mut by_proved[lent]);
 
     let what = format!(
-        "writing {:?} with {} octets into {}",
+        "writing {:?} with {} octets behind {} into {}",
         request.fields,
-        request.payload.len(),
+        payload.len(),
+        prefix.len(),
         request.room
     );
     assert_eq!(given, expected, "{what}");
@@ -62,7 +66,6 @@ pub fn to_proved(fields: &peer::packet::Fields) -> proved::Fields {
         channel: fields.channel,
         number: fields.number,
         reserved: fields.reserved,
-        prefix: fields.prefix,
         source: fields.source,
     }
 }
@@ -72,6 +75,7 @@ fn reading_of_peer(packet: &[u8]) -> proved::Reading {
         Ok(reading) => proved::Reading {
             answer: 0,
             fields: to_proved(&reading.fields),
+            prefix: reading.prefix,
             start: reading.start,
             length: reading.length,
         },
@@ -83,7 +87,13 @@ fn reading_of_peer(packet: &[u8]) -> proved::Reading {
 }
 
 fn writing_of_peer(request: &Request, out: &mut [u8]) -> proved::Writing {
-    let result = peer::packet::write(&request.fields, &request.payload, out);
+    let Request {
+        fields,
+        prefix,
+        payload,
+        ..
+    } = request;
+    let result = peer::packet::write(fields, prefix, payload, out);
     proved::Writing {
         answer: result.err().map_or(0, Refusal::number),
         length: result.unwrap_or_else(Refusal::wanted),

@@ -1,7 +1,7 @@
 //! The test for 13, written from docs/CONDITION.md alone: what a table that
 //! was overwritten must be answered.
 
-use proved::record::{direction, lone, state, Channel, Limits};
+use proved::record::{direction, lone, state, Channel, Limits, Prefix};
 
 /// Whether a table passes with so many octets and these lengths.
 pub fn is_lawful(table: &[Channel], octets: usize, lengths: &[u16]) -> bool {
@@ -48,11 +48,19 @@ fn stands(record: &Channel, lengths: &[u16]) -> bool {
 
 fn is_named(record: &Channel) -> bool {
     record.addresses.direction <= 1
+        && is_prefix(&record.addresses.remote_prefix)
+        && is_prefix(&record.addresses.own_prefix)
         && record.phase.state <= 3
         && record.phase.reason <= 5
         && record.phase.kept <= 1
         && record.phase.accepted <= 1
         && record.phase.control.state <= 3
+}
+
+/// At most 15 octets, and 0 in every one past them.
+fn is_prefix(prefix: &Prefix) -> bool {
+    let past = prefix.octets.iter().skip(prefix.length.into());
+    prefix.length <= 15 && past.copied().all(|octet| octet == 0)
 }
 
 /// `inRing`, `inFlight` and `sided`.

@@ -7,7 +7,7 @@ use link::{Damage, Noise};
 use peer::crc::crc;
 
 /// Every kind of damage.
-const DAMAGES: [Damage; 12] = [
+const DAMAGES: [Damage; 14] = [
     flip_bits,
     change_octet,
     change_octet_and_repair,
@@ -19,6 +19,8 @@ const DAMAGES: [Damage; 12] = [
     cut_and_fit,
     lengthen,
     lengthen_and_repair,
+    change_prefix_length_and_repair,
+    move_source_and_repair,
     write_crc_another_way,
 ];
 
@@ -33,6 +35,11 @@ pub fn repair(packet: &mut [u8]) {
         let trailer = crc(&packet[..body]).to_be_bytes();
         packet[body..].copy_from_slice(&trailer);
     }
+}
+
+/// The octets of the prefix that a packet announces.
+pub fn announced(packet: &[u8]) -> usize {
+    packet.get(8).map_or(0, |octet| usize::from(octet & 0b1111))
 }
 
 fn set_length(packet: &mut [u8], length: usize) {
@@ -67,7 +74,7 @@ fn change_header_and_repair(packet: &mut Vec<u8>, noise: &mut Noise) {
 
 /// A length near the right one, or with its octets the other way round.
 fn change_length(packet: &mut Vec<u8>, noise: &mut Noise) {
-    let right = packet.len() - 12;
+    let right = packet.len().saturating_sub(12 + announced(packet));
     let near = [
         right.wrapping_add(1),
         right.wrapping_sub(1),
@@ -102,7 +109,7 @@ fn cut_and_repair(packet: &mut Vec<u8>, noise: &mut Noise) {
 /// A cut packet that says its new length; under 12 octets it cannot.
 fn cut_and_fit(packet: &mut Vec<u8>, noise: &mut Noise) {
     cut(packet, noise);
-    let length = packet.len().saturating_sub(12);
+    let length = packet.len().saturating_sub(12 + announced(packet));
     set_length(packet, length);
     repair(packet);
 }
@@ -112,14 +119,32 @@ fn lengthen(packet: &mut Vec<u8>, noise: &mut Noise) {
     packet.extend(noise.octets(count));
 }
 
-/// The octets go in before the source address, as a prefix would.
+/// The octets go in before the source address, as a prefix would, or before the
+/// one that is there. Half the time it is announced.
 fn lengthen_and_repair(packet: &mut Vec<u8>, noise: &mut Noise) {
     let count = 1 + noise.below(15);
     let prefix = noise.octets(count);
+    let longer = announced(packet) + count;
     packet.splice(9..9, prefix);
     if noise.one_in(2) {
-        packet[8] = count as u8;
+        packet[8] = packet[8] & 0xF0 | longer as u8 & 0b1111;
     }
+    repair(packet);
+}
+
+/// Another prefix is announced than the one that is there.
+fn change_prefix_length_and_repair(packet: &mut Vec<u8>, noise: &mut Noise) {
+    packet[8] ^= 1 + noise.below(15) as u8;
+    repair(packet);
+}
+
+/// The prefix gains octets of what follows, or loses some to it, and both lengths
+/// say so: another source, and all else sound.
+fn move_source_and_repair(packet: &mut Vec<u8>, noise: &mut Noise) {
+    let both = packet.len() - 12;
+    let prefix = noise.below(both.min(15) + 1);
+    packet[8] = packet[8] & 0xF0 | prefix as u8;
+    set_length(packet, both - prefix);
     repair(packet);
 }
 

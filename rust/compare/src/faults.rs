@@ -1,14 +1,16 @@
-//! Headers that break chosen clauses of the tests 4 and 3, and no others.
+//! Packets that break chosen clauses of the tests 4 and 3, or the length by the
+//! prefix that they announce, and no others.
 
 use link::Noise;
 use peer::packet::{flags, kind, Fields, VERSION};
 
-/// The clauses of the tests 4 and 3 that a header breaks.
+/// The clauses that a packet breaks.
 #[derive(Clone, Copy, Debug, Default, PartialEq, Eq)]
 pub struct Faults {
     /// 4: a secondary header.
     pub secondary: bool,
-    /// 4: a prefix.
+    /// 4, to be written: a prefix over 15 octets. 1, to be read: another prefix
+    /// length than the prefix has.
     pub prefix: bool,
     /// 4: a type the base lacks.
     pub kind: bool,
@@ -66,9 +68,12 @@ impl Faults {
         }
     }
 
-    /// What document 01 answers to them: test 4 comes before test 3.
-    pub fn answer(self) -> u32 {
-        if self.secondary || self.prefix || self.kind {
+    /// What document 01 answers to them: test 4 comes before test 3, and in a
+    /// packet that is read test 1 before either.
+    pub fn answer(self, reach: Reach) -> u32 {
+        if self.prefix && reach == Reach::Bits {
+            1
+        } else if self.secondary || self.prefix || self.kind {
             4
         } else if self.version || self.flags || self.reserved || self.payload || self.empty {
             3
@@ -90,8 +95,17 @@ impl Faults {
             channel: noise.number() as u16,
             number: noise.octet(),
             reserved: subfield(self.reserved, 0, 4, reach, noise),
-            prefix: subfield(self.prefix, 0, 4, reach, noise),
             source: noise.octet(),
+        }
+    }
+
+    /// A prefix for fields with these faults. What can be read has none that is
+    /// too long.
+    pub fn a_prefix(self, reach: Reach, noise: &mut Noise) -> Vec<u8> {
+        let count = noise.one_of(&[16, 16, 17, 31, 32, 255, 256, 300]);
+        match (self.prefix, reach) {
+            (true, Reach::Octet) => noise.octets(count),
+            _ => noise.prefix(),
         }
     }
 

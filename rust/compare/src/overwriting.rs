@@ -14,8 +14,12 @@ use crate::twin::Twin;
 /// A field of a record, set to a number as far as its type holds it.
 type Field = fn(&mut Channel, u64);
 
-const FIELDS: [Field; 24] = [
+const FIELDS: [Field; 28] = [
     |record, number| record.addresses.direction = number as u8,
+    |record, number| record.addresses.remote_prefix.length = number as u8,
+    |record, number| record.addresses.own_prefix.length = number as u8,
+    |record, number| record.addresses.remote_prefix.octets[number as usize % 15] = number as u8,
+    |record, number| record.addresses.own_prefix.octets[number as usize % 15] = number as u8,
     |record, number| record.limits.window = number as usize,
     |record, number| record.limits.slots = number as usize,
     |record, number| record.limits.payload = number as usize,

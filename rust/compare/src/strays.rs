@@ -7,7 +7,7 @@ use peer::settings::{Direction, Settings};
 use peer::sight::Sight;
 use peer::state::State;
 
-use crate::damage::repair;
+use crate::damage::{announced, repair};
 use crate::packets::assemble;
 use crate::twin::Twin;
 
@@ -40,7 +40,8 @@ pub fn from_other_end(twin: &Twin, index: usize, breaking: usize, noise: &mut No
         source: settings.remote,
         ..Fields::default()
     };
-    assemble(&fields, &noise.octets(length))
+    let prefix = settings.remote_prefix.said();
+    assemble(&fields, prefix, &noise.octets(length))
 }
 
 /// The window start's number; 1 while there is none.
@@ -131,7 +132,7 @@ fn shape(settings: &Settings, sight: &Sight, breaks: bool, noise: &mut Noise) ->
 pub type Clause = (&'static str, fn(&mut Vec<u8>, &mut Noise));
 
 /// Every clause of the tests 1, 2, 4, 3 and 14 that a packet alone can break.
-pub const CLAUSES: [Clause; 14] = [
+pub const CLAUSES: [Clause; 15] = [
     ("clause: under 12 octets", |packet, noise| {
         packet.truncate(noise.below(12));
     }),
@@ -146,9 +147,9 @@ pub const CLAUSES: [Clause; 14] = [
     ("clause: a secondary header", |packet, _| {
         set(packet, 2, |one| one | 0x20)
     }),
-    ("clause: a prefix", |packet, noise| {
-        let length = 1 + noise.below(15) as u8;
-        set(packet, 8, |one| one | length);
+    ("clause: a prefix not as announced", |packet, noise| {
+        let other = 1 + noise.below(15) as u8;
+        set(packet, 8, |one| one ^ other);
     }),
     ("clause: a type the base lacks", |packet, noise| {
         let kind = 4 + noise.below(3) as u8;
@@ -161,8 +162,7 @@ pub const CLAUSES: [Clause; 14] = [
         "clause: flags of another type than Data",
         |packet, noise| {
             let flags = noise.below(3) as u8;
-            packet.splice(10..packet.len() - 2, []);
-            packet[3..5].copy_from_slice(&[0, 0]);
+            set_payload(packet, &[]);
             set(packet, 2, |one| one & !0x1F | flags << 3 | 7);
         },
     ),
@@ -171,13 +171,11 @@ pub const CLAUSES: [Clause; 14] = [
     }),
     ("clause: an empty middle", |packet, noise| {
         let flags = noise.below(2) as u8;
-        packet.splice(10..packet.len() - 2, []);
-        packet[3..5].copy_from_slice(&[0, 0]);
+        set_payload(packet, &[]);
         set(packet, 2, |one| one & !0x1F | flags << 3);
     }),
     ("clause: an Ack with payload", |packet, noise| {
-        packet.splice(10..packet.len() - 2, [noise.octet()]);
-        packet[3..5].copy_from_slice(&[0, 1]);
+        set_payload(packet, &[noise.octet()]);
         set(packet, 2, |one| one | 0x1F);
     }),
     ("clause: the destination", |packet, _| {
@@ -187,10 +185,34 @@ pub const CLAUSES: [Clause; 14] = [
         set(packet, 1, |one| one ^ 1)
     }),
     ("clause: channel or source unknown", |packet, noise| {
-        let place = noise.one_of(&[5, 6, 9]);
+        let place = noise.one_of(&[5, 6, 9 + announced(packet)]);
         set(packet, place, |one| one ^ 0x10);
     }),
+    ("clause: another prefix", |packet, noise| {
+        let other = other_prefix(&packet[9..9 + announced(packet)], noise);
+        packet.splice(9..9 + announced(packet), other.iter().copied());
+        set(packet, 8, |one| one & 0xF0 | other.len() as u8);
+    }),
 ];
+
+/// A prefix like this one but for an octet, or for its length, or any other.
+fn other_prefix(prefix: &[u8], noise: &mut Noise) -> Vec<u8> {
+    let mut other = prefix.to_vec();
+    match noise.below(4) {
+        0 if !prefix.is_empty() => other[noise.below(prefix.len())] ^= 1,
+        1 if !prefix.is_empty() => other.truncate(prefix.len() - 1),
+        2 if prefix.len() < 15 => other.push(0),
+        _ => other = noise.prefix(),
+    }
+    other
+}
+
+/// Gives a packet another payload, of under 256 octets.
+fn set_payload(packet: &mut Vec<u8>, payload: &[u8]) {
+    let start = 10 + announced(packet);
+    packet.splice(start..packet.len() - 2, payload.iter().copied());
+    packet[3..5].copy_from_slice(&[0, payload.len() as u8]);
+}
 
 /// Changes an octet of a packet and makes the check sum fit.
 fn set(packet: &mut [u8], place: usize, change: impl FnOnce(u8) -> u8) {

@@ -1,6 +1,7 @@
 //! Settings by chance, for the tables of two nodes that talk to each other.
 
 use link::Noise;
+use peer::prefix::Prefix;
 use peer::settings::{Direction, Settings};
 
 /// The addresses of the two nodes.
@@ -29,11 +30,15 @@ pub fn two_tables(size: Size, noise: &mut Noise) -> [Vec<Settings>; 2] {
     };
     let mut tables = [Vec::new(), Vec::new()];
     let first_sender = noise.below(2);
+    // Two in a row share a number, and differ in direction; or four do, and the
+    // other two differ in the remote prefix alone.
+    let sharing = noise.one_of(&[2, 2, 4]);
     for place in 0..records {
         let sender = (first_sender + place) % 2;
         let absent = noise.one_in(6);
         let sending = limits(size, noise);
         let receiving = other_end(sending, noise);
+        let prefixes = [0, 1].map(|_| prefix(place % 4 / 2 == 1, noise));
         for node in [0, 1] {
             let (direction, settings) = if node == sender {
                 (Direction::Sending, sending)
@@ -43,15 +48,28 @@ pub fn two_tables(size: Size, noise: &mut Noise) -> [Vec<Settings>; 2] {
             let remote = if absent { ABSENT } else { ADDRESSES[1 - node] };
             tables[node].push(Settings {
                 direction,
-                // Two in a row share a number, and differ in direction.
-                channel: (place / 2 * 0x0103) as u16,
+                channel: (place / sharing * 0x0103) as u16,
                 remote,
+                remote_prefix: prefixes[1 - node],
+                own_prefix: prefixes[node],
                 ..settings
             });
         }
     }
     tables[1].reverse();
     tables
+}
+
+/// A prefix by chance. One that is marked is never like one that is not.
+fn prefix(marked: bool, noise: &mut Noise) -> Prefix {
+    let mut octets = noise.prefix();
+    if marked && octets.is_empty() {
+        octets.push(0);
+    }
+    if let Some(first) = octets.first_mut() {
+        *first = *first & !1 | u8::from(marked);
+    }
+    Prefix::new(&octets).expect("not over 15")
 }
 
 /// Good settings of this size, for a sender of channel 0.
@@ -76,6 +94,8 @@ pub fn limits(size: Size, noise: &mut Noise) -> Settings {
         direction: Direction::Sending,
         channel: 0,
         remote: ABSENT,
+        remote_prefix: Prefix::NONE,
+        own_prefix: Prefix::NONE,
         window,
         slots: slots.max(window),
         most_payload,

@@ -9,7 +9,8 @@ use std::fmt;
 /// 16. The lines of arrivals say what kind of packet came: 'read' for one that
 /// passes the tests 11, 1, 2, 4 and the first 3, and so has a kind that counts.
 /// Data alone can find the slots full or have a payload over P; an Ack alone
-/// is ignored; a receive end alone goes inactive by a packet or answers 15.
+/// is ignored; a receive end alone goes inactive by a packet or answers 15, and
+/// there alone 11 comes again, for a reply with a prefix (document 02, A7).
 pub const POSSIBLE: [(&str, &[u32]); 16] = [
     ("settings", &[0, 13]),
     ("open", &[0, 5, 10, 13, 14]),
@@ -21,10 +22,10 @@ pub const POSSIBLE: [(&str, &[u32]); 16] = [
     ("next_packet", &[0, 11, 12, 13]),
     ("tick", &[0, 9, 13]),
     ("arrival", &[0, 1, 2, 3, 4, 5, 8, 9, 11, 13, 14, 15, 16]),
-    ("read Data", &[0, 3, 5, 8, 9, 14, 15]),
+    ("read Data", &[0, 3, 5, 8, 9, 11, 14, 15]),
     ("read Data Ack", &[0, 5, 14, 16]),
-    ("read Open", &[0, 5, 9, 14, 15]),
-    ("read Close", &[0, 5, 9, 14, 15]),
+    ("read Open", &[0, 5, 9, 11, 14, 15]),
+    ("read Close", &[0, 5, 9, 11, 14, 15]),
     ("read Control Ack", &[0, 5, 14, 16]),
     ("not read", &[1, 2, 3, 4, 11, 13]),
 ];

@@ -3,6 +3,7 @@
 
 use link::Noise;
 use peer::answer::Answer;
+use peer::packet::{kind, Fields};
 use peer::settings::{storage, Direction, NodeSettings, Settings};
 use peer::state::State;
 use proved::record::{Channel, Node};
@@ -78,6 +79,31 @@ impl Twin {
     /// The direction of the record of this index.
     pub fn direction(&self, index: usize) -> Direction {
         self.settings[index].direction
+    }
+
+    /// The octets of the prefix that a reply to this packet would have: none if
+    /// no receiving record is found for it.
+    pub fn reply_prefix(&self, packet: &[u8]) -> usize {
+        let Ok(reading) = peer::packet::read(packet) else {
+            return 0;
+        };
+        let Fields {
+            channel,
+            source,
+            kind,
+            ..
+        } = reading.fields;
+        let found = self.settings.iter().find(|one| {
+            one.direction == Direction::Receiving
+                && (one.channel, one.remote) == (channel, source)
+                && one.remote_prefix.said() == reading.prefix_of(packet)
+        });
+        match found {
+            Some(one) if kind < kind::HEARTBEAT && kind != kind::DATA_ACK => {
+                one.own_prefix.said().len()
+            }
+            _ => 0,
+        }
     }
 
     /// What the proved library is lent, with a buffer of its own.

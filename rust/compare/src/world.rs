@@ -18,8 +18,10 @@ use crate::twin::{Outcome, Twin};
 
 mod applications;
 mod cases;
+mod prefixes;
 
 pub use cases::CASES;
+pub use prefixes::PREFIXES;
 
 /// Two nodes and what goes on between them.
 pub struct World {
@@ -53,8 +55,9 @@ impl World {
             twin.call(Call::Settings(table), 0, &mut tally);
             twin
         });
-        let payloads = tables.iter().flatten().map(|one| one.most_payload);
-        let packet_room = 12 + payloads.max().unwrap_or(0) as usize;
+        let packet = |one: &Settings| one.own_prefix.said().len() + one.most_payload as usize;
+        let packets = tables.iter().flatten().map(packet);
+        let packet_room = 12 + packets.max().unwrap_or(0);
         World {
             tally,
             twins,
@@ -116,6 +119,7 @@ impl World {
         }
         let room = self.room(self.packet_room);
         let outcome = self.call(node, Call::NextPacket, room);
+        self.note_next(node, room, outcome.said);
         self.send(node, &outcome.octets);
     }
 
@@ -141,7 +145,7 @@ impl World {
 
     /// A packet arrives; what is written goes back.
     fn arrive(&mut self, node: usize, packet: &[u8]) {
-        let room = self.room(12);
+        let room = self.room(12 + self.twins[node].reply_prefix(packet));
         let outcome = self.call(node, Call::Arrival(packet), room);
         self.note_arrival(node, packet, room, &outcome);
         self.send(node, &outcome.octets);
@@ -196,8 +200,12 @@ impl World {
     fn settings(&mut self, node: usize) {
         let mut settings = self.twins[node].settings.clone();
         if self.trouble.breaking == 0 || self.noise.percent(70) {
-            let last = settings.len() - 1;
-            settings[last].most_segments = 0;
+            let last = settings.last_mut().expect("a record");
+            match self.noise.below(3) {
+                0 => last.most_segments = 0,
+                1 => last.remote_prefix.length |= 16,
+                _ => last.own_prefix.length |= 128,
+            }
         }
         self.call(node, Call::Settings(&settings), 0);
     }

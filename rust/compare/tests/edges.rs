@@ -6,6 +6,7 @@ use compare::tables::ADDRESSES;
 use compare::tally::Tally;
 use compare::twin::Twin;
 use link::Noise;
+use peer::prefix::Prefix;
 use peer::settings::{Direction, Settings};
 use peer::state::{Reason, State};
 use proved::record::Node;
@@ -16,6 +17,8 @@ fn settings(channel: u16, timeout: u32, retries: u32) -> Settings {
         direction: Direction::Sending,
         channel,
         remote: ADDRESSES[1],
+        remote_prefix: Prefix::NONE,
+        own_prefix: Prefix::NONE,
         window: 4,
         slots: 8,
         most_payload: 4,
@@ -31,6 +34,8 @@ fn other_end(settings: Settings) -> Settings {
     Settings {
         direction: Direction::Receiving,
         remote: ADDRESSES[0],
+        remote_prefix: settings.own_prefix,
+        own_prefix: settings.remote_prefix,
         ..settings
     }
 }
@@ -58,7 +63,7 @@ impl Nodes {
             Twin::new(own, table.len(), &tables[node], noise)
         });
         let payloads = table.iter().map(|one| one.most_payload as usize);
-        let room = 12 + payloads.max().expect("a channel");
+        let room = 12 + 15 + payloads.max().expect("a channel");
         let tally = Tally::default();
         let mut nodes = Nodes { twins, tally, room };
         for node in [0, 1] {
@@ -87,9 +92,37 @@ impl Nodes {
     fn exchange(&mut self) {
         while let Some(packet) = self.packet() {
             let arrival = Call::Arrival(&packet);
-            let ack = self.twins[1].call(arrival, 12, &mut self.tally).octets;
+            let ack = self.twins[1].call(arrival, 12 + 15, &mut self.tally).octets;
             assert_eq!(self.call(0, Call::Arrival(&ack), 12), 0);
         }
+    }
+}
+
+/// Every length of either prefix, with the least room for what goes over and
+/// for what comes back; and an octet less.
+#[test]
+fn every_pair_of_prefixes() {
+    let octets: Vec<u8> = (100..115).collect();
+    let prefix = |count: usize| Prefix::new(&octets[..count]).expect("not over 15");
+    for (own, remote) in (0..16).flat_map(|own| (0..16).map(move |remote| (own, remote))) {
+        let mut nodes = Nodes::open(&[Settings {
+            own_prefix: prefix(own),
+            remote_prefix: prefix(remote),
+            ..settings(1, 9, 3)
+        }]);
+        assert_eq!(nodes.call(0, Call::Transfer(0, b"abc"), 0), 0);
+        assert_eq!(nodes.call(0, Call::NextPacket, 14 + own), 11);
+        let data = nodes.packet().expect("Data");
+        assert_eq!(data.len(), 15 + own);
+        assert_eq!(nodes.call(1, Call::Arrival(&data), 11 + remote), 11);
+        let arrival = Call::Arrival(&data);
+        let outcome = nodes.twins[1].call(arrival, 12 + remote, &mut nodes.tally);
+        assert_eq!(
+            (outcome.said.number, outcome.octets.len()),
+            (0, 12 + remote)
+        );
+        assert_eq!(nodes.call(0, Call::Arrival(&outcome.octets), 12), 0);
+        assert_eq!(nodes.call(1, Call::Take(0), 3), 0);
     }
 }
 

@@ -9,7 +9,7 @@ use compare::strays::CLAUSES;
 use compare::tables::Size;
 use compare::tally::Tally;
 use compare::trouble::Trouble;
-use compare::world::{World, CASES};
+use compare::world::{World, CASES, PREFIXES};
 use link::{Noise, Weather, FAIR};
 
 /// Calls compared when PEAT_CALLS does not ask for more.
@@ -120,7 +120,7 @@ fn calls_wanted() -> u64 {
 /// Every case that some list names.
 fn all_cases() -> Vec<&'static str> {
     let bounds = [&REFUSED[..], &ACCEPTED, &STORAGE].concat();
-    let mut cases = CASES.to_vec();
+    let mut cases = [&CASES[..], &PREFIXES].concat();
     cases.extend(bounds.iter().map(|(name, _)| *name));
     cases.extend(COUNTS.map(|(name, _, _)| name));
     cases.extend(CLAUSES.map(|(name, _)| name));

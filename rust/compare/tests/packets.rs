@@ -2,6 +2,7 @@
 
 use compare::check;
 use compare::counts::{Counts, OF_READING, OF_WRITING};
+use compare::damage::repair;
 use compare::faults::{Faults, Reach};
 use compare::packets::{any_packet, any_request, assemble, faulty_packet, faulty_request, Request};
 use link::Noise;
@@ -32,7 +33,7 @@ fn data(flags: u8) -> Fields {
     }
 }
 
-/// Fields whose subfields are those of these two octets.
+/// Fields whose subfields are those of these two octets, but for the prefix.
 fn with_controls(packet_control: u8, address_control: u8) -> Fields {
     Fields {
         version: packet_control >> 6,
@@ -40,7 +41,6 @@ fn with_controls(packet_control: u8, address_control: u8) -> Fields {
         flags: packet_control >> 3 & 3,
         kind: packet_control & 7,
         reserved: address_control >> 4,
-        prefix: address_control & 15,
         ..data(0)
     }
 }
@@ -70,11 +70,13 @@ fn every_combination_of_clauses() {
     for faults in Faults::all() {
         for _ in 0..40 {
             let packet = faulty_packet(faults, noise);
-            assert_eq!(check::reading(&packet), faults.answer(), "{faults:?}");
+            let answer = faults.answer(Reach::Bits);
+            assert_eq!(check::reading(&packet), answer, "{faults:?}");
             // Over-long Data is a fault of its own, not among these.
             let request = faulty_request(faults, noise);
-            let too_long = request.payload.len() > 65_535 && faults.answer() == 0;
-            let answer = if too_long { 3 } else { faults.answer() };
+            let answer = faults.answer(Reach::Octet);
+            let too_long = request.payload.len() > 65_535 && answer == 0;
+            let answer = if too_long { 3 } else { answer };
             assert_eq!(check::writing(&request, noise), answer, "{faults:?}");
         }
     }
@@ -87,19 +89,63 @@ fn every_packet_control_and_address_control() {
     for controls in 0..=u16::MAX {
         let [packet_control, address_control] = controls.to_be_bytes();
         let fields = with_controls(packet_control, address_control);
-        let packet = assemble(&fields, &[]);
+        let count = usize::from(address_control & 15);
+        let prefix = noise.octets(count);
+        let packet = assemble(&fields, &prefix, &[]);
         assert_eq!([packet[2], packet[8]], controls.to_be_bytes());
         let request = Request {
             fields,
+            prefix,
             payload: Vec::new(),
-            room: 12,
+            room: 12 + count,
         };
         counts.add("reading", check::reading(&packet));
         counts.add("writing", check::writing(&request, noise));
+        // The same without its prefix, which is still announced.
+        let mut cut = [&packet[..9], &packet[9 + count..]].concat();
+        repair(&mut cut);
+        counts.add("reading what is cut", check::reading(&cut));
     }
     print!("{counts}");
     counts.assert_answers("reading", &[0, 3, 4]);
     counts.assert_answers("writing", &[0, 3, 4]);
+    counts.assert_answers("reading what is cut", &[0, 1, 3, 4]);
+}
+
+/// Prefixes of every length, and one octet more, around payloads and buffers that
+/// just fit or just do not.
+#[test]
+fn every_length_of_a_prefix() {
+    let noise = &mut Noise::new(0x5057_1E08);
+    let mut counts = Counts::default();
+    for (count, length) in (0..=17).flat_map(|count| (0..20).map(move |length| (count, length))) {
+        let (prefix, payload) = (noise.octets(count), noise.octets(length));
+        let fields = data(flags::LAST);
+        for room in [
+            11 + length,
+            12 + length,
+            11 + count + length,
+            12 + count + length,
+        ] {
+            let (prefix, payload) = (prefix.clone(), payload.clone());
+            let request = Request {
+                fields,
+                prefix,
+                payload,
+                room,
+            };
+            counts.add("writing", check::writing(&request, noise));
+        }
+        // More than 15 cannot be announced.
+        for announced in (0..16).filter(|_| count < 16) {
+            let mut packet = assemble(&fields, &prefix, &payload);
+            packet[8] = announced;
+            repair(&mut packet);
+            counts.add("reading", check::reading(&packet));
+        }
+    }
+    counts.assert_answers("writing", &[0, 4, 11]);
+    counts.assert_answers("reading", &[0, 1]);
 }
 
 #[test]
@@ -108,9 +154,10 @@ fn every_packet_control_with_one_octet() {
     for packet_control in 0..=255 {
         let fields = with_controls(packet_control, 0);
         let payload = noise.octets(1);
-        check::reading(&assemble(&fields, &payload));
+        check::reading(&assemble(&fields, &[], &payload));
         let request = Request {
             fields,
+            prefix: Vec::new(),
             payload,
             room: 13,
         };
@@ -121,13 +168,12 @@ fn every_packet_control_with_one_octet() {
 #[test]
 fn every_value_of_each_subfield_asked_of_the_writer() {
     let noise = &mut Noise::new(0x5057_1E04);
-    let places: [fn(&mut Fields) -> &mut u8; 6] = [
+    let places: [fn(&mut Fields) -> &mut u8; 5] = [
         |fields| &mut fields.version,
         |fields| &mut fields.secondary,
         |fields| &mut fields.flags,
         |fields| &mut fields.kind,
         |fields| &mut fields.reserved,
-        |fields| &mut fields.prefix,
     ];
     for place in places {
         for (value, length) in (0..=255).flat_map(|value| [(value, 0), (value, 5)]) {
@@ -137,6 +183,7 @@ fn every_value_of_each_subfield_asked_of_the_writer() {
             let room = 12 + length;
             let request = Request {
                 fields,
+                prefix: Vec::new(),
                 payload,
                 room,
             };
@@ -155,13 +202,15 @@ fn the_longest_payloads() {
                 kind,
                 ..data(flags::WHOLE)
             };
+            let prefix = noise.prefix();
+            let whole = 12 + prefix.len() + length;
             // Over 65,535 octets, X is what is left of the length in 16 bits.
-            check::reading(&assemble(&fields, &payload));
-            for room in [0, length + 11, length + 12, length + 13] {
-                let payload = payload.clone();
+            check::reading(&assemble(&fields, &prefix, &payload));
+            for room in [0, whole - 1, whole, whole + 1] {
                 let request = Request {
                     fields,
-                    payload,
+                    prefix: prefix.clone(),
+                    payload: payload.clone(),
                     room,
                 };
                 check::writing(&request, noise);
@@ -178,20 +227,23 @@ fn what_the_proved_writer_writes_the_proved_reader_reads() {
         let least = usize::from(fields.flags < flags::LAST);
         let about = noise.below(400).max(least);
         let length = if fields.kind == kind::DATA { about } else { 0 };
-        let payload = noise.octets(length);
-        let room = 12 + length + noise.below(9);
+        let (prefix, payload) = (noise.prefix(), noise.octets(length));
+        let whole = 12 + prefix.len() + length;
+        let room = whole + noise.below(9);
         let mut out = noise.octets(room);
-        let writing = proved::write_packet(fields, &payload, &mut out);
-        assert_eq!((writing.answer, writing.length), (0, 12 + length));
+        let writing = proved::write_packet(fields, &prefix, &payload, &mut out);
+        assert_eq!((writing.answer, writing.length), (0, whole));
         let reading = proved::read_packet(&out[..writing.length]);
-        let start = 10;
+        let start = 10 + prefix.len();
         let expected = proved::Reading {
             answer: 0,
             fields,
+            prefix: prefix.len(),
             start,
             length,
         };
         assert_eq!(reading, expected);
+        assert_eq!(out[9..9 + prefix.len()], prefix);
         assert_eq!(out[start..start + length], payload);
     }
 }

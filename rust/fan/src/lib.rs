@@ -25,6 +25,7 @@ fn settings(remote: u8, direction: u8) -> [Settings; 1] {
         channel: 1,
         remote,
         direction,
+        ..Addresses::default()
     };
     let limits = Limits {
         window: 4,

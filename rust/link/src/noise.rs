@@ -53,4 +53,11 @@ impl Noise {
         octets.truncate(count);
         octets
     }
+
+    /// The octets of a prefix (document 02, A7): 0 to 15, often none.
+    pub fn prefix(&mut self) -> Vec<u8> {
+        let any = self.below(16);
+        let count = self.one_of(&[0, 0, 0, 1, 15, any, any]);
+        self.octets(count)
+    }
 }

@@ -5,14 +5,15 @@
 /// 15, the three that change something.
 #[derive(Clone, Copy, Debug, PartialEq, Eq)]
 pub enum Refusal {
-    /// Under 12 octets, or not 12 + X.
+    /// Under 12 octets, or not 12 + N + X.
     Length,
     /// CRC wrong.
     Crc,
     /// A header field unexpected that is not one of [`Refusal::NotInBase`], or
     /// a payload where none may be.
     Header,
-    /// Secondary header, prefix, or a type the base lacks.
+    /// Secondary header, a type the base lacks, or, of a packet to be written,
+    /// a prefix over 15 octets.
     NotInBase,
     /// The state does not allow it, or the direction does not.
     State,

@@ -5,8 +5,9 @@
 //!
 //! [`node::Node`] has all the calls; [`replay::replay`] is the program over it.
 //!
-//! The documents are cited by number: 01 is the scope, 000 the SpaceWire-R
-//! protocol specification, 001 the older JRDDP specification.
+//! The documents are cited by number: 01 is the scope, 02 the change requests,
+//! 000 the SpaceWire-R protocol specification, 001 the older JRDDP
+//! specification.
 
 #![forbid(unsafe_code)]
 #![warn(missing_docs)]
@@ -17,6 +18,7 @@ mod course;
 pub mod crc;
 pub mod node;
 pub mod packet;
+pub mod prefix;
 mod receiving;
 pub mod replay;
 mod segment;

@@ -4,12 +4,16 @@
 
 use crate::answer::{refuse_if, Refusal};
 use crate::crc::crc;
+use crate::prefix::MOST_PREFIX;
 
 #[cfg(test)]
 mod tests;
 
-/// Octets before the payload; the prefix length is 0 in the base (000, 4.2.2.2).
+/// Octets of the header but for the prefix (000, 4.2.2.2).
 pub const HEADER_LENGTH: usize = 10;
+
+/// Octets of the header before the prefix (000, 4.2.3.9.1).
+pub const PREFIX_START: usize = 9;
 
 /// Octets after the payload (000, 4.2.2.2).
 pub const TRAILER_LENGTH: usize = 2;
@@ -52,8 +56,8 @@ pub mod flags {
     pub const WHOLE: u8 = 0b11;
 }
 
-/// The header's fields but for the payload length, which goes with the
-/// payload. Each part of Packet Control and Address Control is a number of its
+/// The header's fields but for the prefix and its length, and the payload's
+/// length, which goes with the payload. Each part of Packet Control and Address Control is a number of its
 /// own, so that a writer can be asked for what it must refuse.
 #[derive(Clone, Copy, Debug, Default, PartialEq, Eq)]
 pub struct Fields {
@@ -75,62 +79,85 @@ pub struct Fields {
     pub number: u8,
     /// Reserved spare, 4 bits (000, 4.2.3.8.2).
     pub reserved: u8,
-    /// Prefix length, 4 bits (000, 4.2.3.8.3).
-    pub prefix: u8,
     /// Source logical address (000, 4.2.3.9.3).
     pub source: u8,
 }
 
-/// What a good packet says, and where its payload lies in it.
+/// What a good packet says, and where its prefix and its payload lie in it.
 #[derive(Clone, Copy, Debug, PartialEq, Eq)]
 pub struct Reading {
     /// The header's fields.
     pub fields: Fields,
-    /// The payload's first octet.
+    /// The prefix's length N; it begins at [`PREFIX_START`].
+    pub prefix: usize,
+    /// The payload's first octet, 10 + N.
     pub start: usize,
     /// The payload's length X.
     pub length: usize,
 }
 
-/// Reads a packet by the tests 1, 2, 4, 3 (document 01, The packet). The
-/// payload stays where it lies.
+impl Reading {
+    /// The prefix of the packet that was read.
+    pub fn prefix_of<'a>(&self, packet: &'a [u8]) -> &'a [u8] {
+        &packet[PREFIX_START..][..self.prefix]
+    }
+
+    /// The payload of the packet that was read.
+    pub fn payload_of<'a>(&self, packet: &'a [u8]) -> &'a [u8] {
+        &packet[self.start..][..self.length]
+    }
+}
+
+/// Reads a packet by the tests 1, 2, 4, 3 (document 01, The packet). Prefix and
+/// payload stay where they lie.
 pub fn read(packet: &[u8]) -> Result<Reading, Refusal> {
-    let length = payload_length(packet)?;
+    let (prefix, length) = lengths(packet)?;
     test_crc(packet)?;
-    let fields = fields_of(packet);
+    let fields = fields_of(packet, prefix);
     test_base(&fields)?;
     test_header(&fields, length)?;
     Ok(Reading {
         fields,
-        start: HEADER_LENGTH,
+        prefix,
+        start: HEADER_LENGTH + prefix,
         length,
     })
 }
 
 /// Writes a packet at the front of `out` by the tests 4, 3, 11 (document 01,
 /// The packet), and gives its length. Octets past it stay; so does the whole
-/// buffer at a refusal.
-pub fn write(fields: &Fields, payload: &[u8], out: &mut [u8]) -> Result<usize, Refusal> {
+/// buffer at a refusal. A prefix that the header has no place for is 4 as well.
+pub fn write(
+    fields: &Fields,
+    prefix: &[u8],
+    payload: &[u8],
+    out: &mut [u8],
+) -> Result<usize, Refusal> {
+    refuse_if(prefix.len() > MOST_PREFIX, Refusal::NotInBase)?;
     test_base(fields)?;
     test_header(fields, payload.len())?;
-    let wanted = HEADER_LENGTH + payload.len() + TRAILER_LENGTH;
+    let wanted = HEADER_LENGTH + prefix.len() + payload.len() + TRAILER_LENGTH;
     let packet = out.get_mut(..wanted).ok_or(Refusal::Buffer { wanted })?;
     let (body, trailer) = packet.split_at_mut(wanted - TRAILER_LENGTH);
-    let (header, room) = body.split_at_mut(HEADER_LENGTH);
-    header.copy_from_slice(&header_of(fields, payload.len() as u16));
-    room.copy_from_slice(payload);
+    let (front, rest) = body.split_at_mut(PREFIX_START);
+    front.copy_from_slice(&front_of(fields, payload.len() as u16, prefix.len() as u8));
+    let (before_source, rest) = rest.split_at_mut(prefix.len());
+    before_source.copy_from_slice(prefix);
+    rest[0] = fields.source;
+    rest[1..].copy_from_slice(payload);
     trailer.copy_from_slice(&crc(body).to_be_bytes());
     Ok(wanted)
 }
 
-/// Test 1: the payload length X of a packet of exactly 12 + X octets. A true
-/// prefix makes a packet longer, so it is refused here.
-fn payload_length(packet: &[u8]) -> Result<usize, Refusal> {
+/// Test 1: the lengths N and X of a packet of exactly 12 + N + X octets
+/// (document 02, A7).
+fn lengths(packet: &[u8]) -> Result<(usize, usize), Refusal> {
     let around = HEADER_LENGTH + TRAILER_LENGTH;
     let held = packet.len().checked_sub(around).ok_or(Refusal::Length)?;
-    let said = usize::from(u16::from_be_bytes([packet[3], packet[4]]));
-    refuse_if(held != said, Refusal::Length)?;
-    Ok(said)
+    let prefix = usize::from(packet[8] & 0b1111);
+    let payload = usize::from(u16::from_be_bytes([packet[3], packet[4]]));
+    refuse_if(held != prefix + payload, Refusal::Length)?;
+    Ok((prefix, payload))
 }
 
 /// Test 2: the trailer is the CRC of all before it, high octet first.
@@ -139,14 +166,12 @@ fn test_crc(packet: &[u8]) -> Result<(), Refusal> {
     refuse_if(trailer != crc(body).to_be_bytes(), Refusal::Crc)
 }
 
-/// Test 4: what 000 has and the base lacks.
+/// Test 4: what 000 has and the base lacks. Every prefix that can be read is
+/// read (document 02, A7).
 fn test_base(fields: &Fields) -> Result<(), Refusal> {
     use kind::{CLOSE, CONTROL_ACK, DATA, DATA_ACK, OPEN};
     let base_kind = [DATA, DATA_ACK, OPEN, CLOSE, CONTROL_ACK].contains(&fields.kind);
-    refuse_if(
-        fields.secondary != 0 || fields.prefix != 0 || !base_kind,
-        Refusal::NotInBase,
-    )
+    refuse_if(fields.secondary != 0 || !base_kind, Refusal::NotInBase)
 }
 
 /// Test 3: the other header fields, the payload length among them. Only Data
@@ -171,10 +196,9 @@ fn test_header(fields: &Fields, payload: usize) -> Result<(), Refusal> {
     )
 }
 
-/// The fields of a packet of 12 octets or more (document 01, The packet).
-fn fields_of(packet: &[u8]) -> Fields {
+/// The fields of a packet of 12 + N octets or more (document 01, The packet).
+fn fields_of(packet: &[u8], prefix: usize) -> Fields {
     let packet_control = packet[2];
-    let address_control = packet[8];
     Fields {
         destination: packet[0],
         protocol: packet[1],
@@ -184,14 +208,14 @@ fn fields_of(packet: &[u8]) -> Fields {
         kind: packet_control & 0b111,
         channel: u16::from_be_bytes([packet[5], packet[6]]),
         number: packet[7],
-        reserved: address_control >> 4,
-        prefix: address_control & 0b1111,
-        source: packet[9],
+        reserved: packet[8] >> 4,
+        source: packet[PREFIX_START + prefix],
     }
 }
 
-/// The header's octets, of fields that have passed the tests 4 and 3.
-fn header_of(fields: &Fields, length: u16) -> [u8; HEADER_LENGTH] {
+/// The header's octets before the prefix, of fields that have passed the tests
+/// 4 and 3.
+fn front_of(fields: &Fields, length: u16, prefix: u8) -> [u8; PREFIX_START] {
     let [length_high, length_low] = length.to_be_bytes();
     let [channel_high, channel_low] = fields.channel.to_be_bytes();
     [
@@ -203,7 +227,6 @@ fn header_of(fields: &Fields, length: u16) -> [u8; HEADER_LENGTH] {
         channel_high,
         channel_low,
         fields.number,
-        fields.reserved << 4 | fields.prefix,
-        fields.source,
+        fields.reserved << 4 | prefix,
     ]
 }

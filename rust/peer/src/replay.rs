@@ -3,6 +3,7 @@
 use std::fmt::Write;
 
 use crate::node::Node;
+use crate::prefix::Prefix;
 use crate::settings::{storage, Direction, NodeSettings, Settings};
 
 #[cfg(test)]
@@ -70,6 +71,8 @@ fn node() -> Node {
         direction: Direction::Sending,
         channel: 1,
         remote: 65,
+        remote_prefix: Prefix::NONE,
+        own_prefix: Prefix::NONE,
         window: 4,
         slots: 8,
         most_payload: 16,

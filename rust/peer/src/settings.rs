@@ -3,6 +3,7 @@
 
 use crate::answer::{refuse_if, Refusal};
 use crate::packet::{flags, Fields, VERSION};
+use crate::prefix::Prefix;
 
 #[cfg(test)]
 mod tests;
@@ -65,6 +66,10 @@ pub struct Settings {
     pub channel: u16,
     /// The logical address of the other end.
     pub remote: u8,
+    /// The prefix that packets from the other end have (document 02, A7).
+    pub remote_prefix: Prefix,
+    /// The prefix that packets to the other end have.
+    pub own_prefix: Prefix,
     /// The window k, a power of two, 1 to 128 (document 02, A1).
     pub window: u32,
     /// The slots, k to 128.
@@ -93,18 +98,31 @@ impl Settings {
             && (1..=65_535).contains(&self.timeout)
             && (1..=65_535).contains(&self.close_timeout)
             && self.retries <= 255
+            && self.remote_prefix.in_range()
+            && self.own_prefix.in_range()
     }
 
     /// "No two records may have equal channel number, remote address and
-    /// direction."
+    /// direction", and "Two records are equal only if their prefixes are too"
+    /// (document 02, A7): the remote ones, for no arrival shows the own ones.
     fn clashes(&self, other: &Settings) -> bool {
-        self.serves(other.direction, other.channel, other.remote)
+        let prefix = other.remote_prefix.said();
+        self.serves(other.direction, other.channel, other.remote, prefix)
     }
 
-    /// Whether packets of this channel and remote address, for an end of this
-    /// direction, are for this record.
-    pub(crate) fn serves(&self, direction: Direction, channel: u16, remote: u8) -> bool {
-        self.direction == direction && self.channel == channel && self.remote == remote
+    /// Whether packets of this channel, remote address and prefix, for an end
+    /// of this direction, are for this record.
+    pub(crate) fn serves(
+        &self,
+        direction: Direction,
+        channel: u16,
+        remote: u8,
+        prefix: &[u8],
+    ) -> bool {
+        self.direction == direction
+            && self.channel == channel
+            && self.remote == remote
+            && self.remote_prefix.said() == prefix
     }
 
     /// The octets of memory that this channel needs: slots times P.

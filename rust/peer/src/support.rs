@@ -4,6 +4,7 @@
 use crate::answer::Answer;
 use crate::node::Node;
 use crate::packet::{self, flags, kind, Fields};
+use crate::prefix::Prefix;
 use crate::settings::{storage, Direction, NodeSettings, Settings};
 
 /// Octets that no call has written.
@@ -29,6 +30,8 @@ pub(crate) const SENDING: Settings = Settings {
     direction: Direction::Sending,
     channel: 1,
     remote: 65,
+    remote_prefix: Prefix::NONE,
+    own_prefix: Prefix::NONE,
     window: 4,
     slots: 8,
     most_payload: 16,
@@ -71,8 +74,13 @@ pub(crate) fn whole(number: u8, payload: &[u8]) -> Vec<u8> {
 }
 
 pub(crate) fn written(fields: &Fields, payload: &[u8]) -> Vec<u8> {
-    let mut out = vec![0; 12 + payload.len()];
-    packet::write(fields, payload, &mut out).unwrap();
+    written_from(&[], fields, payload)
+}
+
+/// A packet with this prefix.
+pub(crate) fn written_from(prefix: &[u8], fields: &Fields, payload: &[u8]) -> Vec<u8> {
+    let mut out = vec![0; 12 + prefix.len() + payload.len()];
+    packet::write(fields, prefix, payload, &mut out).unwrap();
     out
 }
 

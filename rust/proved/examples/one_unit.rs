@@ -15,6 +15,7 @@ fn settings(remote: u8, direction: u8) -> [Settings; 1] {
         channel: 7,
         remote,
         direction,
+        ..Addresses::default()
     };
     let limits = Limits {
         window: 4,

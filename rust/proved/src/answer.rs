@@ -39,14 +39,15 @@ pub enum Outcome {
 /// Why nothing was done. Each has document 01's number.
 #[derive(Clone, Copy, Debug, PartialEq, Eq)]
 pub enum Refusal {
-    /// Under 12 octets, or not 12 + X.
+    /// Under 12 octets, or not 12 + N + X.
     Short,
     /// The check sum is wrong.
     Damaged,
     /// Another header field is unexpected, or the payload is too long, or there
     /// is one where none may be.
     Strange,
-    /// Secondary header, prefix, or a type that the base lacks.
+    /// Secondary header, a type that the base lacks, or, to be written, a prefix
+    /// of over 15 octets.
     Lacking,
     /// The state, or the direction, does not allow it.
     State,
@@ -120,7 +121,7 @@ impl Refusal {
 impl fmt::Display for Refusal {
     fn fmt(&self, to: &mut fmt::Formatter<'_>) -> fmt::Result {
         to.write_str(match self {
-            Refusal::Short => "not 12 + X octets",
+            Refusal::Short => "not 12 + N + X octets",
             Refusal::Damaged => "check sum wrong",
             Refusal::Strange => "header field unexpected",
             Refusal::Lacking => "not in the base",

@@ -3,7 +3,8 @@
 
 use crate::record::{Channel, Node, Settings};
 
-/// `PeatFields`: the header's fields but for the payload length.
+/// `PeatFields`: the header's fields but for the prefix and the lengths of prefix
+/// and payload.
 #[repr(C)]
 #[derive(Clone, Copy, Debug, Default, PartialEq, Eq)]
 pub struct Fields {
@@ -25,8 +26,6 @@ pub struct Fields {
     pub number: u8,
     /// Reserved spare.
     pub reserved: u8,
-    /// Prefix length.
-    pub prefix: u8,
     /// Source logical address.
     pub source: u8,
 }
@@ -40,6 +39,8 @@ pub struct Reading {
     pub answer: u32,
     /// The header's fields.
     pub fields: Fields,
+    /// How many octets the prefix has; they stand from octet 9 on.
+    pub prefix: usize,
     /// The payload's first octet.
     pub start: usize,
     /// The payload's length.
@@ -89,6 +90,8 @@ extern "C" {
     pub fn peat_read_packet(packet: *const u8, count: usize) -> Reading;
     pub fn peat_write_packet(
         fields: Fields,
+        prefix: *const u8,
+        prefix_count: usize,
         payload: *const u8,
         payload_count: usize,
         out: *mut u8,

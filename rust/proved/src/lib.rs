@@ -15,7 +15,7 @@ mod words;
 pub use answer::{Answer, Outcome, Refusal};
 pub use c::{Fields, Reading, Said, Writing};
 pub use node_table::{storage, NodeTable};
-pub use record::{Addresses, Channel, Limits, Lone, Node, Phase, Settings, Timers, Window};
+pub use record::{Addresses, Channel, Limits, Lone, Node, Phase, Prefix, Settings, Timers, Window};
 pub use words::{Reason, State};
 
 /// The check sum over these octets.
@@ -31,13 +31,15 @@ pub fn read_packet(packet: &[u8]) -> Reading {
     unsafe { c::peat_read_packet(packet.as_ptr(), packet.len()) }
 }
 
-/// Writes a packet alone at the front of `out`.
-pub fn write_packet(fields: Fields, payload: &[u8], out: &mut [u8]) -> Writing {
-    // SAFETY: each pointer and count are those of one slice. The payload is
-    // only read; `out` is lent for writing, so the two do not overlap.
+/// Writes a packet alone, with this prefix, at the front of `out`.
+pub fn write_packet(fields: Fields, prefix: &[u8], payload: &[u8], out: &mut [u8]) -> Writing {
+    // SAFETY: each pointer and count are those of one slice. Prefix and payload
+    // are only read; `out` is lent for writing, so neither overlaps it.
     unsafe {
         c::peat_write_packet(
             fields,
+            prefix.as_ptr(),
+            prefix.len(),
             payload.as_ptr(),
             payload.len(),
             out.as_mut_ptr(),

@@ -118,7 +118,8 @@ impl<'a> NodeTable<'a> {
     }
 
     /// A packet that came in; its reply, if it has one, at the front of `reply`,
-    /// which has at least 12 octets.
+    /// which has at least 12 octets, and N more where the channel's own prefix has
+    /// N.
     pub fn arrival(&mut self, packet: &[u8], reply: &mut [u8]) -> Answer {
         let (table, memory) = (&mut *self.table, &mut *self.memory);
         let said = calls::arrival(table, memory, self.lengths, self.node, packet, reply);

@@ -3,6 +3,9 @@
 /// Slots that a record has a mark for, used or not.
 pub const SLOTS: usize = 128;
 
+/// Most octets of a prefix (000, 4.2.3.8.3).
+pub const PREFIX: usize = 15;
+
 /// Most records in a table.
 pub const RECORDS: usize = 16;
 

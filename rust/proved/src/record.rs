@@ -2,7 +2,7 @@
 //! and arrays of numbers only, so that every bit pattern is a value, and a
 //! record that was spoilt is refused with 13 and never undefined.
 
-pub use crate::numbers::{direction, lone, reason, state, PROTOCOL, RECORDS, SLOTS};
+pub use crate::numbers::{direction, lone, reason, state, PREFIX, PROTOCOL, RECORDS, SLOTS};
 
 /// `PeatNode`: the node's own settings.
 #[repr(C)]
@@ -14,8 +14,41 @@ pub struct Node {
     pub protocol: u8,
 }
 
+/// `PeatPrefix`: what stands before the source address in packets from another
+/// region (000, 4.2.3.9.2).
+#[repr(C)]
+#[derive(Clone, Copy, Debug, Default, PartialEq, Eq)]
+pub struct Prefix {
+    /// How many octets it has: 0 to 15.
+    pub length: u8,
+    /// These, and then 0 in every octet.
+    pub octets: [u8; PREFIX],
+}
+
+impl Prefix {
+    /// No prefix.
+    pub const NONE: Prefix = Prefix {
+        length: 0,
+        octets: [0; PREFIX],
+    };
+
+    /// The prefix of these octets, if there are not too many.
+    pub fn of(said: &[u8]) -> Option<Prefix> {
+        let mut prefix = Prefix::NONE;
+        prefix.octets.get_mut(..said.len())?.copy_from_slice(said);
+        prefix.length = said.len() as u8;
+        Some(prefix)
+    }
+
+    /// The octets that it has; of one whose length is out of bounds, all.
+    pub fn said(&self) -> &[u8] {
+        &self.octets[..PREFIX.min(self.length.into())]
+    }
+}
+
 /// `PeatAddresses`: which channel it is, to which node, and whether this end
-/// sends or receives.
+/// sends or receives. No two records of a table may agree in all but the own
+/// prefix.
 #[repr(C)]
 #[derive(Clone, Copy, Debug, Default, PartialEq, Eq)]
 pub struct Addresses {
@@ -25,6 +58,10 @@ pub struct Addresses {
     pub remote: u8,
     /// One of [`direction`].
     pub direction: u8,
+    /// The prefix that packets from the other node have.
+    pub remote_prefix: Prefix,
+    /// The prefix that packets to the other node have.
+    pub own_prefix: Prefix,
 }
 
 /// `PeatLimits`: what the settings fix.
@@ -138,6 +175,19 @@ pub struct Channel {
     pub acked: [u8; SLOTS],
 }
 
+impl Addresses {
+    /// All zeros.
+    pub const fn blank() -> Self {
+        Addresses {
+            channel: 0,
+            remote: 0,
+            direction: direction::SENDS,
+            remote_prefix: Prefix::NONE,
+            own_prefix: Prefix::NONE,
+        }
+    }
+}
+
 impl Timers {
     /// None runs.
     pub const fn blank() -> Self {
@@ -154,11 +204,7 @@ impl Channel {
     /// It lacks the standing condition, so every other call refuses it with 13.
     pub const fn blank() -> Self {
         Channel {
-            addresses: Addresses {
-                channel: 0,
-                remote: 0,
-                direction: 0,
-            },
+            addresses: Addresses::blank(),
             limits: Limits {
                 window: 0,
                 slots: 0,

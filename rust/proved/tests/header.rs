@@ -1,6 +1,6 @@
 //! The numbers of the C header are those of this crate, and none is left out.
 
-use proved::record::{direction, lone, reason, state, PROTOCOL, RECORDS, SLOTS};
+use proved::record::{direction, lone, reason, state, PREFIX, PROTOCOL, RECORDS, SLOTS};
 use proved::{Outcome, Reason, Refusal};
 
 const HEADER: &str = include_str!("../../../include/peatwimple_records.h");
@@ -56,7 +56,8 @@ fn of_records() -> Vec<(&'static str, usize)> {
         ("PROTOCOL", PROTOCOL),
     ];
     let octets = octets.map(|(name, number)| (name, usize::from(number)));
-    [&octets[..], &[("RECORDS", RECORDS), ("SLOTS", SLOTS)]].concat()
+    let counts = [("RECORDS", RECORDS), ("SLOTS", SLOTS), ("PREFIX", PREFIX)];
+    [&octets[..], &counts].concat()
 }
 
 /// Of the packet alone (000, 4.2.3): this crate has no names for them.

@@ -3,7 +3,7 @@
 //! That the library reads and writes them at these places is shown by the tests
 //! beside this one, `written` and `read`.
 
-use proved::{Addresses, Channel, Fields, Limits, Lone, Node, Phase, Reading, Said};
+use proved::{Addresses, Channel, Fields, Limits, Lone, Node, Phase, Prefix, Reading, Said};
 use proved::{Settings, Timers, Window, Writing};
 use std::mem::{align_of, offset_of, size_of};
 
@@ -36,7 +36,8 @@ macro_rules! lines {
 fn records_lie_as_the_table_says() {
     let lines = lines! {
         Node: address protocol;
-        Addresses: channel remote direction;
+        Prefix: length octets;
+        Addresses: channel remote direction remote_prefix own_prefix;
         Limits: window slots payload segments timeout closing retries;
         Settings: addresses limits;
         Lone: state timer tries;
@@ -45,8 +46,8 @@ fn records_lie_as_the_table_says() {
         Timers: closing left tries;
         Channel: addresses limits phase window timers marks acked;
         Said: number reason length confirmed index;
-        Fields: destination protocol version secondary flags kind channel number reserved prefix source;
-        Reading: answer fields start length;
+        Fields: destination protocol version secondary flags kind channel number reserved source;
+        Reading: answer fields prefix start length;
         Writing: answer length;
     };
     let expected: Vec<&str> = TABLE.lines().collect();

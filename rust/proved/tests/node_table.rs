@@ -14,6 +14,7 @@ fn settings() -> [Settings; 2] {
             channel: 1,
             remote: HOST.address,
             direction,
+            ..Addresses::default()
         },
         limits: LIMITS,
     })

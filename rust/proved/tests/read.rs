@@ -10,7 +10,7 @@
 mod ends;
 
 use ends::{both_open, done, refused, unserved, End, HOST, LIMITS, STATION};
-use proved::record::{direction, lone, reason, state, SLOTS};
+use proved::record::{direction, lone, reason, state, PREFIX, SLOTS};
 use proved::{calls, Channel, Limits, Said, Settings};
 
 const INACTIVE: Said = Said {
@@ -76,9 +76,13 @@ fn all_refused(end: fn() -> End, overwrites: &[Overwrite]) {
 }
 
 #[test]
-fn what_the_condition_bounds() {
-    let either: [Overwrite; 13] = [
+fn what_the_condition_bounds_of_either_end() {
+    let either: [Overwrite; 17] = [
         |record| record.addresses.direction = 2,
+        |record| record.addresses.remote_prefix.length = 16,
+        |record| record.addresses.remote_prefix.octets[14] = 1,
+        |record| record.addresses.own_prefix.length = 16,
+        |record| record.addresses.own_prefix.octets[14] = 1,
         |record| record.limits.window = 3,
         |record| record.limits.slots = 7,
         |record| record.limits.payload = 15,
@@ -94,6 +98,10 @@ fn what_the_condition_bounds() {
     ];
     all_refused(sending, &either);
     all_refused(receiving, &either);
+}
+
+#[test]
+fn what_the_condition_bounds_of_one_end() {
     let of_a_sender: [Overwrite; 5] = [
         |record| record.window.place = 8,
         |record| record.window.behind = 3,
@@ -134,6 +142,10 @@ fn settings_are_read_field_by_field() {
     };
     assert_eq!(say(|_| ()), 0);
     assert_eq!(say(|of| of.addresses.direction = 2), 13);
+    assert_eq!(say(|of| of.addresses.remote_prefix.length = 16), 13);
+    assert_eq!(say(|of| of.addresses.remote_prefix.length = 15), 0);
+    assert_eq!(say(|of| of.addresses.own_prefix.length = 16), 13);
+    assert_eq!(say(|of| of.addresses.own_prefix.length = 15), 0);
     assert_eq!(say(|of| of.limits.window = 3), 13);
     assert_eq!(say(|of| of.limits.slots = 7), 13);
     assert_eq!(say(|of| of.limits.payload = 17), 13);
@@ -141,6 +153,27 @@ fn settings_are_read_field_by_field() {
     assert_eq!(say(|of| of.limits.timeout = 0), 13);
     assert_eq!(say(|of| of.limits.closing = 0), 13);
     assert_eq!(say(|of| of.limits.retries = 256), 13);
+}
+
+/// Each octet of a prefix, past a length of 0 in the standing condition, and of a
+/// full one in every packet.
+#[test]
+fn every_octet_of_a_prefix() {
+    for place in 0..PREFIX {
+        let mut host = End::enabled(HOST, STATION, direction::SENDS, LIMITS);
+        host.record().addresses.remote_prefix.octets[place] = 1;
+        assert_eq!(host.tick(), unserved(13), "octet {place}");
+        host.record().addresses.remote_prefix.length = PREFIX as u8;
+        assert_eq!(host.tick(), unserved(0));
+        host.record().addresses.own_prefix.octets[place] = 1;
+        assert_eq!(host.tick(), unserved(13), "octet {place}");
+        host.record().addresses.own_prefix.length = PREFIX as u8;
+        let packet = host.packet();
+        let mut expected = [0; PREFIX];
+        expected[place] = 1;
+        assert_eq!(packet[8], 15);
+        assert_eq!(packet[9..24], expected, "octet {place}");
+    }
 }
 
 #[test]

@@ -21,6 +21,7 @@ fn settings() -> Vec<Settings> {
             channel,
             remote: HOST.address,
             direction,
+            ..Addresses::default()
         },
         limits: LIMITS,
     });

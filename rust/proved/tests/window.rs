@@ -21,6 +21,7 @@ fn settings_with(window: usize) -> u32 {
         channel: 1,
         remote: STATION.address,
         direction: direction::SENDS,
+        ..Addresses::default()
     };
     let limits = Limits { window, ..WIDEST };
     let mut table = [Channel::blank()];

@@ -11,8 +11,8 @@
 mod ends;
 
 use ends::{both_open, done, End, HOST, LIMITS, STATION};
-use proved::record::{direction, lone, state, SLOTS};
-use proved::{calls, Addresses, Channel, Limits, Lone, Phase, Settings, Timers, Window};
+use proved::record::{direction, lone, state, PREFIX, SLOTS};
+use proved::{calls, Addresses, Channel, Limits, Lone, Phase, Prefix, Settings, Timers, Window};
 
 const SPOILT_LIMITS: Limits = Limits {
     window: usize::MAX - 1,
@@ -33,12 +33,19 @@ const SPOILT_WINDOW: Window = Window {
     way: usize::MAX - 9,
 };
 
+const SPOILT_PREFIX: Prefix = Prefix {
+    length: 0xA5,
+    octets: [0xA6; PREFIX],
+};
+
 /// A record with no field as settings leave it.
 const SPOILT: Channel = Channel {
     addresses: Addresses {
         channel: 0xA1A2,
         remote: 0xA3,
         direction: 0xA4,
+        remote_prefix: SPOILT_PREFIX,
+        own_prefix: SPOILT_PREFIX,
     },
     limits: SPOILT_LIMITS,
     phase: Phase {
@@ -82,11 +89,15 @@ fn settings_write_every_field() {
         closing: 0x0C0D,
         retries: 255,
     };
+    let octets: Vec<u8> = (0x11..).take(4 * PREFIX).collect();
+    let prefix = |place: usize, count| Prefix::of(&octets[place * PREFIX..][..count]).unwrap();
     let settings = [(0x0102, 3, 0, LIMITS), (0x0405, 6, 1, second)].map(|of| Settings {
         addresses: Addresses {
             channel: of.0,
             remote: of.1,
             direction: of.2,
+            remote_prefix: prefix(of.2.into(), PREFIX),
+            own_prefix: prefix(2 + usize::from(of.2), PREFIX - 1),
         },
         limits: of.3,
     });

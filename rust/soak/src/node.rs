@@ -2,7 +2,7 @@
 //! copy would give away tells what the node holds.
 
 use link::Noise;
-use proved::record::{state, Channel, Node as Own, Settings};
+use proved::record::{state, Channel, Node as Own, Settings, PREFIX};
 use proved::{calls, Fields, Said};
 
 /// Any packet and any unit of these channels fits into this buffer.
@@ -105,7 +105,7 @@ impl Node {
             memory,
             lengths,
         } = self;
-        let mut reply = [0; 12];
+        let mut reply = [0; 12 + PREFIX];
         let said = calls::arrival(table, memory, lengths, *own, packet, &mut reply);
         (said, reply[..said.written()].to_vec())
     }
@@ -137,7 +137,7 @@ impl Node {
     }
 
     /// The ack that the Open or Close of a transmit end waits for.
-    fn control_ack(&self, index: usize) -> [u8; 12] {
+    fn control_ack(&self, index: usize) -> Vec<u8> {
         let addresses = &self.table[index].addresses;
         let fields = Fields {
             destination: self.own.address,
@@ -149,8 +149,10 @@ impl Node {
             source: addresses.remote,
             ..Fields::default()
         };
-        let mut ack = [0; 12];
-        assert_eq!(proved::write_packet(fields, &[], &mut ack).answer, 0);
+        let prefix = addresses.remote_prefix.said();
+        let mut ack = vec![0; 12 + prefix.len()];
+        let writing = proved::write_packet(fields, prefix, &[], &mut ack);
+        assert_eq!(writing.answer, 0);
         ack
     }
 }

@@ -11,7 +11,7 @@ mod counts;
 mod tables;
 
 pub use counts::Counts;
-use tables::{accounts_of, table_of};
+use tables::{accounts_of, prefixes_of, table_of};
 
 /// The addresses of the two nodes.
 const ADDRESSES: [u8; 2] = [64, 65];
@@ -41,8 +41,9 @@ impl World {
     /// A world of these channels: what each is allowed, and the node that sends.
     pub fn new(channels: &[(usize, Limits)], weather: Weather, seed: u64) -> World {
         let mut noise = Noise::new(seed);
+        let prefixes = prefixes_of(channels.len(), seed);
         let nodes = [0, 1].map(|node| {
-            let table = table_of(node, channels);
+            let table = table_of(node, channels, &prefixes);
             Node::new(ADDRESSES[node], &table, &mut noise)
         });
         World {
@@ -118,6 +119,7 @@ impl World {
         let channel = usize::from(u16::from_be_bytes([packet[5], packet[6]]));
         let is_data = packet[2] & 0b111 == DATA;
         let segment = is_data.then(|| self.accounts[channel].units.segment_sent(packet[7]));
+        self.counts.regional += u64::from(packet[8] > 0);
         self.links[1 - node].send(&packet, segment, self.weather, &mut self.noise);
     }
 

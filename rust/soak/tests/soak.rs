@@ -149,7 +149,7 @@ fn where_every_unit_is() {
     print!("all:\n{all}");
     assert!(all.units.iter().all(|&count| count > 1_000));
     assert!(all.packets.iter().all(|&count| count > 0));
-    assert!(all.closed > 0 && all.wrapped > 0);
+    assert!(all.closed > 0 && all.wrapped > 0 && all.regional > 1_000);
     // The link delivers what was sent: no Control number and no flags are wrong.
     let [retries, late_open, control, data, flags] = all.inactive;
     assert!(retries > 0 && late_open > 0 && data > 0);

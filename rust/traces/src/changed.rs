@@ -13,7 +13,7 @@ const SEED: u64 = 0xC4A9_0000;
 /// One thing that may happen to an input; the other input may be drawn upon.
 type Change = fn(&mut Vec<u8>, &[u8], &mut Noise);
 
-const CHANGES: [Change; 11] = [
+const CHANGES: [Change; 12] = [
     flip_bits,
     change_octet,
     drop_octets,
@@ -23,6 +23,7 @@ const CHANGES: [Change; 11] = [
     repeat_record,
     swap_records,
     change_packet,
+    prefix_packet,
     go_on_with_other,
     mix_with_other,
 ];
@@ -106,6 +107,32 @@ fn swap_records(octets: &mut Vec<u8>, _: &[u8], noise: &mut Noise) {
 
 /// Changes a header field of a packet, and makes its check sum right again.
 fn change_packet(octets: &mut Vec<u8>, _: &[u8], noise: &mut Noise) {
+    with_packet(octets, noise, |packet, noise| {
+        let place = noise.below(10);
+        packet[place] = match noise.below(3) {
+            0 => packet[place] ^ 1 << noise.below(8),
+            1 => packet[place].wrapping_add(1),
+            _ => packet[place].wrapping_sub(1),
+        };
+    });
+}
+
+/// Gives a packet a prefix, and makes its check sum right again.
+fn prefix_packet(octets: &mut Vec<u8>, _: &[u8], noise: &mut Noise) {
+    with_packet(octets, noise, |packet, noise| {
+        let count = 1 + noise.below(15);
+        packet[8] = count as u8;
+        packet.splice(9..9, noise.octets(count));
+    });
+}
+
+/// Does something to one of the packets, which does not make it shorter, and makes
+/// its check sum right again.
+fn with_packet(
+    octets: &mut Vec<u8>,
+    noise: &mut Noise,
+    change: impl FnOnce(&mut Vec<u8>, &mut Noise),
+) {
     let mut records = records(octets);
     let packets: Vec<usize> = (0..records.len())
         .filter(|place| records[*place].len() >= 16 && records[*place][2..4] == [1, 0])
@@ -113,16 +140,16 @@ fn change_packet(octets: &mut Vec<u8>, _: &[u8], noise: &mut Noise) {
     if packets.is_empty() {
         return;
     }
-    let packet = &mut records[noise.one_of(&packets)][4..];
-    let place = noise.below(10);
-    packet[place] = match noise.below(3) {
-        0 => packet[place] ^ 1 << noise.below(8),
-        1 => packet[place].wrapping_add(1),
-        _ => packet[place].wrapping_sub(1),
-    };
-    let body = packet.len() - 2;
-    let sum = crc(&packet[..body]).to_be_bytes();
-    packet[body..].copy_from_slice(&sum);
+    let record = &mut records[noise.one_of(&packets)];
+    let old = record.len();
+    let mut packet = record.split_off(4);
+    packet.truncate(packet.len() - 2);
+    change(&mut packet, noise);
+    packet.extend(crc(&packet).to_be_bytes());
+    record.append(&mut packet);
+    let longer = (record.len() - old) as u16;
+    let length = u16::from_le_bytes([record[0], record[1]]).saturating_add(longer);
+    record[..2].copy_from_slice(&length.to_le_bytes());
     *octets = records.concat();
 }
 

@@ -1,4 +1,5 @@
-//! Packets by their fields (document 01, The packet), sound ones and others.
+//! Packets by their fields (document 01, The packet; document 02, A7), sound ones
+//! and others.
 
 use crate::words;
 
@@ -61,9 +62,10 @@ pub struct Packet {
     /// The sequence number.
     pub number: u8,
     reserved: u8,
-    prefix: u8,
-    /// Octets of a true prefix, before the source address.
-    before: Vec<u8>,
+    /// The prefix length that it announces, if not the true one.
+    announced: Option<u8>,
+    /// The prefix of the source address.
+    pub prefix: Vec<u8>,
     source: u8,
     /// The payload.
     pub payload: Vec<u8>,
@@ -91,8 +93,8 @@ impl Packet {
             channel,
             number: 0,
             reserved: 0,
-            prefix: 0,
-            before: Vec::new(),
+            announced: None,
+            prefix: Vec::new(),
             source: 65,
             payload: Vec::new(),
             wrong_crc: false,
@@ -125,8 +127,8 @@ impl Packet {
             "channel" => self.channel = words::narrow(value, round)?,
             "number" => self.number = words::number(value, round)? as u8,
             "reserved" => self.reserved = words::narrow(value, round)?,
-            "prefix" => self.prefix = words::narrow(value, round)?,
-            "before" => self.before = words::octets(value)?,
+            "announced" => self.announced = Some(words::narrow(value, round)?),
+            "prefix" => self.prefix = words::octets(value)?,
             "source" => self.source = words::narrow(value, round)?,
             "payload" => self.payload = words::octets(value)?,
             "crc" if value == "wrong" => self.wrong_crc = true,
@@ -140,6 +142,7 @@ impl Packet {
     /// each, the CRC is the last.
     pub fn fields(&self) -> Vec<Vec<u8>> {
         let length = self.length.unwrap_or(self.payload.len() as u16);
+        let announced = self.announced.unwrap_or(self.prefix.len() as u8);
         let mut fields = vec![
             vec![self.destination],
             vec![self.protocol],
@@ -147,8 +150,8 @@ impl Packet {
             length.to_be_bytes().to_vec(),
             self.channel.to_be_bytes().to_vec(),
             vec![self.number],
-            vec![self.reserved << 4 | self.prefix],
-            self.before.clone(),
+            vec![self.reserved << 4 | announced],
+            self.prefix.clone(),
             vec![self.source],
             self.payload.clone(),
         ];
@@ -208,11 +211,25 @@ mod tests {
     #[test]
     fn each_field_in_its_place() {
         let line = "close destination=1 protocol=2 version=2 secondary=1 flags=first length=772 \
-                    channel=1286 number=7 reserved=8 prefix=9 before=0A source=11 payload=0C0D";
+                    channel=1286 number=7 reserved=8 announced=9 prefix=0A source=11 payload=0C0D";
         let head = [1, 2, 0b1010_1011, 3, 4, 5, 6, 7, 0x89, 10, 11, 12, 13];
         assert_eq!(octets(line, NUMBERS)[..13], head);
         let cut = format!("{line} kept=5");
         assert_eq!(octets(&cut, NUMBERS), head[..5]);
+    }
+
+    /// "The whole has exactly 12 + X octets", and N more of a prefix, which
+    /// stands at octet 9.
+    #[test]
+    fn prefixes() {
+        let alone = octets("open", NUMBERS);
+        for count in 0..=15 {
+            let packet = octets(&format!("open prefix=07*{count}"), NUMBERS);
+            assert_eq!(packet.len(), alone.len() + count);
+            assert_eq!(usize::from(packet[8]), count);
+            assert!(packet[9..9 + count].iter().all(|octet| *octet == 7));
+            assert_eq!(packet[9 + count], alone[9]);
+        }
     }
 
     /// A channel number stands in one place only.

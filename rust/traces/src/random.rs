@@ -150,10 +150,14 @@ fn damaged(mut record: Vec<u8>, noise: &mut Noise) -> Vec<u8> {
     record
 }
 
-/// A packet of any type with no payload, numbered 0 most times.
+/// A packet of any type with no payload, numbered 0 most times, and at times with
+/// a prefix, which the replay's channels do not have.
 fn lone(kind: u8, noise: &mut Noise) -> Vec<u8> {
     let mut packet = Packet::new(kind, NUMBERS);
     packet.number = u8::from(noise.one_in(8));
+    if noise.one_in(4) {
+        packet.prefix = vec![0; noise.one_of(&[1, 2, 14, 15])];
+    }
     arrival(&packet)
 }
 

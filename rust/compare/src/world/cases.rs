@@ -38,18 +38,8 @@ impl World {
         outcome: &Outcome,
     ) {
         let said = outcome.said;
-        let own = self.twins[node].node;
-        let reads = match said.number {
-            1 | 2 | 4 | 11 | 13 => false,
-            // Either a field unexpected, or Data that is too long for its channel.
-            3 => peer::packet::read(packet).is_ok_and(|reading| {
-                let fields = reading.fields;
-                fields.destination == own.address && fields.protocol == own.protocol
-            }),
-            _ => true,
-        };
         let line = match packet.get(2).map(|control| control & 0b111) {
-            _ if !reads => "not read",
+            _ if !self.reads(node, packet, said) => "not read",
             Some(kind::DATA) => "read Data",
             Some(kind::DATA_ACK) => "read Data Ack",
             Some(kind::OPEN) => "read Open",
@@ -60,6 +50,7 @@ impl World {
         if room == 12 {
             self.tally.case("room: exactly 12 octets for a reply");
         }
+        self.note_prefixes(node, packet, room, said);
         match (line, said.number) {
             (_, 9) => self.tally.case(reason_case(said.reason)),
             ("read Data", 0) if packet[7] == 0 => {
@@ -67,6 +58,22 @@ impl World {
             }
             ("read Data Ack", 0) => self.note_ack(packet[7], said),
             _ => {}
+        }
+    }
+
+    /// Whether a packet so answered passed all tests before 14.
+    fn reads(&self, node: usize, packet: &[u8], said: Said) -> bool {
+        let own = self.twins[node].node;
+        match said.number {
+            1 | 2 | 4 | 13 => false,
+            // The first test wants 12, the one behind 14 more.
+            11 => said.length > 12,
+            // Either a field unexpected, or Data that is too long for its channel.
+            3 => peer::packet::read(packet).is_ok_and(|reading| {
+                let fields = reading.fields;
+                fields.destination == own.address && fields.protocol == own.protocol
+            }),
+            _ => true,
         }
     }
 

@@ -44,7 +44,8 @@ fn hand_out_of(
         number: offer.number,
         ..node.header(settings.remote, settings.channel)
     };
-    let length = packet::write(&fields, offer.payload, out)?;
+    let own_prefix = settings.own_prefix;
+    let length = packet::write(&fields, own_prefix.said(), offer.payload, out)?;
     end.hand_out();
     Ok(length)
 }

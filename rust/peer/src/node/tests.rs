@@ -1,6 +1,7 @@
 mod arrivals;
 mod channels;
 mod packets;
+mod prefix;
 mod requests;
 mod served;
 mod table;

@@ -1,5 +1,7 @@
 use super::*;
 
+mod prefix;
+
 /// Octets that no call may touch are filled with this.
 const NOISE: u8 = 0xA5;
 
@@ -25,8 +27,12 @@ fn alone(kind: u8) -> Fields {
 }
 
 fn written(fields: &Fields, payload: &[u8]) -> Vec<u8> {
-    let mut out = vec![NOISE; 12 + payload.len()];
-    assert_eq!(write(fields, payload, &mut out), Ok(out.len()));
+    written_from(&[], fields, payload)
+}
+
+fn written_from(prefix: &[u8], fields: &Fields, payload: &[u8]) -> Vec<u8> {
+    let mut out = vec![NOISE; 12 + prefix.len() + payload.len()];
+    assert_eq!(write(fields, prefix, payload, &mut out), Ok(out.len()));
     out
 }
 
@@ -43,8 +49,12 @@ fn changed(packet: &[u8], changes: &[(usize, u8)]) -> Vec<u8> {
 }
 
 fn refused(fields: Fields, payload: &[u8], room: usize) -> Refusal {
+    refused_from(&[], fields, payload, room)
+}
+
+fn refused_from(prefix: &[u8], fields: Fields, payload: &[u8], room: usize) -> Refusal {
     let mut out = vec![NOISE; room];
-    let refusal = write(&fields, payload, &mut out).unwrap_err();
+    let refusal = write(&fields, prefix, payload, &mut out).unwrap_err();
     assert!(out.iter().all(|&octet| octet == NOISE));
     refusal
 }
@@ -76,14 +86,14 @@ fn what_is_written_is_read() {
         let payload = vec![0x5A; length];
         let fields = data(flags::LAST);
         let packet = written(&fields, &payload);
-        let start = 10;
         let reading = Reading {
             fields,
-            start,
+            prefix: 0,
+            start: 10,
             length,
         };
         assert_eq!(read(&packet), Ok(reading));
-        assert_eq!(packet[start..start + length], payload);
+        assert_eq!(reading.payload_of(&packet), payload);
     }
 }
 
@@ -112,7 +122,9 @@ fn an_empty_segment_ends_its_unit() {
 #[test]
 fn octets_past_the_packet_stay() {
     let mut out = [NOISE; 20];
-    assert_eq!(write(&data(flags::WHOLE), b"abc", &mut out), Ok(15));
+    assert_eq!(write(&data(flags::WHOLE), &[], b"abc", &mut out), Ok(15));
+    assert_eq!(out[15..], [NOISE; 5]);
+    assert_eq!(write(&data(flags::WHOLE), &[1, 2], b"a", &mut out), Ok(15));
     assert_eq!(out[15..], [NOISE; 5]);
 }
 
@@ -127,20 +139,18 @@ fn length_is_tested_first() {
 }
 
 #[test]
-fn a_true_prefix_is_a_wrong_length() {
-    let mut packet = written(&data(flags::WHOLE), b"abc");
-    packet.insert(9, 1);
-    assert_eq!(read(&changed(&packet, &[(8, 1)])), Err(Refusal::Length));
-}
-
-#[test]
-fn every_changed_bit_but_of_the_length_is_a_wrong_crc() {
-    let packet = written(&data(flags::WHOLE), b"abc");
-    for place in (0..packet.len()).filter(|place| ![3, 4].contains(place)) {
+fn every_changed_bit_but_of_the_lengths_is_a_wrong_crc() {
+    let packet = written_from(&[1, 2], &data(flags::WHOLE), b"abc");
+    for place in 0..packet.len() {
         for bit in 0..8 {
             let mut damaged = packet.clone();
             damaged[place] ^= 1 << bit;
-            assert_eq!(read(&damaged), Err(Refusal::Crc));
+            let of_lengths = [3, 4].contains(&place) || place == 8 && bit < 4;
+            let refusal = match of_lengths {
+                true => Refusal::Length,
+                false => Refusal::Crc,
+            };
+            assert_eq!(read(&damaged), Err(refusal));
         }
     }
 }
@@ -150,10 +160,9 @@ fn reading_tests_4_before_3() {
     let packet = written(&alone(kind::OPEN), b"");
     let cases = [
         (vec![(2, 0x7A)], Refusal::NotInBase),
-        (vec![(8, 0x01)], Refusal::NotInBase),
         (vec![(2, 0x5C)], Refusal::NotInBase),
         (vec![(2, 0x9E)], Refusal::NotInBase),
-        (vec![(8, 0xF1)], Refusal::NotInBase),
+        (vec![(2, 0x7A), (8, 0xF0)], Refusal::NotInBase),
         (vec![(2, 0x9A)], Refusal::Header),
         (vec![(2, 0x4A)], Refusal::Header),
         (vec![(8, 0x10)], Refusal::Header),
@@ -181,11 +190,6 @@ fn writing_tests_4_then_3_then_11() {
         version: 0,
         ..whole
     };
-    let prefix = Fields {
-        prefix: 16,
-        reserved: 1,
-        ..whole
-    };
     let reserved = Fields {
         reserved: 16,
         ..whole
@@ -195,7 +199,6 @@ fn writing_tests_4_then_3_then_11() {
         ..whole
     };
     assert_eq!(refused(secondary, b"", 0), Refusal::NotInBase);
-    assert_eq!(refused(prefix, b"", 0), Refusal::NotInBase);
     assert_eq!(refused(alone(8), b"x", 0), Refusal::NotInBase);
     assert_eq!(refused(reserved, b"", 0), Refusal::Header);
     assert_eq!(refused(version, b"", 0), Refusal::Header);

@@ -94,6 +94,56 @@ fn clashes() {
     assert!(test_table(&[SENDING, RECEIVING, other_window]).is_err());
 }
 
+/// "Two records are equal only if their prefixes are too" (document 02, A7):
+/// the remote ones. The own ones no arrival shows.
+#[test]
+fn clashes_but_for_a_prefix() {
+    let remote = |octets: &[u8]| Settings {
+        remote_prefix: Prefix::new(octets).unwrap(),
+        ..SENDING
+    };
+    let own = |octets: &[u8]| Settings {
+        own_prefix: Prefix::new(octets).unwrap(),
+        ..SENDING
+    };
+    let apart = [&[][..], &[0], &[0, 0], &[1], &[7; 14], &[7; 15]];
+    assert!(test_table(&apart.map(remote)).is_ok());
+    for octets in apart {
+        assert!(test_table(&[remote(octets), remote(octets)]).is_err());
+        assert!(test_table(&[SENDING, own(octets)]).is_err());
+    }
+}
+
+/// Each prefix has 0 to 15 octets, and 0 past them.
+#[test]
+fn prefixes() {
+    let with = |length, last| {
+        let mut octets = [0; 15];
+        octets[14] = last;
+        Prefix { length, octets }
+    };
+    let cases = [
+        (with(0, 0), true),
+        (with(14, 0), true),
+        (with(15, 1), true),
+        (with(14, 1), false),
+        (with(0, 1), false),
+        (with(16, 0), false),
+        (with(255, 1), false),
+    ];
+    for (prefix, good) in cases {
+        let remote = Settings {
+            remote_prefix: prefix,
+            ..SENDING
+        };
+        let own = Settings {
+            own_prefix: prefix,
+            ..SENDING
+        };
+        assert_eq!((accepted(remote), accepted(own)), (good, good));
+    }
+}
+
 /// "A table of 0 or over 16 records [..] gives 13"
 #[test]
 fn count_of_records() {

@@ -2,8 +2,10 @@
 
 use link::Noise;
 use peer::answer::Answer;
+use peer::crc::crc;
 use peer::node::Node;
 use peer::packet::{flags, write, Fields, VERSION};
+use peer::prefix::Prefix;
 use peer::settings::{storage, NodeSettings, Settings};
 
 /// The protocol ID of all nodes here.
@@ -31,8 +33,28 @@ pub fn data(node: usize, channel: u16, kind: u8, number: u8, flags: u8, payload:
         ..Fields::default()
     };
     let mut out = vec![0; 12 + payload.len()];
-    write(&fields, payload, &mut out).expect("it fits");
+    write(&fields, &[], payload, &mut out).expect("it fits");
     out
+}
+
+/// The packet as it comes from behind this prefix (000, 4.2.3.9).
+pub fn behind(prefix: &Prefix, packet: &[u8]) -> Vec<u8> {
+    let (head, rest) = packet[..packet.len() - 2].split_at(9);
+    let mut packet = [head, prefix.said(), rest].concat();
+    packet[8] = prefix.length;
+    let trailer = crc(&packet).to_be_bytes();
+    [&packet[..], &trailer].concat()
+}
+
+/// The payload of a packet, wherever it begins.
+pub fn payload_of(packet: &[u8]) -> &[u8] {
+    let prefix = usize::from(packet[8] & 0b1111);
+    &packet[10 + prefix..packet.len() - 2]
+}
+
+/// A prefix made by chance; many are empty.
+pub fn prefix(noise: &mut Noise) -> Prefix {
+    Prefix::new(&noise.prefix()).expect("not over 15")
 }
 
 /// One of the two nodes, with noise in its storage.

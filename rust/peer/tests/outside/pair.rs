@@ -6,7 +6,7 @@ use peer::packet::kind;
 use peer::settings::Settings;
 use peer::state::State;
 
-use crate::calls::{packet, reclaim_all, take_all};
+use crate::calls::{behind, packet, reclaim_all, take_all};
 
 /// A channel and its history.
 #[derive(Clone, Debug)]
@@ -71,6 +71,7 @@ impl Pair {
         while node.next_packet(&mut [0; 64]).number == 0 {}
         let channel = self.settings.channel;
         let ack = packet(self.sender.node, channel, kind::CONTROL_ACK, 0);
+        let ack = behind(&self.settings.remote_prefix, &ack);
         assert_eq!(node.arrival(&ack, &mut [0; 12]).number, 0);
     }
 }

@@ -7,13 +7,15 @@ use peer::answer::Answer;
 use peer::crc::crc;
 use peer::node::Node;
 use peer::packet::{flags, kind};
+use peer::prefix::Prefix;
 use peer::settings::{Direction, Settings};
 use peer::state::{Reason, State};
 
-use crate::calls::{checked, data, new_node, ADDRESSES};
+use crate::calls::{behind, checked, data, new_node, prefix, ADDRESSES};
 
-/// A table of four channels with small windows.
-fn table(noise: &mut Noise) -> Vec<Settings> {
+/// A table of four channels with small windows. These are the remote prefixes,
+/// by channel number.
+fn table(noise: &mut Noise, prefixes: &[Prefix; 2]) -> Vec<Settings> {
     let settings = |noise: &mut Noise, channel: u16, direction: Direction| {
         let window = noise.one_of(&[1, 2, 4, 8]);
         let slots = window + noise.below(6) as u32;
@@ -21,6 +23,8 @@ fn table(noise: &mut Noise) -> Vec<Settings> {
             direction,
             channel,
             remote: ADDRESSES[1],
+            remote_prefix: prefixes[usize::from(channel)],
+            own_prefix: prefix(noise),
             window,
             slots,
             most_payload: 1 + noise.below(5) as u32,
@@ -44,6 +48,8 @@ fn table(noise: &mut Noise) -> Vec<Settings> {
 struct Player {
     node: Node,
     noise: Noise,
+    /// The remote prefix of each channel number.
+    prefixes: [Prefix; 2],
     /// The last Data number accepted on each channel number.
     accepted: [u8; 2],
 }
@@ -51,11 +57,13 @@ struct Player {
 impl Player {
     fn new(seed: u64) -> Player {
         let mut noise = Noise::new(seed);
-        let table = table(&mut noise);
+        let prefixes = [0, 1].map(|_| prefix(&mut noise));
+        let table = table(&mut noise, &prefixes);
         let node = new_node(0, &table, &mut noise);
         Player {
             node,
             noise,
+            prefixes,
             accepted: [0; 2],
         }
     }
@@ -74,18 +82,24 @@ impl Player {
             3 | 4 => noise.below(9) as u8,
             _ => self.accepted[channel].wrapping_add(noise.below(3) as u8),
         };
+        let region = match noise.percent(97) {
+            true => self.prefixes[channel],
+            false => prefix(noise),
+        };
         let channel = channel as u16;
-        let mut packet = if kind == DATA {
+        let packet = if kind == DATA {
             let length = noise.below(6);
             let all = [flags::WHOLE, flags::FIRST, flags::LAST, flags::CONTINUATION];
             let flags = all[noise.below(4).min(noise.below(4)).min(noise.below(4))];
             let least = usize::from(flags < flags::LAST);
-            data(0, channel, kind, number, flags, &noise.octets(length.max(least)))
+            let payload = noise.octets(length.max(least));
+            data(0, channel, kind, number, flags, &payload)
         } else {
             let named = kind == DATA_ACK || noise.percent(3);
             let number = if named { number } else { 0 };
             data(0, channel, kind, number, flags::WHOLE, &[])
         };
+        let mut packet = behind(&region, &packet);
         if noise.percent(4) {
             spoil(&mut packet, noise);
         }
@@ -96,7 +110,7 @@ impl Player {
     fn call(&mut self) -> u8 {
         let index = self.noise.below(4) + usize::from(self.noise.percent(1));
         let small = self.noise.percent(5);
-        let buffer = if small { self.noise.below(14) } else { 128 };
+        let buffer = if small { self.noise.below(30) } else { 128 };
         let choice = self.noise.below(20);
         let length = self.noise.below(40).min(self.noise.below(40));
         let octets = match choice {
@@ -118,7 +132,7 @@ impl Player {
         if !matches!(choice, 0..=9 | 13 | 14) {
             assert!(memory == self.node.memory() && lengths == self.node.lengths());
         }
-        if let (0..=9, 0, 12) = (choice, answer.number, reply.len()) {
+        if let (0..=9, 0, 12..) = (choice, answer.number, reply.len()) {
             self.accepted[usize::from(reply[6])] = reply[7];
         }
         match choice {

@@ -2,11 +2,13 @@
 
 use std::collections::BTreeSet;
 
+use peer::prefix::Prefix;
 use peer::settings::{Direction, Settings};
 use peer::state::State;
 
+use crate::calls::prefix;
 use crate::world::World;
-use link::{Weather, FAIR};
+use link::{Noise, Weather, FAIR};
 
 /// Loses and repeats, but keeps the order: openings live long.
 const ORDERLY: Weather = Weather {
@@ -31,12 +33,19 @@ const STORMY: Weather = Weather {
     ..FAIR
 };
 
-/// Settings with these window, slots, P and M.
+/// Settings with these window, slots, P and M. Every other shape has prefixes.
 fn settings(channel: u16, window: u32, slots: u32, payload: u32, segments: u32) -> Settings {
+    let noise = &mut Noise::new((slots + segments).into());
+    let [remote_prefix, own_prefix] = match slots % 2 {
+        0 => [Prefix::NONE; 2],
+        _ => [prefix(noise), prefix(noise)],
+    };
     Settings {
         direction: Direction::Sending,
         channel,
         remote: 0,
+        remote_prefix,
+        own_prefix,
         window,
         slots,
         most_payload: payload,

@@ -3,6 +3,7 @@
 use link::Noise;
 use peer::node::Node;
 use peer::packet::kind;
+use peer::prefix::Prefix;
 use peer::settings::{Direction, Settings};
 use peer::state::State;
 
@@ -13,6 +14,8 @@ const SENDING: Settings = Settings {
     direction: Direction::Sending,
     channel: 1,
     remote: ADDRESSES[1],
+    remote_prefix: Prefix::NONE,
+    own_prefix: Prefix::NONE,
     window: 4,
     slots: 8,
     most_payload: 16,

@@ -9,7 +9,7 @@ use peer::packet::kind;
 use peer::settings::{Direction, Settings};
 use peer::state::Reason;
 
-use crate::calls::{checked, new_node, ADDRESSES};
+use crate::calls::{checked, new_node, payload_of, ADDRESSES};
 use crate::pair::Pair;
 
 mod applications;
@@ -124,7 +124,7 @@ impl World {
         let segment = is_data.then(|| pair.units.segment_sent(packet[7]));
         if let Some(segment) = segment {
             let filed = self.shadows[node].read(pair.sender.index, segment);
-            assert_eq!(packet[10..packet.len() - 2], *filed);
+            assert_eq!(payload_of(&packet), filed);
         }
         self.links[1 - node].send(&packet, segment, self.weather, &mut self.noise);
     }
@@ -139,8 +139,7 @@ impl World {
         if flight.damaged {
             assert!([1, 2].contains(&answer.number));
         } else if let (Some(segment), 0) = (flight.segment, answer.number) {
-            let payload = &packet[10..packet.len() - 2];
-            self.accepted(usize::from(flight.channel), segment, payload);
+            self.accepted(usize::from(flight.channel), segment, payload_of(packet));
         } else {
             let pair = &mut self.pairs[usize::from(flight.channel)];
             if answer.confirmed > 0 {
@@ -177,14 +176,16 @@ impl World {
 /// The table of a node: in the other's it is the other way round, and the
 /// channel's number is its place in the list.
 fn table_of(node: usize, channels: &[(usize, Settings)]) -> Vec<Settings> {
-    let directed = |&(sender, settings): &(usize, Settings)| Settings {
-        direction: if sender == node {
-            Direction::Sending
-        } else {
-            Direction::Receiving
+    let remote = ADDRESSES[1 - node];
+    let directed = |&(sender, settings): &(usize, Settings)| match sender == node {
+        true => Settings { remote, ..settings },
+        false => Settings {
+            direction: Direction::Receiving,
+            remote,
+            remote_prefix: settings.own_prefix,
+            own_prefix: settings.remote_prefix,
+            ..settings
         },
-        remote: ADDRESSES[1 - node],
-        ..settings
     };
     let mut table: Vec<Settings> = channels.iter().map(directed).collect();
     if node == 1 {

@@ -2,7 +2,7 @@
 #![allow(dead_code)] // each test uses a part of it
 
 use proved::record::{direction, state};
-use proved::{calls, Addresses, Channel, Limits, Node, Said, Settings};
+use proved::{calls, storage, Addresses, Channel, Limits, Node, Said, Settings};
 
 pub const HOST: Node = Node {
     address: 64,
@@ -33,21 +33,27 @@ pub struct End {
 }
 
 impl End {
-    /// As settings make it.
+    /// As settings make it, without prefixes.
     pub fn made(node: Node, remote: Node, direction: u8, limits: Limits) -> Self {
-        let mut end = End {
-            node,
-            table: [Channel::blank()],
-            memory: vec![0; limits.slots * limits.payload],
-            lengths: vec![0; limits.slots],
-        };
         let addresses = Addresses {
             channel: 0x0102,
             remote: remote.address,
             direction,
+            ..Addresses::default()
         };
-        let settings = [Settings { addresses, limits }];
-        let said = calls::settings(&mut end.table, &end.memory, &end.lengths, &settings);
+        End::of(node, Settings { addresses, limits })
+    }
+
+    /// As these settings make it.
+    pub fn of(node: Node, settings: Settings) -> Self {
+        let (octets, lengths) = storage(&[settings]);
+        let mut end = End {
+            node,
+            table: [Channel::blank()],
+            memory: vec![0; octets],
+            lengths: vec![0; lengths],
+        };
+        let said = calls::settings(&mut end.table, &end.memory, &end.lengths, &[settings]);
         assert_eq!(said, unserved(0));
         end
     }
@@ -113,7 +119,7 @@ impl End {
 
     /// What a packet is answered, and the reply.
     pub fn arrival(&mut self, packet: &[u8]) -> (Said, Vec<u8>) {
-        let mut reply = [UNTOUCHED; 20];
+        let mut reply = [UNTOUCHED; 30];
         let (table, memory) = (&mut self.table, &mut self.memory);
         let lengths = &mut self.lengths;
         let said = calls::arrival(table, memory, lengths, self.node, packet, &mut reply);

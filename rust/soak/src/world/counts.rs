@@ -11,6 +11,8 @@ pub struct Counts {
     pub units: [u64; 4],
     /// Packets lost; damaged; dropped as too late; acknowledged again.
     pub packets: [u64; 4],
+    /// Packets handed out with a prefix.
+    pub regional: u64,
     /// Ends that went inactive, by reason 1 to 5.
     pub inactive: [u64; 5],
     /// Ends closed by a Close.
@@ -32,6 +34,7 @@ impl Counts {
         add(&mut self.units, &other.units);
         add(&mut self.packets, &other.packets);
         add(&mut self.inactive, &other.inactive);
+        self.regional += other.regional;
         self.openings += other.openings;
         self.closed += other.closed;
         self.wrapped += other.wrapped;
@@ -50,7 +53,7 @@ impl fmt::Display for Counts {
             self.openings, self.wrapped
         )?;
         writeln!(out, "  units: {accepted} accepted, {confirmed} confirmed, {reclaimed} reclaimed, {taken} taken")?;
-        writeln!(out, "  packets: {lost} lost, {damaged} damaged, {late} dropped as too late, {repeated} acknowledged again")?;
+        writeln!(out, "  packets: {lost} lost, {damaged} damaged, {late} dropped as too late, {repeated} acknowledged again, {} with a prefix", self.regional)?;
         writeln!(out, "  ends: {} closed; inactive by retries {retries}, late Open {late_open}, Control number {control}, Data number {data}, flags {flags}", self.closed)?;
         writeln!(out, "  the three claims checked {} times", self.checks)
     }

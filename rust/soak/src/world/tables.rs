@@ -1,14 +1,26 @@
 //! The tables of both nodes, and the accounts of their channels.
 
-use link::{Place, Units};
-use proved::record::{direction, Addresses, Limits, Settings};
+use link::{Noise, Place, Units};
+use proved::record::{direction, Addresses, Limits, Prefix, Settings};
 
 use super::ADDRESSES;
 use crate::account::Account;
 
+/// For each channel the prefixes that the packets of either node have: the same
+/// from the same seed, and often none.
+pub(super) fn prefixes_of(channels: usize, seed: u64) -> Vec<[Prefix; 2]> {
+    let mut noise = Noise::new(!seed);
+    let mut prefix = || Prefix::of(&noise.prefix()).expect("not over 15");
+    (0..channels).map(|_| [prefix(), prefix()]).collect()
+}
+
 /// The table of a node. In the other's it is the other way round; a channel's
 /// number is its place in the list.
-pub(super) fn table_of(node: usize, channels: &[(usize, Limits)]) -> Vec<Settings> {
+pub(super) fn table_of(
+    node: usize,
+    channels: &[(usize, Limits)],
+    prefixes: &[[Prefix; 2]],
+) -> Vec<Settings> {
     let directed = |(channel, &(sender, limits)): (usize, &(usize, Limits))| Settings {
         addresses: Addresses {
             channel: channel as u16,
@@ -18,6 +30,8 @@ pub(super) fn table_of(node: usize, channels: &[(usize, Limits)]) -> Vec<Setting
             } else {
                 direction::RECEIVES
             },
+            remote_prefix: prefixes[channel][1 - node],
+            own_prefix: prefixes[channel][node],
         },
         limits,
     };

@@ -1,15 +1,18 @@
 -- `arrivals::arriving::arrive` meets its contract: what only the channel tells is tested, and then the packet's kind decides.
 -- Assumes nothing.
-use mathlib.Core.Path.{_≡_, sym, ap, _∙_}
-use native.Mathlib.Omega.{arith}
+use mathlib.Core.Path.{_≡_, sym, ap, _∙_, subst}
+use Prim.Native.Nat.{ℕ, _≤_, _<_}
+use lib.ListN.{length}
+use Rattle.packet.specs.declared.kinds.Kind.{Kind}
 use Rattle.walks.specs.Serving.{works, Worked}
 use Rattle.channel.specs.declared.step.Stepped.{Stepped}
 use Rattle.channel.specs.declared.answer.Refusal.the-variants as refusal
 use Rattle.channel.specs.Steps.{refusing}
 use Rattle.table.specs.Surveying.{mine, mineLens, wholly}
 use Rattle.table.proofs.Parts.{quiet}
-use Rattle.arrivals.specs.Arriving.{arriveBy, payloadIn}
-use Rattle.arrivals.proofs.ArriveLaws.{by-unfit, by-kind, arrival-by}
+use Rattle.arrivals.specs.Arriving.{Replies, arriveBy}
+use Rattle.packet.specs.Layout.{payloadIn}
+use Rattle.arrivals.proofs.ArriveLaws.{by-small, by-unfit, by-kind, arrival-by}
 use borrow.Author.Needs.{needs}
 use Rattle.arrivals.proofs.arriving.arrive.Statement.{statement}
 use Rattle.arrivals.proofs.arriving.arrive.Tie as tie
@@ -32,8 +35,15 @@ refused-requires c κs = search needs
 
 returns : tie.Need-returns
 returns c =
+    let a = c .before .before .before .before .before .before .before .before .args in
     let g = c .before .before .before .before .before .before .before .before .pre .1 in
-    absurd (omega (arith, g .room, c .before .before .reply-length .ensures, c .before .if1 .taken))
+    let kind = c .before .before .before .kind-of .ensures in
+    let wanted = c .before .before .reply-length .ensures in
+    let small = subst (λ (n : ℕ). length (a .out .now) < n) wanted (c .before .if1 .taken) in
+    ap (λ (x : Stepped). works x (a .mem .now) (a .lens .now) (a .out .now)) (c .refused .ensures ∙ ap (λ (n : ℕ). refusing (a .c) (refusal.Small n)) wanted)
+    ∙ quiet (arriveBy (a .node) (a .f) (a .length) (payloadIn (a .packet .now))) (a .c) (a .d) (a .mem .now) (a .lens .now) (a .out .now) _ (a .out .now)
+    (by-small (a .node) (a .f) (a .length) (payloadIn (a .packet .now)) (a .c) (a .d .spot .rank) (mine (a .c) (a .d) (a .mem .now)) (mineLens (a .c) (a .d) (a .lens .now)) (a .out .now) _ (sym kind) small)
+    ∙ arrival-by (a .node) (a .f) (a .length) (a .packet .now) (a .c) (a .d) (a .mem .now) (a .lens .now) (a .out .now) (g .fields) (g .count)
 
 is-unfit-requires : tie.Need-is-unfit-requires
 is-unfit-requires c κs = search needs
@@ -45,17 +55,20 @@ returns-2 : tie.Need-returns-2
 returns-2 c =
     let a = c .before .before .before .before .before .before .before .before .before .before .args in
     let g = c .before .before .before .before .before .before .before .before .before .before .pre .1 in
+    let fits = subst (λ (n : ℕ). n ≤ length (a .out .now)) (c .before .before .before .before .reply-length .ensures) (c .before .before .before .if1 .left) in
+    let room = subst (λ (k : Kind). Replies (a .c) k (a .out .now)) (c .before .before .before .before .before .kind-of .ensures) fits in
     let u = sym (c .before .before .is-unfit .ensures) ∙ c .before .if2 .taken in
     ap (λ (x : Stepped). works x (a .mem .now) (a .lens .now) (a .out .now)) (c .refused2 .ensures)
     ∙ quiet (arriveBy (a .node) (a .f) (a .length) (payloadIn (a .packet .now))) (a .c) (a .d) (a .mem .now) (a .lens .now) (a .out .now) (refusing (a .c) refusal.Strange) (a .out .now)
-    (by-unfit (a .node) (a .f) (a .length) (payloadIn (a .packet .now)) (a .c) (a .d .spot .rank) (mine (a .c) (a .d) (a .mem .now)) (mineLens (a .c) (a .d) (a .lens .now)) (a .out .now) (g .room) u)
+    (by-unfit (a .node) (a .f) (a .length) (payloadIn (a .packet .now)) (a .c) (a .d .spot .rank) (mine (a .c) (a .d) (a .mem .now)) (mineLens (a .c) (a .d) (a .lens .now)) (a .out .now) room u)
     ∙ arrival-by (a .node) (a .f) (a .length) (a .packet .now) (a .c) (a .d) (a .mem .now) (a .lens .now) (a .out .now) (g .fields) (g .count)
 
 arrive-as-requires : tie.Need-arrive-as-requires
 arrive-as-requires c κs =
-    let s = c .before .before .before .before .before .before .before .before .before .before .before .before .pre .0 in
-    let g = c .before .before .before .before .before .before .before .before .before .before .before .before .pre .1 in
-    (s, g, sym (c .before .before .before .before .before .before .before .kind-of .ensures), sym (c .before .before .before .before .is-unfit .ensures) ∙ c .before .before .before .if2 .left)
+    let a = c .before .before .before .before .before .before .before .before .before .before .before .before .args in
+    let p = c .before .before .before .before .before .before .before .before .before .before .before .before .pre in
+    let fits = subst (λ (n : ℕ). n ≤ length (a .out .now)) (c .before .before .before .before .before .before .reply-length .ensures) (c .before .before .before .before .before .if1 .left) in
+    (p .0, p .1, sym (c .before .before .before .before .before .before .before .kind-of .ensures), fits, sym (c .before .before .before .before .is-unfit .ensures) ∙ c .before .before .before .if2 .left)
 
 same-length : tie.Need-same-length
 same-length c = search needs
@@ -70,12 +83,14 @@ returns-3 : tie.Need-returns-3
 returns-3 c =
     let a = c .before .before .before .before .before .before .before .before .before .before .before .before .before .before .before .before .before .before .before .args in
     let g = c .before .before .before .before .before .before .before .before .before .before .before .before .before .before .before .before .before .before .before .pre .1 in
+    let fits = subst (λ (n : ℕ). n ≤ length (a .out .now)) (c .before .before .before .before .before .before .before .before .before .before .before .before .before .reply-length .ensures) (c .before .before .before .before .before .before .before .before .before .before .before .before .if1 .left) in
+    let room = subst (λ (k : Kind). Replies (a .c) k (a .out .now)) (c .before .before .before .before .before .before .before .before .before .before .before .before .before .before .kind-of .ensures) fits in
     let u = sym (c .before .before .before .before .before .before .before .before .before .before .before .is-unfit .ensures) ∙ c .before .before .before .before .before .before .before .before .before .before .if2 .left in
     c .before .before .before .before .before .before .arrive-as .ensures
     ∙ ap (λ (w : Worked Stepped). wholly (a .d) (a .mem .now) (a .lens .now) w)
     (sym
     (by-kind (a .node) (a .f) (a .length) (payloadIn (a .packet .now)) (a .c) (a .d .spot .rank) (mine (a .c) (a .d) (a .mem .now)) (mineLens (a .c) (a .d) (a .lens .now)) (a .out .now)
-    (g .room) u _ (sym (c .before .before .before .before .before .before .before .before .before .before .before .before .before .before .kind-of .ensures))))
+    room u _ (sym (c .before .before .before .before .before .before .before .before .before .before .before .before .before .before .kind-of .ensures))))
     ∙ arrival-by (a .node) (a .f) (a .length) (a .packet .now) (a .c) (a .d) (a .mem .now) (a .lens .now) (a .out .now) (g .fields) (g .count)
 
 pub arrive-spec : {M : Type 1} → statement M

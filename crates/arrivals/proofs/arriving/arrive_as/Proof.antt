@@ -1,6 +1,6 @@
 -- `arrivals::arriving::arrive_as` meets its contract: by the packet's kind.
 -- Assumes nothing.
-use mathlib.Core.Path.{_≡_, refl, sym, ap, ap₂, _∙_}
+use mathlib.Core.Path.{_≡_, refl, sym, ap, ap₂, _∙_, subst}
 use mathlib.Core.List.{List}
 use Prim.Native.Nat.{ℕ, _+_, _-_}
 use native.Mathlib.Omega.{arith}
@@ -9,22 +9,23 @@ use lib.ListN.{length, take, drop, length-drop}
 use lib.Seq.{length-take-le}
 use Rattle.packet.specs.declared.kinds.Kind.{Kind}
 use Rattle.packet.specs.declared.kinds.Kind.the-variants.{Data, DataAck, Open, Close, ControlAck}
-use Rattle.packet.specs.Layout.{payloadAt, lengthAt}
+use Rattle.packet.specs.Layout.{lengthAt, payloadIn}
 use Rattle.walks.specs.Serving.{works}
 use Rattle.channel.specs.declared.record.Channel.{Channel}
 use Rattle.channel.specs.declared.step.Stepped.{Stepped}
 use Rattle.channel.specs.declared.answer.Refusal.the-variants as refusal
 use Rattle.channel.specs.Steps.{refusing}
-use Rattle.channel.proofs.StandingLaws.{ringed}
+use Rattle.channel.proofs.StandingLaws.{ringed, own-fits}
 use Rattle.sender_acks.specs.Acks.{dataAckStep, controlAckStep}
 use Rattle.receiver.specs.Receiving.{controlStep}
 use Rattle.table.specs.Surveying.{stepping}
 use Rattle.table.proofs.OneLaws.{kind-finds}
 use Rattle.table.proofs.Parts.{quiet}
+use Rattle.arrivals.specs.Finding.{prefixRead}
 use Rattle.arrivals.specs.Replying.{repliedBy}
 use Rattle.arrivals.specs.Data.{dataFor}
 use Rattle.arrivals.proofs.DataLaws.{fit-payload}
-use Rattle.arrivals.specs.Arriving.{arriveAs, payloadIn}
+use Rattle.arrivals.specs.Arriving.{Replies, arriveAs}
 use borrow.Author.Needs.{needs}
 use Rattle.arrivals.proofs.arriving.arrive_as.Statement.{statement}
 use Rattle.arrivals.proofs.arriving.arrive_as.Tie as tie
@@ -43,7 +44,7 @@ add-end : tie.Need-add-end
 add-end c =
     let a = c .before .before .before .before .before .before .args in
     let g = c .before .before .before .before .before .before .pre .1 in
-    omega (arith, g .whole, c .before .before .before .before .before .before .good .1 .1 .1 .1 .1 .1 .1 .1 .0)
+    omega (arith, g .whole, g .start, c .before .before .before .before .before .before .good .1 .1 .1 .1 .1 .1 .1 .1 .1 .0)
 
 sub-arrive-data : tie.Need-sub-arrive-data
 sub-arrive-data c = search needs
@@ -57,17 +58,18 @@ part-arrive-data-end c = search needs
 arrive-data-requires : tie.Need-arrive-data-requires
 arrive-data-requires c κs =
     let a = c .before .before .before .before .before .before .before .before .before .before .args in
-    let s = c .before .before .before .before .before .before .before .before .before .before .pre .0 in
-    let g = c .before .before .before .before .before .before .before .before .before .before .pre .1 in
-    let at = payloadAt (a .f) in
-    let is = c .before .before .before .before .before .before .before .before .before .before .pre .2 ∙ c .before .before .before .before .enum-told .given .1 in
+    let p = c .before .before .before .before .before .before .before .before .before .before .pre in
+    let g = p .1 in
+    let at = a .start in
+    let kind = c .before .before .before .before .enum-told .given .1 in
+    let is = p .2 ∙ kind in
     let n : length (take (at + a .length - at) (drop at (a .packet .now))) ≡ at + a .length - at =
-    length-take-le (at + a .length - at) (drop at (a .packet .now)) (omega (arith, length-drop at (a .packet .now), g .whole)) in (
-      s,
-      kind-finds (a .c .addresses) (a .f) Data (g .ours) is,
+    length-take-le (at + a .length - at) (drop at (a .packet .now)) (omega (arith, length-drop at (a .packet .now), g .whole, g .start)) in (
+      p .0,
+      kind-finds (a .c .addresses) (a .f) (prefixRead (a .packet .now)) Data (g .ours) is,
       g .flags,
-      omega (arith, n, fit-payload (a .c) (a .f) (a .length) (c .before .before .before .before .before .before .before .before .before .before .pre .3) is),
-      g .room,
+      omega (arith, n, fit-payload (a .c) (a .f) (a .length) (p .4) is),
+      subst (λ (z : Kind). Replies (a .c) z (a .out .now)) kind (p .3),
     )
 
 enum-told-2 : tie.Need-enum-told-2
@@ -85,9 +87,8 @@ enum-told-3 c = search needs
 arrive-control-requires : tie.Need-arrive-control-requires
 arrive-control-requires c κs =
     let a = c .before .before .before .before .before .before .before .args in
-    let s = c .before .before .before .before .before .before .before .pre .0 in
-    let g = c .before .before .before .before .before .before .before .pre .1 in
-    (ringed (a .c) _ (s .standing), g .room)
+    let p = c .before .before .before .before .before .before .before .pre in
+    (ringed (a .c) _ (p .0 .standing), own-fits (a .c) _ (p .0 .standing), subst (λ (z : Kind). Replies (a .c) z (a .out .now)) (c .before .enum-told3 .given .1) (p .3))
 
 enum-told-4 : tie.Need-enum-told-4
 enum-told-4 c = search needs
@@ -95,9 +96,8 @@ enum-told-4 c = search needs
 arrive-control-requires-2 : tie.Need-arrive-control-requires-2
 arrive-control-requires-2 c κs =
     let a = c .before .before .before .before .before .before .before .args in
-    let s = c .before .before .before .before .before .before .before .pre .0 in
-    let g = c .before .before .before .before .before .before .before .pre .1 in
-    (ringed (a .c) _ (s .standing), g .room)
+    let p = c .before .before .before .before .before .before .before .pre in
+    (ringed (a .c) _ (p .0 .standing), own-fits (a .c) _ (p .0 .standing), subst (λ (z : Kind). Replies (a .c) z (a .out .now)) (c .before .enum-told4 .given .1) (p .3))
 
 enum-told-5 : tie.Need-enum-told-5
 enum-told-5 c = search needs
@@ -127,10 +127,9 @@ returns : tie.Need-returns
 returns c =
     let a = c .before .before .before .before .before .before .before .before .before .before .before .before .before .before .before .before .before .args in
     let g = c .before .before .before .before .before .before .before .before .before .before .before .before .before .before .before .before .before .pre .1 in
-    let at = payloadAt (a .f) in
-    let e : at + a .length - at ≡ lengthAt (a .packet .now) = omega (arith, g .count) in
+    let e : a .start + a .length - a .start ≡ lengthAt (a .packet .now) = omega (arith, g .count) in
     c .before .before .before .before .before .before .arrive-data .ensures
-    ∙ ap (λ (n : ℕ). stepping (dataFor (a .node) (a .f) (take n (drop at (a .packet .now)))) (a .c) (a .d) (a .mem .now) (a .lens .now) (a .out .now)) e
+    ∙ ap₂ (λ (n at : ℕ). stepping (dataFor (a .node) (a .f) (take n (drop at (a .packet .now)))) (a .c) (a .d) (a .mem .now) (a .lens .now) (a .out .now)) e (g .start)
     ∙ sym (ap (λ (z : Kind). stepping (arriveAs z (a .node) (a .f) (payloadIn (a .packet .now))) (a .c) (a .d) (a .mem .now) (a .lens .now) (a .out .now)) (c .before .before .before .before .before .before .before .before .before .before .before .enum-told .given .1))
 
 returns-2 : tie.Need-returns-2

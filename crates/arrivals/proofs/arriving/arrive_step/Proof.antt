@@ -1,10 +1,8 @@
 -- `arrivals::arriving::arrive_step` meets its contract: nothing but a packet is looked for.
 -- Assumes nothing.
-use mathlib.Core.Path.{_≡_, refl, sym, ap, ap₂, _∙_, subst}
-use Prim.Native.Nat.{ℕ, _+_, _-_, _*_, _≤_, _<_}
+use mathlib.Core.Path.{_≡_, subst}
+use Prim.Native.Nat.{ℕ, _<_}
 use lib.ListN.{length}
-use Rattle.channel.specs.declared.answer.Refusal.{Refusal}
-use Rattle.table.specs.declared.looking.Look.{Look}
 use Rattle.table.specs.Looking.{graded}
 use Rattle.arrivals.proofs.FindLaws.{no-one}
 use Rattle.arrivals.proofs.ArriveLaws.{framed, not-index, not-ready}
@@ -13,14 +11,18 @@ use Rattle.arrivals.proofs.arriving.arrive_step.Statement.{statement}
 use Rattle.arrivals.proofs.arriving.arrive_step.Tie as tie
 use Rattle.arrivals.proofs.arriving.arrive_step.Reads as reads
 use Rattle.arrivals.proofs.arriving.arrive_step.Lts as lts
-use Rattle.channel.proofs.step.refused.Reads as refused-reads
 use Rattle.arrivals.proofs.arriving.arrive.Reads as arrive-reads
+use Rattle.channel.proofs.step.refused.Reads as refused-reads
 
-enum-known-look : tie.Need-enum-known-look
-enum-known-look c = search needs
+enum-known-sought : tie.Need-enum-known-sought
+enum-known-sought c = search needs
 
 arrive-requires : tie.Need-arrive-requires
-arrive-requires c κs = let a = c .before .before .before .before .before .before .before .before .before .before .args in let s = c .before .before .before .before .before .before .before .before .before .before .pre .0 in let h : graded (a .d .look) (a .d .spot .at) (a .c) < 3 = subst (λ (k : ℕ). k < 3) (s .suits) (s .found) in (s, framed (a .node) (a .packet .now) (a .out .now) (a .d .spot .at) (a .c) (a .d .look) _ _ (c .before .before .before .before .before .before .before .before .before .before .pre .1) h (c .before .before .before .before .look .given .1))
+arrive-requires c κs =
+    let a = c .before .before .before .before .before .before .before .before .before .before .before .args in
+    let p = c .before .before .before .before .before .before .before .before .before .before .before .pre in
+    let h : graded (a .d .look) (a .d .spot .at) (a .c) < 3 = subst (λ (k : ℕ). k < 3) (p .0 .suits) (p .0 .found) in
+    (p .0, framed (a .node) (a .packet .now) (a .out .now) (a .d .spot .at) (a .c) (a .d .look) _ _ _ (p .1) h (c .before .before .before .before .sought .given .1))
 
 enum-told : tie.Need-enum-told
 enum-told c = search needs
@@ -50,22 +52,34 @@ same-length-3 : tie.Need-same-length-3
 same-length-3 c = search needs
 
 returns : tie.Need-returns
-returns c = c .before .before .before .before .before .before .arrive .ensures
+returns c = search needs
 
 returns-2 : tie.Need-returns-2
-returns-2 c = let a = c .before .before .before .before .before .before .before .args in let s = c .before .before .before .before .before .before .before .pre .0 in let h : graded (a .d .look) (a .d .spot .at) (a .c) < 3 = subst (λ (k : ℕ). k < 3) (s .suits) (s .found) in absurd (not-index (a .node) (a .packet .now) (length (a .out .now)) (a .d .spot .at) _ (a .c) (a .d .look) (c .before .before .before .before .before .before .before .pre .1) h (c .before .enum-told .given .1))
+returns-2 c =
+    let a = c .before .before .before .before .before .before .before .before .args in
+    let p = c .before .before .before .before .before .before .before .before .pre in
+    let h : graded (a .d .look) (a .d .spot .at) (a .c) < 3 = subst (λ (k : ℕ). k < 3) (p .0 .suits) (p .0 .found) in
+    absurd (not-index (a .node) (a .packet .now) (length (a .out .now)) (a .d .spot .at) _ (a .c) (a .d .look) (p .1) h (c .before .enum-told .given .1))
 
 returns-3 : tie.Need-returns-3
-returns-3 c = let a = c .before .before .before .before .before .before .before .args in let s = c .before .before .before .before .before .before .before .pre .0 in let h : graded (a .d .look) (a .d .spot .at) (a .c) < 3 = subst (λ (k : ℕ). k < 3) (s .suits) (s .found) in absurd (not-ready (a .node) (a .packet .now) (length (a .out .now)) (a .d .spot .at) (a .c) (a .d .look) (c .before .before .before .before .before .before .before .pre .1) h (c .before .enum-told2 .given .1))
+returns-3 c =
+    let a = c .before .before .before .before .before .before .before .before .args in
+    let p = c .before .before .before .before .before .before .before .before .pre in
+    let h : graded (a .d .look) (a .d .spot .at) (a .c) < 3 = subst (λ (k : ℕ). k < 3) (p .0 .suits) (p .0 .found) in
+    absurd (not-ready (a .node) (a .packet .now) (length (a .out .now)) (a .d .spot .at) (a .c) (a .d .look) (p .1) h (c .before .enum-told2 .given .1))
 
 returns-4 : tie.Need-returns-4
-returns-4 c = let a = c .before .before .before .before .before .before .before .args in let s = c .before .before .before .before .before .before .before .pre .0 in let h : graded (a .d .look) (a .d .spot .at) (a .c) < 3 = subst (λ (k : ℕ). k < 3) (s .suits) (s .found) in absurd (no-one (a .d .look) _ (a .d .spot .at) (a .c) (c .before .enum-told3 .given .1) h)
+returns-4 c =
+    let a = c .before .before .before .before .before .before .before .before .args in
+    let p = c .before .before .before .before .before .before .before .before .pre in
+    let h : graded (a .d .look) (a .d .spot .at) (a .c) < 3 = subst (λ (k : ℕ). k < 3) (p .0 .suits) (p .0 .found) in
+    absurd (no-one (a .d .look) _ (a .d .spot .at) (a .c) (c .before .enum-told3 .given .1) h)
 
 pub arrive-step-spec : {M : Type 1} → statement M
 arrive-step-spec =
     tie.close
     (tie.spec
-    enum-known-look
+    enum-known-sought
     arrive-requires
     enum-told
     refused-requires

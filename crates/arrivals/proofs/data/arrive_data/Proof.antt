@@ -4,6 +4,7 @@ use mathlib.Core.Path.{_≡_, refl, sym, ap, ap₂, _∙_}
 use Prim.Native.Nat.{ℕ, _+_, _-_, _*_, _≤_, _<_}
 use native.Mathlib.Omega.{arith}
 use Rattle.channel.proofs.SettingsLaws.{fit-is}
+use Rattle.channel.proofs.StandingLaws.{own-fits}
 use Rattle.table.proofs.Parts.{own-asked}
 use Rattle.arrivals.proofs.DataLaws.{data-files}
 use borrow.Author.Needs.{needs}
@@ -49,7 +50,9 @@ data-step-requires : tie.Need-data-step-requires
 data-step-requires c κs = let a = c .before .before .before .before .before .before .before .before .args in let s = c .before .before .before .before .before .before .before .before .pre .0 in let f = fit-is (a .c .limits) (s .standing .fit) in record { asked = own-asked (a .c) (a .d) (a .mem .now) (a .lens .now) (a .d .spot .octet + c .before .before .before .area .result - a .d .spot .octet) (a .d .spot .slot + a .c .limits .slots - a .d .spot .slot) (omega (arith, c .before .before .before .area .ensures .0)) (omega arith) s; few = c .before .before .before .before .before .before .before .before .pre .2; short = c .before .before .before .before .before .before .before .before .pre .3 }
 
 reply-requires : tie.Need-reply-requires
-reply-requires c κs = search needs
+reply-requires c κs =
+    let p = c .before .before .before .before .before .before .before .before .before .before .before .before .before .before .pre in
+    (own-fits _ _ (p .0 .standing), p .4)
 
 same-length : tie.Need-same-length
 same-length c = search needs

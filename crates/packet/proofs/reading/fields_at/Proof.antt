@@ -22,20 +22,23 @@ shared-slice-read-pair-2 c = search needs
 pair-requires : tie.Need-pair-requires
 pair-requires c κs = search needs
 
-shared-slice-read-t6 : tie.Need-shared-slice-read-t6
-shared-slice-read-t6 c = search needs
+add-source : tie.Need-add-source
+add-source c = search needs
 
-shared-slice-read-t10 : tie.Need-shared-slice-read-t10
-shared-slice-read-t10 c = search needs
+shared-slice-read-t8 : tie.Need-shared-slice-read-t8
+shared-slice-read-t8 c = search needs
 
-shared-slice-read-t20 : tie.Need-shared-slice-read-t20
-shared-slice-read-t20 c = search needs
+shared-slice-read-t12 : tie.Need-shared-slice-read-t12
+shared-slice-read-t12 c = search needs
 
-shared-slice-read-t24 : tie.Need-shared-slice-read-t24
-shared-slice-read-t24 c = search needs
+shared-slice-read-t22 : tie.Need-shared-slice-read-t22
+shared-slice-read-t22 c = search needs
+
+shared-slice-read-t25 : tie.Need-shared-slice-read-t25
+shared-slice-read-t25 c = search needs
 
 returns : tie.Need-returns
-returns c = rw (c .before .before .before .before .pair .ensures)
+returns c = rw (c .before .before .before .before .pair .ensures, c .before .before .before .before .before .before .before .before .before .before .pre .0)
 
 pub fields-at-spec : {M : Type 1} → statement M
 fields-at-spec =
@@ -46,8 +49,9 @@ fields-at-spec =
     shared-slice-read-pair
     shared-slice-read-pair-2
     pair-requires
-    shared-slice-read-t6
-    shared-slice-read-t10
-    shared-slice-read-t20
-    shared-slice-read-t24
+    add-source
+    shared-slice-read-t8
+    shared-slice-read-t12
+    shared-slice-read-t22
+    shared-slice-read-t25
     returns)

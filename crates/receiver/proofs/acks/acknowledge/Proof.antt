@@ -7,7 +7,7 @@ use Rattle.receiver.proofs.acks.acknowledge.Tie as tie
 use Rattle.receiver.proofs.acks.acknowledge.Reads as reads
 use Rattle.receiver.proofs.acks.acknowledge.Lts as lts
 use Rattle.channel.proofs.step.outgoing.Reads as outgoing-reads
-use Rattle.packet.proofs.write_packet.Reads as write-packet-reads
+use Rattle.channel.proofs.step.write_outgoing.Reads as write-outgoing-reads
 use Rattle.receiver.proofs.acks.ack_kind.Reads as ack-kind-reads
 
 ack-kind-requires : tie.Need-ack-kind-requires
@@ -16,17 +16,17 @@ ack-kind-requires c κs = tt
 outgoing-requires : tie.Need-outgoing-requires
 outgoing-requires c κs = tt
 
-slice-aggregate-write-packet : tie.Need-slice-aggregate-write-packet
-slice-aggregate-write-packet c = search needs
+slice-aggregate-write-outgoing : tie.Need-slice-aggregate-write-outgoing
+slice-aggregate-write-outgoing c = search needs
 
-write-packet-requires : tie.Need-write-packet-requires
-write-packet-requires c κs = tt
+write-outgoing-requires : tie.Need-write-outgoing-requires
+write-outgoing-requires c κs = c .before .before .before .before .before .pre .0
 
 same-length : tie.Need-same-length
 same-length c = search needs
 
 returns : tie.Need-returns
-returns c = let a = c .before .before .before .before .before .before .before .before .args in ack-written (a .node) (a .a) (a .number) (a .of-data) (c .before .before .before .before .before .before .ack-kind .result) (c .before .before .before .before .before .outgoing .result) (c .before .before .write-packet .result) (a .reply .now) _ (c .before .before .before .before .before .before .ack-kind .ensures) (c .before .before .before .before .before .outgoing .ensures) (c .before .before .write-packet .ensures .0) (c .before .before .write-packet .ensures .1) (c .before .before .before .before .before .before .before .before .pre)
+returns c = let a = c .before .before .before .before .before .before .before .before .args in ack-written (a .node) (a .a) (a .number) (c .before .before .before .before .before .before .before .before .pre .0) (a .of-data) (c .before .before .before .before .before .before .ack-kind .result) (c .before .before .before .before .before .outgoing .result) (c .before .before .write-outgoing .result) (a .reply .now) _ (c .before .before .before .before .before .before .ack-kind .ensures) (c .before .before .before .before .before .outgoing .ensures) (c .before .before .write-outgoing .ensures .0) (c .before .before .write-outgoing .ensures .1) (c .before .before .before .before .before .before .before .before .pre .1)
 
 pub acknowledge-spec : {M : Type 1} → statement M
 acknowledge-spec =
@@ -34,7 +34,7 @@ acknowledge-spec =
     (tie.spec
     ack-kind-requires
     outgoing-requires
-    slice-aggregate-write-packet
-    write-packet-requires
+    slice-aggregate-write-outgoing
+    write-outgoing-requires
     same-length
     returns)

@@ -1,9 +1,7 @@
 -- `receiver::control::close_arrives` meets its contract: a law of `closeArrives` for each case.
 -- Assumes nothing.
-use mathlib.Core.Path.{sym, ap, _∙_}
-use Rattle.receiver.specs.Receiving.{ackLength}
+use mathlib.Core.Path.{sym, ap₂, _∙_}
 use Rattle.receiver.proofs.StepLaws.{close-closes, close-again, close-other}
-use Rattle.channel.specs.declared.record.Channel.{Channel}
 use Rattle.channel.specs.Steps.{doing}
 use borrow.Author.Needs.{needs}
 use Rattle.receiver.proofs.control.close_arrives.Statement.{statement}
@@ -12,17 +10,23 @@ use Rattle.receiver.proofs.control.close_arrives.Reads as reads
 use Rattle.receiver.proofs.control.close_arrives.Lts as lts
 use Rattle.channel.proofs.step.done.Reads as done-reads
 use Rattle.channel.proofs.step.refused.Reads as refused-reads
+use Rattle.receiver.proofs.leaving.ack_length.Reads as ack-length-reads
 use Rattle.receiver.proofs.leaving.leave.Reads as leave-reads
 use Rattle.receiver.proofs.leaving.repeated.Reads as repeated-reads
 
 leave-requires : tie.Need-leave-requires
 leave-requires c κs = search needs
 
+ack-length-requires : tie.Need-ack-length-requires
+ack-length-requires c κs = tt
+
 done-requires : tie.Need-done-requires
 done-requires c κs = tt
 
 returns : tie.Need-returns
-returns c = c .done .ensures ∙ ap (λ (x : Channel). doing x ackLength) (c .before .leave .ensures) ∙ sym (close-closes (c .before .before .before .before .args .c) (c .before .before .if1 .taken))
+returns c =
+    let a = c .before .before .before .before .before .args in
+    c .done .ensures ∙ ap₂ doing (c .before .before .leave .ensures) (c .before .ack-length .ensures) ∙ sym (close-closes (a .c) (c .before .before .before .if1 .taken))
 
 repeated-requires : tie.Need-repeated-requires
 repeated-requires c κs = tt
@@ -41,6 +45,7 @@ close-arrives-spec =
     tie.close
     (tie.spec
     leave-requires
+    ack-length-requires
     done-requires
     returns
     repeated-requires

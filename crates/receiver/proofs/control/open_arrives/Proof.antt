@@ -1,6 +1,8 @@
 -- `receiver::control::open_arrives` meets its contract: a law of `openArrives` for each case.
 -- Assumes nothing.
-use mathlib.Core.Path.{sym, _∙_}
+use mathlib.Core.Path.{sym, ap, _∙_}
+use Rattle.channel.specs.Record.{opened, withState}
+use Rattle.channel.specs.Steps.{doing}
 use Rattle.receiver.proofs.StepLaws.{open-opens, open-other, open-again, open-late}
 use borrow.Author.Needs.{needs}
 use Rattle.receiver.proofs.control.open_arrives.Statement.{statement}
@@ -9,14 +11,20 @@ use Rattle.receiver.proofs.control.open_arrives.Reads as reads
 use Rattle.receiver.proofs.control.open_arrives.Lts as lts
 use Rattle.channel.proofs.step.done.Reads as done-reads
 use Rattle.channel.proofs.step.refused.Reads as refused-reads
+use Rattle.receiver.proofs.leaving.ack_length.Reads as ack-length-reads
 use Rattle.receiver.proofs.leaving.failed.Reads as failed-reads
 use Rattle.receiver.proofs.leaving.repeated.Reads as repeated-reads
+
+ack-length-requires : tie.Need-ack-length-requires
+ack-length-requires c κs = tt
 
 done-requires : tie.Need-done-requires
 done-requires c κs = tt
 
 returns : tie.Need-returns
-returns c = c .done .ensures ∙ sym (open-opens (c .before .before .before .before .args .c) (c .before .before .if1 .taken))
+returns c =
+    let a = c .before .before .before .before .before .args in
+    c .done .ensures ∙ ap (doing (withState (a .c) opened)) (c .before .ack-length .ensures) ∙ sym (open-opens (a .c) (c .before .before .before .if1 .taken))
 
 refused-requires : tie.Need-refused-requires
 refused-requires c κs = search needs
@@ -40,6 +48,7 @@ pub open-arrives-spec : {M : Type 1} → statement M
 open-arrives-spec =
     tie.close
     (tie.spec
+    ack-length-requires
     done-requires
     returns
     refused-requires

@@ -26,7 +26,7 @@ add-octets : tie.Need-add-octets
 add-octets c = search needs
 
 add-slots : tie.Need-add-slots
-add-slots c = search needs
+add-slots c = omega (arith, c .before .before .before .before .before .pre .0 .slots, c .before .before .before .before .before .good .1 .1 .1 .1 .0)
 
 sub-hand-step : tie.Need-sub-hand-step
 sub-hand-step c = search needs
@@ -38,7 +38,7 @@ part-hand-step-end : tie.Need-part-hand-step-end
 part-hand-step-end c = search needs
 
 mul-hand-step : tie.Need-mul-hand-step
-mul-hand-step c = search needs
+mul-hand-step c = omega (arith, c .before .before .before .before .before .before .pre .0 .slots, c .before .before .before .before .before .before .good .1 .1 .1 .1 .0)
 
 sub-hand-step-2 : tie.Need-sub-hand-step-2
 sub-hand-step-2 c = search needs

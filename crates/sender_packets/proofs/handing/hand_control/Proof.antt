@@ -36,9 +36,9 @@ slice-aggregate-send c = search needs
 send-requires : tie.Need-send-requires
 send-requires c κs =
     let a = c .before .before .before .before .before .before .args in
-    subst (λ (f : Fields). Plain f 0)
+    subst (λ (f : Fields). Plain (a .c .addresses) f 0)
     (sym (c .before .before .before .outgoing .ensures ∙ ap (λ (k : Kind). outgoingOf (a .node) (a .c .addresses) k 3 0) (c .before .before .before .before .control-kind .ensures)))
-    (control-plain (a .node) (a .c .addresses) (a .c .phase .state))
+    (control-plain (a .node) (a .c .addresses) (c .before .before .before .before .before .before .pre) (a .c .phase .state))
 
 same-length : tie.Need-same-length
 same-length c = search needs
@@ -47,7 +47,7 @@ returns : tie.Need-returns
 returns c =
     let a = c .before .before .before .before .before .before .before .before .before .args in (
       c .before .before .send .ensures .0 ∙ ap (λ (x : Channel). sentStep (a .c) x 0 (length (a .out .now))) (c .before .before .before .before .before .control-out .ensures),
-      c .before .before .send .ensures .1 ∙ ap (λ (f : Fields). sentOut f [] (a .out .now)) (c .before .before .before .before .before .before .outgoing .ensures ∙ ap (λ (k : Kind). outgoingOf (c .before .before .before .before .before .before .before .before .before .args .node) (c .before .before .before .before .before .before .before .before .before .args .c .addresses) k 3 0) (c .before .before .before .before .before .before .before .control-kind .ensures)),
+      c .before .before .send .ensures .1 ∙ ap (λ (f : Fields). sentOut (a .c .addresses) f [] (a .out .now)) (c .before .before .before .before .before .before .outgoing .ensures ∙ ap (λ (k : Kind). outgoingOf (c .before .before .before .before .before .before .before .before .before .args .node) (c .before .before .before .before .before .before .before .before .before .args .c .addresses) k 3 0) (c .before .before .before .before .before .before .before .control-kind .ensures)),
     )
 
 pub hand-control-spec : {M : Type 1} → statement M

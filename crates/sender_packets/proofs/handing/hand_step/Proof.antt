@@ -9,7 +9,7 @@ use Rattle.slots.specs.Slots.{segmentIn}
 use Rattle.channel.specs.Places.{slotOf}
 use Rattle.sender.specs.Directives.{placeAt}
 use Rattle.sender_packets.specs.HandingOut.{againAt, dataFields, sentStep, sentOut, handStep, handOut}
-use Rattle.channel.proofs.StandingLaws.{ringed}
+use Rattle.channel.proofs.StandingLaws.{ringed, own-fits}
 use Rattle.sender_packets.proofs.LyingLaws.{segment-sized}
 use Rattle.sender_packets.proofs.HandLaws.{rank-1-is, rank-2-is, hand-control, hand-again, hand-new, out-control, out-again, out-new}
 use borrow.Author.Needs.{needs}
@@ -24,7 +24,7 @@ use Rattle.sender_packets.proofs.handing.hand_data.Reads as hand-data-r
 use Rattle.sender_packets.proofs.handing.new_out.Reads as new-out-reads
 
 hand-control-requires : tie.Need-hand-control-requires
-hand-control-requires c κs = search needs
+hand-control-requires c κs = let a = c .before .before .before .before .before .args in own-fits (a .c) (a .lens .now) (c .before .before .before .before .before .pre .0 .standing)
 
 same-length : tie.Need-same-length
 same-length c = search needs
@@ -68,7 +68,7 @@ returns-2 c =
           ∙ sym (hand-again (a .node) k (a .lens .now) (a .mem .now) (a .out .now))
           ∙ ap (λ (x : ℕ). handStep k (a .lens .now) x (length (a .out .now))) e,
       c .before .before .hand-data .ensures .1
-          ∙ ap (λ (i : ℕ). sentOut (dataFields (a .node) k i) (segmentIn (k .limits .payload) (a .mem .now) (a .lens .now) (slotOf k (placeAt k i))) (a .out .now)) (c .before .before .before .before .before .again-at .ensures)
+          ∙ ap (λ (i : ℕ). sentOut (k .addresses) (dataFields (a .node) k i) (segmentIn (k .limits .payload) (a .mem .now) (a .lens .now) (slotOf k (placeAt k i))) (a .out .now)) (c .before .before .before .before .before .again-at .ensures)
           ∙ sym (out-again (a .node) k (a .lens .now) (a .mem .now) (a .out .now) (segment-sized k (a .mem .now) (a .lens .now) (c .before .before .before .before .before .before .before .before .before .before .before .pre .0) (againAt k) less))
           ∙ ap (λ (x : ℕ). handOut (a .node) k (a .lens .now) (a .mem .now) x (a .out .now)) e,
     )

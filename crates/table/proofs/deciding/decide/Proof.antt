@@ -38,7 +38,10 @@ refuse-requires-2 : tie.Need-refuse-requires-2
 refuse-requires-2 c κs = search needs
 
 returns-3 : tie.Need-returns-3
-returns-3 c = let a = c .before .before .before .before .before .before .args in let s : isSound (a .v) (a .n) (a .m) (a .l) ≡ true = sym (c .before .before .before .before .before .is-sound .ensures) ∙ not-false _ (c .before .before .before .before .if1 .left) in c .refuse2 .ensures ∙ ap (λ (z : Refusal). refusedBy (a .v) (a .n) z) (c .before .refusal .ensures) ∙ sym (decided-none (a .v) (a .n) (a .m) (a .l) s (c .before .before .if2 .left))
+returns-3 c =
+    let a = c .before .before .before .before .before .before .before .args in
+    let s : isSound (a .v) (a .n) (a .m) (a .l) ≡ true = sym (c .before .before .before .before .before .before .is-sound .ensures) ∙ not-false _ (c .before .before .before .before .before .if1 .left) in
+    c .refuse2 .ensures ∙ ap (λ (z : Refusal). refusedBy (a .v) (a .n) z) (c .before .refusal .ensures) ∙ sym (decided-none (a .v) (a .n) (a .m) (a .l) s (c .before .before .before .if2 .left))
 
 pub decide-spec : {M : Type 1} → statement M
 decide-spec =

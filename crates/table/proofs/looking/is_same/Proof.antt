@@ -6,11 +6,13 @@ use lib.Dec.{eqb}
 use Rattle.table.specs.Looking.{looksFor, same}
 use Rattle.table.proofs.OneLaws.{same-rest}
 use Rattle.laws.proofs.Settle.{settle}
+use borrow.Author.Tests.{not-true, not-false}
 use borrow.Author.Needs.{needs}
 use Rattle.table.proofs.looking.is_same.Statement.{statement}
 use Rattle.table.proofs.looking.is_same.Tie as tie
 use Rattle.table.proofs.looking.is_same.Reads as reads
 use Rattle.table.proofs.looking.is_same.Lts as lts
+use Rattle.channel.proofs.prefixes.is_same.Reads as prefixes-is-same-reads
 use Rattle.packet.proofs.kinds.kind_of.Reads as kind-of-reads
 use Rattle.table.proofs.looking.looks_for.Reads as looks-for-reads
 
@@ -22,18 +24,26 @@ returns-2 : tie.Need-returns-2
 unfolding same
 returns-2 c = search settle
 
+is-same-requires : tie.Need-is-same-requires
+is-same-requires c κs = search needs
+
+returns-3 : tie.Need-returns-3
+unfolding same
+returns-3 c = let s = sym (c .before .is-same .ensures) ∙ not-true _ (c .if3 .taken) in rw (s) (search settle)
+
 kind-of-requires : tie.Need-kind-of-requires
 kind-of-requires c κs = search needs
 
 looks-for-requires : tie.Need-looks-for-requires
 looks-for-requires c κs = search needs
 
-returns-3 : tie.Need-returns-3
-returns-3 c =
-    let a = c .before .before .before .before .before .before .before .before .before .args in
+returns-4 : tie.Need-returns-4
+returns-4 c =
+    let a = c .before .before .before .before .before .before .before .before .before .before .before .args in
     let looks = c .before .looks-for .ensures ∙ ap looksFor (c .before .before .kind-of .ensures) in
+    let s = sym (c .before .before .before .before .is-same .ensures) ∙ not-false _ (c .before .before .before .if3 .left) in
     ap (λ (z : ℕ). eqb (a .a .direction) z) looks
-    ∙ sym (same-rest (a .a) (a .f) (c .before .before .before .before .before .before .if1 .left) (c .before .before .before .if2 .left))
+    ∙ sym (same-rest (a .a) (a .f) (a .prefix) (c .before .before .before .before .before .before .before .before .if1 .left) (c .before .before .before .before .before .if2 .left) s)
 
 pub is-same-spec : {M : Type 1} → statement M
-is-same-spec = tie.close (tie.spec returns returns-2 kind-of-requires looks-for-requires returns-3)
+is-same-spec = tie.close (tie.spec returns returns-2 is-same-requires returns-3 kind-of-requires looks-for-requires returns-4)

@@ -47,7 +47,8 @@ fn a_reply_buffer_under_12_octets_gives_11() {
     assert_eq!(rig.node.arrival(&alone(OPEN, 0), &mut reply).number, 0);
 }
 
-/// 1 before 2: a packet that is too long has a wrong trailer as well.
+/// 1 before 2: a packet that is too long has a wrong trailer as well. A prefix
+/// that is announced and missing is 1, too.
 #[test]
 fn length_before_crc() {
     let mut rig = Rig::receiving(RECEIVING);
@@ -56,6 +57,8 @@ fn length_before_crc() {
     packet.push(0);
     assert_eq!(rig.arrive(&packet), 1);
     assert_eq!(rig.arrive(&packet[..11]), 1);
+    let missing = changed(&whole(1, b"abc"), &[(8, 1)]);
+    assert_eq!(rig.arrive(&missing), 1);
 }
 
 /// 2 before 4, 4 before 3.
@@ -64,7 +67,6 @@ fn crc_before_base_before_header() {
     let mut rig = Rig::receiving(RECEIVING);
     let cases = [
         (changed(&whole(1, b""), &[(2, 0x78)]), 4),
-        (changed(&whole(1, b""), &[(8, 0x01)]), 4),
         (changed(&whole(1, b""), &[(2, 0x5C)]), 4),
         (changed(&whole(1, b""), &[(2, 0x9D), (0, 9)]), 4),
         (changed(&whole(1, b""), &[(2, 0x98)]), 3),
@@ -93,7 +95,8 @@ fn a_packet_for_another_node_gives_3() {
 }
 
 /// "Data and Control look for a receiving record, Acks for a sending one; none
-/// found is 14." A record has its channel number, remote address and direction.
+/// found is 14." A record has its channel number, remote address, remote prefix
+/// and direction.
 #[test]
 fn no_record_for_the_packet_gives_14() {
     let mut rig = Rig::receiving(RECEIVING);

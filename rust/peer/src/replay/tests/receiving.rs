@@ -216,7 +216,7 @@ fn headers() {
         (wrong_crc, 2),
         (changed(&good, 2, 0x5C), 4),
         (changed(&good, 2, 0x78), 4),
-        (changed(&good, 8, 0x0F), 4),
+        (changed(&good, 8, 0x0F), 1),
         (changed(&good, 2, 0x18), 3),
         (changed(&good, 2, 0x1E), 4),
         (changed(&good, 8, 0x80), 3),

@@ -1,0 +1,82 @@
+-- `arrivals::data::reply_length` meets its contract: by the packet's kind.
+-- Assumes nothing.
+use mathlib.Core.Path.{_≡_, sym, ap, _∙_}
+use Rattle.packet.specs.declared.kinds.Kind.{Kind}
+use Rattle.arrivals.specs.Data.{replyLength}
+use borrow.Author.Needs.{needs}
+use Rattle.arrivals.proofs.data.reply_length.Statement.{statement}
+use Rattle.arrivals.proofs.data.reply_length.Tie as tie
+use Rattle.arrivals.proofs.data.reply_length.Reads as reads
+use Rattle.arrivals.proofs.data.reply_length.Lts as lts
+use Rattle.receiver.proofs.leaving.ack_length.Reads as ack-length-reads
+
+enum-told : tie.Need-enum-told
+enum-told c = search needs
+
+ack-length-requires : tie.Need-ack-length-requires
+ack-length-requires c κs = search needs
+
+enum-told-2 : tie.Need-enum-told-2
+enum-told-2 c = search needs
+
+enum-told-3 : tie.Need-enum-told-3
+enum-told-3 c = search needs
+
+ack-length-requires-2 : tie.Need-ack-length-requires-2
+ack-length-requires-2 c κs = search needs
+
+enum-told-4 : tie.Need-enum-told-4
+enum-told-4 c = search needs
+
+ack-length-requires-3 : tie.Need-ack-length-requires-3
+ack-length-requires-3 c κs = search needs
+
+enum-told-5 : tie.Need-enum-told-5
+enum-told-5 c = search needs
+
+enum-told-6 : tie.Need-enum-told-6
+enum-told-6 c = search needs
+
+returns : tie.Need-returns
+returns c =
+    let a = c .before .before .before .args in
+    c .ack-length .ensures ∙ sym (ap (λ (z : Kind). replyLength (a .c) z) (c .before .enum-told .given .1))
+
+returns-2 : tie.Need-returns-2
+returns-2 c = search needs
+
+returns-3 : tie.Need-returns-3
+returns-3 c =
+    let a = c .before .before .before .args in
+    c .ack-length2 .ensures ∙ sym (ap (λ (z : Kind). replyLength (a .c) z) (c .before .enum-told3 .given .1))
+
+returns-4 : tie.Need-returns-4
+returns-4 c =
+    let a = c .before .before .before .args in
+    c .ack-length3 .ensures ∙ sym (ap (λ (z : Kind). replyLength (a .c) z) (c .before .enum-told4 .given .1))
+
+returns-5 : tie.Need-returns-5
+returns-5 c = search needs
+
+returns-6 : tie.Need-returns-6
+returns-6 c = search needs
+
+pub reply-length-spec : {M : Type 1} → statement M
+reply-length-spec =
+    tie.close
+    (tie.spec
+    enum-told
+    ack-length-requires
+    enum-told-2
+    enum-told-3
+    ack-length-requires-2
+    enum-told-4
+    ack-length-requires-3
+    enum-told-5
+    enum-told-6
+    returns
+    returns-2
+    returns-3
+    returns-4
+    returns-5
+    returns-6)
