@@ -5,19 +5,23 @@
  *   - each pointer is good for its count of elements, and aligned; with a count of 0 it is not followed;
  *   - what a call may change (a pointer without const) overlaps nothing else that is lent to the same call;
  *   - no other thread uses what is lent while the call runs. Calls on other tables may run at the same time;
- *   - the stack has room: 16 KB do. Up to 13.7 KB was measured for a call (tests/c/stack.c), which is no proved bound.
+ *   - the stack has room: 16 KB do. Up to 13.8 KB was measured for a call (tests/c/stack.c), which is no proved bound.
  * Any octets, any records, any counts may be lent: what is wrong is refused by number and never undefined.
  *
- * A node is lent in three parts, the same ones in every call:
+ * A node is lent in four parts, the same ones in every call:
  *   table    1 to 16 records, one for each channel; a call's index counts from 0
  *   memory   exactly slots * payload octets for each record, one after another in table order
  *   lengths  exactly one 16-bit number for each slot, in table order
- * Every call but peat_settings first tests these sizes, and the standing condition of each record (docs/CONDITION.md): else 13.
+ *   lines    exactly 51 octets, 17 for each of three ranks (Control, resent Data, new Data): how many channels stand in that line, 0 to 16,
+ *            then their indexes from the head on, none of them twice, then zeros. peat_settings empties them. So far nobody stands in
+ *            them, and the next packet does not go by them
+ * Every call but peat_settings first tests these sizes, the lines, and the standing condition of each record (docs/CONDITION.md): else 13.
  *
- * A refusal is any answer but 0, 9 and 15. It leaves table, memory, lengths and buffer as they were, to the last octet. A call that writes
- * a packet, a reply or a unit writes it at the front of the lent buffer and leaves the octets past its end. No call but peat_settings and
- * peat_tick changes another channel than the one it serves, whose index the answer tells. peat_transfer and peat_arrival alone change
- * memory or lengths: the other calls that take them without const go through the same function, and leave them as they were.
+ * A refusal is any answer but 0, 9 and 15. It leaves table, memory, lengths, lines and buffer as they were, to the last octet. A call that
+ * writes a packet, a reply or a unit writes it at the front of the lent buffer and leaves the octets past its end. No call but peat_settings
+ * and peat_tick changes another channel than the one it serves, whose index the answer tells. peat_transfer and peat_arrival alone change
+ * memory or lengths: the other calls that take them without const go through the same function, and leave them as they were. So far
+ * peat_settings alone changes the lines.
  *
  * With 11 the answer's length says how many octets were wanted, and none was written: what is to be read from a buffer, or sent, is told
  * by 0 and 15 alone.
@@ -41,55 +45,57 @@ extern "C" {
 /* ---- the node ---- */
 
 /* Makes the table afresh, one record of each of the settings, CLOSED and empty. It reads no old record, and alone may drop held units. The
- * memory and lengths are only measured: their octets may be anything.
+ * memory and lengths are only measured: their octets may be anything, and so may those of the lines, which it sets to 0.
  *   13  not 1 to 16 settings; not as many as records; one out of its bounds, a prefix too; two that agree in channel, remote, direction and
- *       remote prefix; memory or lengths not of their size
- *   0   else */
+ *       remote prefix; memory, lengths or lines not of their size
+ *   0   else, and the lines are empty */
 PeatSaid peat_settings(PeatChannel *table, size_t records, const uint8_t *memory, size_t octets, const uint16_t *lengths, size_t slots,
-                       const PeatSettings *settings, size_t count);
+                       uint8_t *lines, size_t line_octets, const PeatSettings *settings, size_t count);
 
 /* An Open directive for the channel of this index.
- *   13, 14  sizes or records; no record has the index
+ *   13, 14  sizes, lines or records; no record has the index
  *   5       the channel is not CLOSED
  *   10      units are unreclaimed (sender) or untaken (receiver)
  *   0       ENABLED, a new opening: window start 1, no mark, no timer, no reason; at a sender an Open is ready */
-PeatSaid peat_open(PeatChannel *table, size_t records, uint8_t *memory, size_t octets, uint16_t *lengths, size_t slots, size_t index);
+PeatSaid peat_open(PeatChannel *table, size_t records, uint8_t *memory, size_t octets, uint16_t *lengths, size_t slots, uint8_t *lines,
+                   size_t line_octets, size_t index);
 
 /* A Close directive.
  *   13, 14  as above
  *   5       a receiver; a sender in CLOSED or CLOSING; one in ENABLED that keeps a Close already
  *   0       in ENABLED: kept until the Open is acknowledged. In OPEN: CLOSING, a Close is ready, no Data goes out any more; every
  *           unconfirmed unit is still held, whole */
-PeatSaid peat_close(PeatChannel *table, size_t records, uint8_t *memory, size_t octets, uint16_t *lengths, size_t slots, size_t index);
+PeatSaid peat_close(PeatChannel *table, size_t records, uint8_t *memory, size_t octets, uint16_t *lengths, size_t slots, uint8_t *lines,
+                    size_t line_octets, size_t index);
 
 /* A unit of any length, 0 too, for a sender to hold and send. The unit is only read, and need not be kept.
  *   13, 14  as above
  *   5       a receiver; a sender that is not OPEN
  *   6, 7    the unit has over M segments; slots held and slots needed are over the slots
  *   0       accepted: its segments lie in the memory, with their lengths; a slot's octets past its segment stay */
-PeatSaid peat_transfer(PeatChannel *table, size_t records, uint8_t *memory, size_t octets, uint16_t *lengths, size_t slots,
-                       size_t index, const uint8_t *unit, size_t count);
+PeatSaid peat_transfer(PeatChannel *table, size_t records, uint8_t *memory, size_t octets, uint16_t *lengths, size_t slots, uint8_t *lines,
+                       size_t line_octets, size_t index, const uint8_t *unit, size_t count);
 
 /* What peat_transfer would answer now to a unit of count octets: 13, 14, 5, 6, 7 or 0, by the same tests. Nothing changes, whatever the
  * answer. */
 PeatSaid peat_would_transfer(PeatChannel *table, size_t records, uint8_t *memory, size_t octets, uint16_t *lengths, size_t slots,
-                             size_t index, size_t count);
+                             uint8_t *lines, size_t line_octets, size_t index, size_t count);
 
 /* The oldest complete unit of a receiver, in any state.
  *   13, 14  as above
  *   5       a sender
  *   12, 11  no complete unit is held; it is longer than the buffer, and still held: length tells its octets
  *   0       the unit at the front of out, its octets counted by length; its slots are free */
-PeatSaid peat_take(PeatChannel *table, size_t records, uint8_t *memory, size_t octets, uint16_t *lengths, size_t slots,
-                   size_t index, uint8_t *out, size_t count);
+PeatSaid peat_take(PeatChannel *table, size_t records, uint8_t *memory, size_t octets, uint16_t *lengths, size_t slots, uint8_t *lines,
+                   size_t line_octets, size_t index, uint8_t *out, size_t count);
 
 /* The oldest unit of a sender in CLOSED that was not confirmed, whole.
  *   13, 14  as above
  *   5       a receiver; a sender that is not CLOSED
  *   12, 11  no unit is held; it is longer than the buffer, and still held: length tells its octets
  *   0       the unit at the front of out, its octets counted by length; its slots are free */
-PeatSaid peat_reclaim(PeatChannel *table, size_t records, uint8_t *memory, size_t octets, uint16_t *lengths, size_t slots,
-                      size_t index, uint8_t *out, size_t count);
+PeatSaid peat_reclaim(PeatChannel *table, size_t records, uint8_t *memory, size_t octets, uint16_t *lengths, size_t slots, uint8_t *lines,
+                      size_t line_octets, size_t index, uint8_t *out, size_t count);
 
 /* The packet that goes out next: Control before resent Data before new Data; among channels of equal rank the lowest index; within a
  * channel the lowest segment. 12 + N + P octets hold any packet of a channel whose own prefix has N.
@@ -98,7 +104,7 @@ PeatSaid peat_reclaim(PeatChannel *table, size_t records, uint8_t *memory, size_
  *   11      the one that goes next is longer than the buffer, and is still ready: length tells its octets, index whose it is
  *   0       the packet at the front of out, its octets counted by length; its timer runs from the timeout on */
 PeatSaid peat_next_packet(PeatChannel *table, size_t records, uint8_t *memory, size_t octets, uint16_t *lengths, size_t slots,
-                          PeatNode node, uint8_t *out, size_t count);
+                          uint8_t *lines, size_t line_octets, PeatNode node, uint8_t *out, size_t count);
 
 /* A packet that came in: any octets, any number of them. The packet is only read. With 0 or 15 and a length other than 0 the reply is to be
  * sent: it has 12 + N octets, N being those of the channel's own prefix. Up to and with 14 the index is that of no channel, below that of the
@@ -120,8 +126,8 @@ PeatSaid peat_next_packet(PeatChannel *table, size_t records, uint8_t *memory, s
  *           no length has changed
  *   0       Data: filed in its slot, and a Data Ack is the reply. Open or Close: its state, and a Control Ack is the reply. A Control Ack:
  *           its state, no reply. A Data Ack: recorded, no reply; confirmed tells how many units it confirmed, whose slots are free */
-PeatSaid peat_arrival(PeatChannel *table, size_t records, uint8_t *memory, size_t octets, uint16_t *lengths, size_t slots,
-                      PeatNode node, const uint8_t *packet, size_t packet_count, uint8_t *reply, size_t reply_count);
+PeatSaid peat_arrival(PeatChannel *table, size_t records, uint8_t *memory, size_t octets, uint16_t *lengths, size_t slots, uint8_t *lines,
+                      size_t line_octets, PeatNode node, const uint8_t *packet, size_t packet_count, uint8_t *reply, size_t reply_count);
 
 /* One tick of every timer of every channel: a packet whose timer ends is ready again, or with no resend left its channel goes inactive; a
  * receiver whose close timer ends is CLOSED.
@@ -129,7 +135,8 @@ PeatSaid peat_arrival(PeatChannel *table, size_t records, uint8_t *memory, size_
  *   9   some channel went inactive, by its retries; all were ticked, and each record says its own reason. Units are still held. The index
  *       is the lowest of those that went inactive in this tick, and the reason is that channel's
  *   0   all were ticked; the index is that of no channel */
-PeatSaid peat_tick(PeatChannel *table, size_t records, const uint8_t *memory, size_t octets, const uint16_t *lengths, size_t slots);
+PeatSaid peat_tick(PeatChannel *table, size_t records, const uint8_t *memory, size_t octets, const uint16_t *lengths, size_t slots,
+                   uint8_t *lines, size_t line_octets);
 
 /* ---- the packet alone ----
  * Nothing of a node is asked: addresses and protocol ID are plain fields. */

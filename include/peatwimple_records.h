@@ -22,7 +22,7 @@ enum {
     PEAT_UNTAKEN = 10,   /* units are untaken or unreclaimed */
     PEAT_SMALL = 11,     /* the lent buffer is too small */
     PEAT_NOTHING = 12,   /* there is nothing to hand out */
-    PEAT_SETTINGS = 13,  /* bad settings, sizes that do not fit, or a record that lacks its standing condition */
+    PEAT_SETTINGS = 13,  /* bad settings, sizes that do not fit, lines that are not sound, or a record that lacks its standing condition */
     PEAT_NO_CHANNEL = 14, /* no such channel */
     PEAT_REPEATED = 15,  /* acknowledged, not accepted */
     PEAT_IGNORED = 16    /* the ack is ignored */
@@ -54,6 +54,7 @@ enum { PEAT_CONTINUATION = 0, PEAT_FIRST = 1, PEAT_LAST = 2, PEAT_WHOLE = 3 };
 #define PEAT_VERSION 1    /* what every packet has */
 #define PEAT_PROTOCOL 5   /* the protocol ID of SpaceWire-R (000, 4.2.3.3), unless the node is set otherwise */
 #define PEAT_RECORDS 16   /* most records in a table */
+#define PEAT_LINES 51     /* octets of the lines */
 #define PEAT_SLOTS 128    /* slots that a record has a mark for, used or not */
 #define PEAT_PREFIX 15    /* most octets of a prefix */
 #define PEAT_ACK_OCTETS 12 /* room that every reply buffer needs; of a channel whose own prefix has N octets a reply needs 12 + N */

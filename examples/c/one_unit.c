@@ -15,9 +15,10 @@ typedef struct End {
     PeatChannel table[1];
     uint8_t memory[SLOTS * PAYLOAD];
     uint16_t lengths[SLOTS];
+    uint8_t lines[PEAT_LINES];
 } End;
 
-#define LENT(end) (end)->table, 1, (end)->memory, sizeof (end)->memory, (end)->lengths, SLOTS
+#define LENT(end) (end)->table, 1, (end)->memory, sizeof (end)->memory, (end)->lengths, SLOTS, (end)->lines, PEAT_LINES
 
 static PeatSaid expect(const char *what, PeatSaid said) {
     if (said.number != PEAT_DONE) {

@@ -12,7 +12,7 @@ static int says(PeatSaid said, uint32_t number, size_t index) {
     return said.number == number && said.reason == 0 && said.length == 0 && said.confirmed == 0 && said.index == index;
 }
 
-#define NONE NULL, 0, NULL, 0, NULL, 0
+#define NONE NULL, 0, NULL, 0, NULL, 0, NULL, 0
 
 static void nothing_is_lent(void) {
     CHECK(says(peat_settings(NONE, NULL, 0), PEAT_SETTINGS, 0));
@@ -29,14 +29,14 @@ static void nothing_is_lent(void) {
     CHECK(peat_write_packet(FIELDS, NULL, 0, NULL, 0, NULL, 0).length == 12);
 }
 
-#define LENT table, 17, memory, sizeof memory, lengths, 4
+#define LENT table, 17, memory, sizeof memory, lengths, 4, lines, PEAT_LINES
 
 /* Octets of any value as records, one more than a table may have. */
 static void never_set(int octet) {
     static PeatChannel table[17], before[17];
     uint8_t memory[8] = {0};
     uint16_t lengths[4] = {0};
-    uint8_t packet[12] = {0}, out[16] = {0}, clear[16] = {0};
+    uint8_t lines[PEAT_LINES] = {0}, packet[12] = {0}, out[16] = {0}, clear[16] = {0};
 
     memset(table, octet, sizeof table);
     memset(before, octet, sizeof before);
@@ -44,20 +44,20 @@ static void never_set(int octet) {
     CHECK(says(peat_transfer(LENT, 0, packet, 1), PEAT_SETTINGS, 17));
     CHECK(says(peat_next_packet(LENT, NODE, out, sizeof out), PEAT_SETTINGS, 17));
     CHECK(says(peat_arrival(LENT, NODE, packet, sizeof packet, out, sizeof out), PEAT_SETTINGS, 17));
-    CHECK(says(peat_tick(table, 1, memory, sizeof memory, lengths, 4), PEAT_SETTINGS, 1));
+    CHECK(says(peat_tick(table, 1, memory, sizeof memory, lengths, 4, lines, PEAT_LINES), PEAT_SETTINGS, 1));
     CHECK(memcmp(table, before, sizeof table) == 0);
     CHECK(memcmp(out, clear, sizeof out) == 0);
 }
 
 #undef LENT
-#define LENT table, 2, memory, sizeof memory, lengths, 4
+#define LENT table, 2, memory, sizeof memory, lengths, 4, lines, PEAT_LINES
 
 /* The next packet to the node itself, and its ack. Gives how many units that confirmed. */
-static size_t exchange(PeatChannel *table, uint8_t memory[4], uint16_t *lengths) {
+static size_t exchange(PeatChannel *table, uint8_t memory[4], uint16_t *lengths, uint8_t *lines) {
     uint8_t packet[16], ack[12];
-    PeatSaid out = peat_next_packet(table, 2, memory, 4, lengths, 4, NODE, packet, sizeof packet);
-    PeatSaid there = peat_arrival(table, 2, memory, 4, lengths, 4, NODE, packet, out.length, ack, sizeof ack);
-    PeatSaid back = peat_arrival(table, 2, memory, 4, lengths, 4, NODE, ack, there.length, packet, sizeof packet);
+    PeatSaid out = peat_next_packet(table, 2, memory, 4, lengths, 4, lines, PEAT_LINES, NODE, packet, sizeof packet);
+    PeatSaid there = peat_arrival(table, 2, memory, 4, lengths, 4, lines, PEAT_LINES, NODE, packet, out.length, ack, sizeof ack);
+    PeatSaid back = peat_arrival(table, 2, memory, 4, lengths, 4, lines, PEAT_LINES, NODE, ack, there.length, packet, sizeof packet);
     CHECK(out.number == PEAT_DONE && there.number == PEAT_DONE && back.number == PEAT_DONE);
     return back.confirmed;
 }
@@ -68,15 +68,15 @@ static void an_empty_unit(void) {
         {{1, 64, PEAT_RECEIVES, PEAT_NO_PREFIX, PEAT_NO_PREFIX}, {1, 2, 1, 1, 9, 9, 0}},
     };
     static PeatChannel table[2];
-    uint8_t memory[4] = {0};
+    uint8_t memory[4] = {0}, lines[PEAT_LINES] = {0};
     uint16_t lengths[4] = {0};
 
     CHECK(says(peat_settings(LENT, settings, 2), PEAT_DONE, 2));
     CHECK(says(peat_open(LENT, 0), PEAT_DONE, 0));
     CHECK(says(peat_open(LENT, 1), PEAT_DONE, 1));
-    CHECK(exchange(table, memory, lengths) == 0);
+    CHECK(exchange(table, memory, lengths, lines) == 0);
     CHECK(says(peat_transfer(LENT, 0, NULL, 0), PEAT_DONE, 0));
-    CHECK(exchange(table, memory, lengths) == 1);
+    CHECK(exchange(table, memory, lengths, lines) == 1);
     CHECK(says(peat_take(LENT, 1, NULL, 0), PEAT_DONE, 1));
     CHECK(says(peat_take(LENT, 1, NULL, 0), PEAT_NOTHING, 1));
 }

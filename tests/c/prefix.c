@@ -16,8 +16,9 @@ static const uint8_t FAR[2] = {7, 0};
 static PeatChannel table[RECORDS];
 static uint8_t memory[OCTETS];
 static uint16_t lengths[LENGTHS];
+static uint8_t lines[PEAT_LINES];
 
-#define LENT table, RECORDS, memory, OCTETS, lengths, LENGTHS
+#define LENT table, RECORDS, memory, OCTETS, lengths, LENGTHS, lines, PEAT_LINES
 #define FAR_PREFIX {2, {7, 0}}
 #define OWN_PREFIX {OWN, {1, 2, 3}}
 #define LIMITS {1, SLOTS, PAYLOAD, 1, 9, 9, 0}

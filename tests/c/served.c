@@ -12,8 +12,9 @@ static const PeatNode NODE = {64, PEAT_PROTOCOL};
 static PeatChannel table[RECORDS];
 static uint8_t memory[OCTETS];
 static uint16_t lengths[LENGTHS];
+static uint8_t lines[PEAT_LINES];
 
-#define LENT table, RECORDS, memory, OCTETS, lengths, LENGTHS
+#define LENT table, RECORDS, memory, OCTETS, lengths, LENGTHS, lines, PEAT_LINES
 
 static int says(PeatSaid said, uint32_t number, size_t index) {
     return said.number == number && said.index == index;
@@ -114,7 +115,7 @@ static void the_question(void) {
     CHECK(says(peat_would_transfer(LENT, 0, 16), PEAT_DONE, 0));
     CHECK(says(peat_would_transfer(LENT, 3, 0), PEAT_STATE, 3));
     CHECK(says(peat_would_transfer(LENT, SIZE_MAX, 0), PEAT_NO_CHANNEL, RECORDS));
-    CHECK(says(peat_would_transfer(table, 3, memory, OCTETS, lengths, LENGTHS, 0, 0), PEAT_SETTINGS, 3));
+    CHECK(says(peat_would_transfer(table, 3, memory, OCTETS, lengths, LENGTHS, lines, PEAT_LINES, 0, 0), PEAT_SETTINGS, 3));
     CHECK(memcmp(memory_before, memory, OCTETS) == 0);
     asked(17, PEAT_LONG);
     asked(9, PEAT_DONE);

@@ -17,13 +17,14 @@ static PeatSettings settings[RECORDS];
 static PeatChannel table[RECORDS];
 static uint8_t memory[OCTETS];
 static uint16_t lengths[LENGTHS];
+static uint8_t lines[PEAT_LINES];
 static uint8_t packet[12 + PEAT_PREFIX + PAYLOAD], reply[PEAT_ACK_OCTETS + PEAT_PREFIX], unit[3 * PAYLOAD];
 
 /* What the last call answered, and the octets of the packet that was handed out last. */
 static uint32_t answer;
 static size_t packet_octets;
 
-#define LENT table, RECORDS, memory, OCTETS, lengths, LENGTHS
+#define LENT table, RECORDS, memory, OCTETS, lengths, LENGTHS, lines, PEAT_LINES
 #define LONGEST {PEAT_PREFIX, {1, 2, 3, 4, 5, 6, 7, 8, 9, 10, 11, 12, 13, 14, 15}}
 
 /* The last record sends to the first, and what they exchange goes through every step that files, sends, acknowledges and gathers. */

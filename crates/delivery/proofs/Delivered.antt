@@ -15,17 +15,17 @@ module _ (h s : End) (fresh-h : Fresh h) (fresh-s : Fresh s) (alike : Alike h s)
   abbrev Known : List Event → End → End → Type 0
   Known = Holds h s fresh-h fresh-s alike
 
-  module _ (past : List Event) (t : List Channel) (mem lens : List ℕ) (n : ℕ) (u : List Channel) (mem2 lens2 : List ℕ) (m : ℕ) where
+  module _ (past : List Event) (t : List Channel) (mem lens lines : List ℕ) (n : ℕ) (u : List Channel) (mem2 lens2 lines2 : List ℕ) (m : ℕ) where
     abbrev now : Run
-    now = record { past = past; host = endWith h t mem lens n; subscriber = endWith s u mem2 lens2 m }
+    now = record { past = past; host = endWith h t mem lens lines n; subscriber = endWith s u mem2 lens2 lines2 m }
 
-    keeps : Known past (endWith h t mem lens n) (endWith s u mem2 lens2 m) → (side : Side) (r : Request) (copy : ℕ)
+    keeps : Known past (endWith h t mem lens lines n) (endWith s u mem2 lens2 lines2 m) → (side : Side) (r : Request) (copy : ℕ)
         → Fair h s now (record { side = side; request = r; copyOf = copy })
         → Known (eventOf now (record { side = side; request = r; copyOf = copy }) ∷ past) (step now (record { side = side; request = r; copyOf = copy }) .host) (step now (record { side = side; request = r; copyOf = copy }) .subscriber)
     keeps k host r copy fair =
         let x = k .at-host in
         let y = k .at-subscriber in
-        let z = host-call h s fresh-h fresh-s alike past (k .sender) (k .receiver) (k .inv) (k .numbered) t mem lens n x r copy (fair .at-host) (fair .opens-host) in
+        let z = host-call h s fresh-h fresh-s alike past (k .sender) (k .receiver) (k .inv) (k .numbered) t mem lens lines n x r copy (fair .at-host) (fair .opens-host) in
         record {
           sender = z .sender;
           receiver = k .receiver;
@@ -33,7 +33,7 @@ module _ (h s : End) (fresh-h : Fresh h) (fresh-s : Fresh s) (alike : Alike h s)
           numbered = z .numbered;
           at-host =
               record {
-                kept = kept-called h t mem lens n (x .kept) (r .kind) r;
+                kept = kept-called h t mem lens lines n (x .kept) (r .kind) r;
                 means = z .means;
                 counted = z .counted;
                 waits = z .waits;
@@ -43,7 +43,7 @@ module _ (h s : End) (fresh-h : Fresh h) (fresh-s : Fresh s) (alike : Alike h s)
     keeps k subscriber r copy fair =
         let x = k .at-host in
         let y = k .at-subscriber in
-        let z = subscriber-call h s fresh-h fresh-s alike past (k .sender) (k .receiver) (k .inv) (k .numbered) u mem2 lens2 m y r copy (fair .at-subscriber) (fair .opens-subscriber) in
+        let z = subscriber-call h s fresh-h fresh-s alike past (k .sender) (k .receiver) (k .inv) (k .numbered) u mem2 lens2 lines2 m y r copy (fair .at-subscriber) (fair .opens-subscriber) in
         record {
           sender = k .sender;
           receiver = z .receiver;
@@ -52,7 +52,7 @@ module _ (h s : End) (fresh-h : Fresh h) (fresh-s : Fresh s) (alike : Alike h s)
           at-host = record { kept = x .kept; means = x .means; counted = x .counted; waits = x .waits };
           at-subscriber =
               record {
-                kept = kept-called s u mem2 lens2 m (y .kept) (r .kind) r;
+                kept = kept-called s u mem2 lens2 lines2 m (y .kept) (r .kind) r;
                 means = z .means;
                 counted = z .counted;
                 waits = z .waits;
@@ -62,26 +62,26 @@ module _ (h s : End) (fresh-h : Fresh h) (fresh-s : Fresh s) (alike : Alike h s)
   -- what is claimed after any calls that are fair, where so much is known
   abbrev Claim : List Call → Type 0
   Claim l =
-      (past : List Event) (t : List Channel) (mem lens : List ℕ) (n : ℕ) (u : List Channel) (mem2 lens2 : List ℕ) (m : ℕ)
-      → Known past (endWith h t mem lens n) (endWith s u mem2 lens2 m)
-      → AllFair h s (now past t mem lens n u mem2 lens2 m) l
-      → Delivered h s (run (now past t mem lens n u mem2 lens2 m) l)
+      (past : List Event) (t : List Channel) (mem lens lines : List ℕ) (n : ℕ) (u : List Channel) (mem2 lens2 lines2 : List ℕ) (m : ℕ)
+      → Known past (endWith h t mem lens lines n) (endWith s u mem2 lens2 lines2 m)
+      → AllFair h s (now past t mem lens lines n u mem2 lens2 lines2 m) l
+      → Delivered h s (run (now past t mem lens lines n u mem2 lens2 lines2 m) l)
 
   one-more : (side : Side) (r : Request) (copy : ℕ) (l : List Call) → Claim l → Claim (record { side = side; request = r; copyOf = copy } ∷ l)
-  one-more host r copy l rest past t mem lens n u mem2 lens2 m k fair =
-      let w = step (now past t mem lens n u mem2 lens2 m) (record { side = host; request = r; copyOf = copy }) in
-      rest (w .past) (w .host .table) (w .host .mem) (w .host .lens) (w .host .start) u mem2 lens2 m
-      (keeps past t mem lens n u mem2 lens2 m k host r copy (fair .0)) (fair .1)
-  one-more subscriber r copy l rest past t mem lens n u mem2 lens2 m k fair =
-      let w = step (now past t mem lens n u mem2 lens2 m) (record { side = subscriber; request = r; copyOf = copy }) in
-      rest (w .past) t mem lens n (w .subscriber .table) (w .subscriber .mem) (w .subscriber .lens) (w .subscriber .start)
-      (keeps past t mem lens n u mem2 lens2 m k subscriber r copy (fair .0)) (fair .1)
+  one-more host r copy l rest past t mem lens lines n u mem2 lens2 lines2 m k fair =
+      let w = step (now past t mem lens lines n u mem2 lens2 lines2 m) (record { side = host; request = r; copyOf = copy }) in
+      rest (w .past) (w .host .table) (w .host .mem) (w .host .lens) (w .host .lines) (w .host .start) u mem2 lens2 lines2 m
+      (keeps past t mem lens lines n u mem2 lens2 lines2 m k host r copy (fair .0)) (fair .1)
+  one-more subscriber r copy l rest past t mem lens lines n u mem2 lens2 lines2 m k fair =
+      let w = step (now past t mem lens lines n u mem2 lens2 lines2 m) (record { side = subscriber; request = r; copyOf = copy }) in
+      rest (w .past) t mem lens lines n (w .subscriber .table) (w .subscriber .mem) (w .subscriber .lens) (w .subscriber .lines) (w .subscriber .start)
+      (keeps past t mem lens lines n u mem2 lens2 lines2 m k subscriber r copy (fair .0)) (fair .1)
 
   after-all : (l : List Call) → Claim l
-  after-all [] = λ past t mem lens n u mem2 lens2 m k fair. delivered h s fresh-h fresh-s alike past t mem lens n u mem2 lens2 m k
+  after-all [] = λ past t mem lens lines n u mem2 lens2 lines2 m k fair. delivered h s fresh-h fresh-s alike past t mem lens lines n u mem2 lens2 lines2 m k
   after-all (c ∷ l) = one-more (c .side) (c .request) (c .copyOf) l (after-all l)
 
 -- Demand 3
 pub demand-3 : Demand3
 demand-3 h s fresh-h fresh-s alike l fair =
-    after-all h s fresh-h fresh-s alike l [] (h .table) (h .mem) (h .lens) (h .start) (s .table) (s .mem) (s .lens) (s .start) (begins h s fresh-h fresh-s alike) fair
+    after-all h s fresh-h fresh-s alike l [] (h .table) (h .mem) (h .lens) (h .lines) (h .start) (s .table) (s .mem) (s .lens) (s .lines) (s .start) (begins h s fresh-h fresh-s alike) fair

@@ -38,26 +38,26 @@ apart s e j i a b other =
     (λ q. clash-swap (getD s j unset .addresses) (getD s i unset .addresses) ∙ table-apart s unset e i j q a)
     (either-side j i other)
 
-settled-fits : (t : List Channel) (mem lens : List ℕ) (s : List Settings) → settled t mem lens s ≡ true → fitTable s ≡ true
+settled-fits : (t : List Channel) (mem lens lines : List ℕ) (s : List Settings) → settled t mem lens lines s ≡ true → fitTable s ≡ true
 unfolding settled
-settled-fits t mem lens s e = both _ _ (both _ _ (both _ _ e .0) .0) .0
+settled-fits t mem lens lines s e = both _ _ (both _ _ (both _ _ (both _ _ e .0) .0) .0) .0
 
-pub settings-fresh : (node : Node) (t : List Channel) (mem lens : List ℕ) (s : List Settings) → settled t mem lens s ≡ true
+pub settings-fresh : (node : Node) (t : List Channel) (mem lens lines : List ℕ) (s : List Settings) → settled t mem lens lines s ≡ true
     → (i : ℕ) → i < length s
-    → Fresh (record { node = node; table = configured t mem lens s .table; mem = mem; lens = lens; index = i; start = 0 })
-settings-fresh node t mem lens s e i h =
-    let c = settings-closed t mem lens s e in
-    let d : configured t mem lens s .table ≡ madeTable s = ap (λ (w : Changed Answer Channel). w .table) (settings-done t mem lens s e) in
-    let own : (j : ℕ) → j < length s → recordAt (configured t mem lens s .table) j .addresses ≡ getD s j unset .addresses
+    → Fresh (record { node = node; table = configured t mem lens lines s .table; mem = mem; lens = lens; lines = configured t mem lens lines s .lines; index = i; start = 0 })
+settings-fresh node t mem lens lines s e i h =
+    let c = settings-closed t mem lens lines s e in
+    let d : configured t mem lens lines s .table ≡ madeTable s = ap (λ (w : Changed Answer Channel). w .table) (settings-done t mem lens lines s e) in
+    let own : (j : ℕ) → j < length s → recordAt (configured t mem lens lines s .table) j .addresses ≡ getD s j unset .addresses
     = λ j less. c .1 j less .addresses
     in
     record {
-      stands = settings-lawful t mem lens s e;
+      stands = settings-lawful t mem lens lines s e;
       wide = subst Wide (sym d) (made-wide s);
       below = subst (λ (n : ℕ). i < n) (sym (c .0)) h;
       alone = λ j less other.
           let there : j < length s = subst (λ (n : ℕ). j < n) (c .0) less in
-          ap₂ clash (own j there) (own i h) ∙ apart s (settled-fits t mem lens s e) j i there h other;
+          ap₂ clash (own j there) (own i h) ∙ apart s (settled-fits t mem lens lines s e) j i there h other;
       state = c .1 i h .state;
       empty = c .1 i h .held;
       start = refl;

@@ -37,7 +37,7 @@ use Rattle.channel.proofs.StandingLaws.{counted-is, own-fits}
 use Rattle.sender.specs.Directives.{placeAt}
 use Rattle.sender_packets.specs.Asked.{Ready, Plain}
 use Rattle.sender_packets.specs.HandingOut.{againAt, controlFields, dataFields, segmentFor, nextFields, nextPayload, nextOut, nextLength, handStep, handOut}
-use Rattle.sender_packets.proofs.HandLaws.{rank-1-is, rank-2-is, control-plain, data-plain}
+use Rattle.sender_packets.proofs.HandLaws.{ready-as, ready-1-is, ready-2-is, control-plain, data-plain}
 use Rattle.sender_packets.proofs.LyingLaws.{lying, segment-sized}
 use Rattle.requests.specs.Handing.{nextFor}
 
@@ -104,12 +104,12 @@ module _ (node : Node) (c : Channel) (mem lens : List ℕ) (a : Asked c mem lens
       go : (b : Bool) → eqb rank 1 ≡ b → (if b then againAt c else c .window .flight) < c .window .ahead
       go true e =
           let n = counted-is (c .limits) (c .window) (a .standing .ring) (a .standing .flight) in
-          omega (arith, n .flight, rank-1-is c (sym (ready .is) ∙ eqb-true rank 1 e))
+          omega (arith, n .flight, ready-1-is c (ready-as c (eqb-true rank 1 e) (ready .is)))
       go false e =
           let not-one = eqb-false rank 1 e in
           let below = ready .some in
           let two : rank ≡ 2 = omega (arith, some, not-one, below) in
-          rank-2-is c (sym (ready .is) ∙ two) .0
+          ready-2-is c (ready-as c two (ready .is)) .0
 
   -- what is written is plain, and of the length that was reckoned
   pub next-plain : Plain (c .addresses) (nextFields node c rank) (length (nextPayload c lens mem rank)) × (nextLength c lens rank ≡ outgoingLength (c .addresses) (length (nextPayload c lens mem rank)))

@@ -89,14 +89,14 @@ module _ (L : Limits) (x : Sender) where
   acked-count true false i m = omega arith
   acked-count true true i m = refl
 
-module _ {h s : End} {past : List Event} {x : Sender} {y : Receiver} {t : List Channel} {mem lens : List ℕ} {n : ℕ}
-    (k : HostAt h s past x y t mem lens n) (copy i : ℕ) (u b : List ℕ) where
+module _ {h s : End} {past : List Event} {x : Sender} {y : Receiver} {t : List Channel} {mem lens lines : List ℕ} {n : ℕ}
+    (k : HostAt h s past x y t mem lens lines n) (copy i : ℕ) (u b : List ℕ) where
   abbrev request : Request
   request = asking arrives i u b
 
   -- what the link must have shown
   abbrev pub FairReply : Type 0
-  FairReply = names h u ≡ true → Replied s past copy u × (IsDataAck u → NotLate (endWith h t mem lens n) copy)
+  FairReply = names h u ≡ true → Replied s past copy u × (IsDataAck u → NotLate (endWith h t mem lens lines n) copy)
 
   confirms : (m : ℕ) (v : Bool) → (v ≡ true → m ≡ 0) → (if v then confirmed h past + m else confirmed h past) ≡ confirmed h past
   confirms m true e = omega (arith, e refl)
@@ -129,7 +129,7 @@ module _ {h s : End} {past : List Event} {x : Sender} {y : Receiver} {t : List C
   abbrev number : ℕ
   number = fieldsAt u .number
 
-  ack-own : names h u ≡ true → IsDataAck u → Replied s past copy u → NotLate (endWith h t mem lens n) copy
+  ack-own : names h u ≡ true → IsDataAck u → Replied s past copy u → NotLate (endWith h t mem lens lines n) copy
       → Next k request copy (dataAckStep (own k) number .answer) b (dataAckStep (own k) number .channel) (octets k) (lengths k)
   ack-own named kind replied late =
       let a = dataAckStep (own k) number .answer in
@@ -223,9 +223,9 @@ module _ {h s : End} {past : List Event} {x : Sender} {y : Receiver} {t : List C
       as-kind packet-kind.Close is = absurd (omega (arith, looks packet-kind.Close is))
       as-kind (packet-kind.Lacking code) is = absurd (omega (arith, looks (packet-kind.Lacking code) is))
 
-  pub host-arrives : FairReply → Seen (Next k request copy) (h .index) (served t mem lens (Arrival (h .node)) u b)
+  pub host-arrives : FairReply → Seen (Next k request copy) (h .index) (served t mem lens lines (Arrival (h .node)) u b)
   host-arrives fair =
-      own-cases looked (arrivalFor (h .node) u) t mem lens b (shapes looked (arrivalFor (h .node) u) b (arrival-keeps (h .node) u b)) (h .index) (own-below k)
+      own-cases looked (arrivalFor (h .node) u) t mem lens lines b (shapes looked (arrivalFor (h .node) u) b (arrival-keeps (h .node) u b)) (h .index) (own-below k)
       (Next k request copy)
       (λ why. arrive-quiet (Refused why) b (λ _. refl))
       (λ j there apart at g. arrive-elsewhere j there apart _ _ _ g _ _)

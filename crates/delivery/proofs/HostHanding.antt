@@ -51,7 +51,7 @@ use Rattle.means.proofs.Sends.{Sends, state-opened}
 use Rattle.means.proofs.Handing.{DataOut, control-out-sends, data-out-sends}
 use Rattle.delivery.specs.Calls.{End, hands, Request, channelOf}
 use Rattle.delivery.specs.History.{Event, names, IsData, Toward, segmentOf}
-use Rattle.delivery.proofs.Nodes.{same-addresses, own-asked, index-is}
+use Rattle.delivery.proofs.Nodes.{same-addresses, own-asked}
 use Rattle.delivery.proofs.Known.{Out, limits}
 use Rattle.delivery.proofs.Counting.{distance-on}
 use Rattle.delivery.proofs.HostFrame.{hostEvent, host-next}
@@ -78,8 +78,8 @@ number-on : (start i d : ℕ) → start ≡ numberAt i → (start + d) % 256 ≡
 unfolding numberAt
 number-on start i d e = omega (arith, e)
 
-module _ {h s : End} {past : List Event} {x : Sender} {y : Receiver} {t : List Channel} {mem lens : List ℕ} {n : ℕ}
-    (k : HostAt h s past x y t mem lens n) (copy i : ℕ) (u b : List ℕ) where
+module _ {h s : End} {past : List Event} {x : Sender} {y : Receiver} {t : List Channel} {mem lens lines : List ℕ} {n : ℕ}
+    (k : HostAt h s past x y t mem lens lines n) (copy i : ℕ) (u b : List ℕ) where
   abbrev request : Request
   request = asking hands i u b
 
@@ -231,14 +231,14 @@ module _ {h s : End} {past : List Event} {x : Sender} {y : Receiver} {t : List C
           (hand-control z o (subst (λ (r : ℕ). Carries (h .node) (own k) (octets k) (lengths k) r (take z o)) e carries))
       by-rank z o carries false q = hand-data r ready (eqb-false r 0 q) z o carries
 
-  pub host-hands : Seen (Next k request copy) (h .index) (served t mem lens (NextPacket (h .node)) u b)
+  pub host-hands : Seen (Next k request copy) (h .index) (served t mem lens lines (NextPacket (h .node)) u b)
   host-hands =
-      own-cases (seeking sought.Ready) (nextFor (h .node)) t mem lens b (shapes (seeking sought.Ready) (nextFor (h .node)) b (next-keeps (h .node) b)) (h .index) (own-below k)
+      own-cases (seeking sought.Ready) (nextFor (h .node)) t mem lens lines b (shapes (seeking sought.Ready) (nextFor (h .node)) b (next-keeps (h .node) b)) (h .index) (own-below k)
       (Next k request copy)
       (λ why. hand-refused why b)
       (λ j there apart at g.
       let r = ready-is (recordAt t j) (choice (seeking sought.Ready) t .rank) (g .suits) (g .found) in
-      hand-elsewhere j there apart (index-is (seeking sought.Ready) t mem lens j (k .now .kept .stands) (g .found) at) (choice (seeking sought.Ready) t .rank) (r .0) (r .1))
+      hand-elsewhere j there apart at (choice (seeking sought.Ready) t .rank) (r .0) (r .1))
       (λ at g.
       let r = ready-is (own k) (choice (seeking sought.Ready) t .rank) (g .suits) (g .found) in
       hand-own (choice (seeking sought.Ready) t .rank) (r .1))

@@ -37,7 +37,7 @@ abbrev pub asking : Kind → ℕ → List ℕ → List ℕ → Request
 asking kind i u b = record { kind = kind; channel = i; octets = u; buffer = b }
 
 -- all that is known of the host before a call
-pub record HostAt (h s : End) (past : List Event) (x : Sender) (y : Receiver) (t : List Channel) (mem lens : List ℕ) (n : ℕ) : Type 0 where
+pub record HostAt (h s : End) (past : List Event) (x : Sender) (y : Receiver) (t : List Channel) (mem lens lines : List ℕ) (n : ℕ) : Type 0 where
   pub fresh-host : Fresh h
   pub alike : Alike h s
   pub inv : InvOf h s past x y
@@ -49,8 +49,8 @@ pub none-opened : (b : Bool) (k : ℕ) → (if b then suc k else k) ≡ 0 → k 
 none-opened true k e = absurd (omega arith)
 none-opened false k e = e
 
-module _ {h s : End} {past : List Event} {x : Sender} {y : Receiver} {t : List Channel} {mem lens : List ℕ} {n : ℕ}
-    (k : HostAt h s past x y t mem lens n) where
+module _ {h s : End} {past : List Event} {x : Sender} {y : Receiver} {t : List Channel} {mem lens lines : List ℕ} {n : ℕ}
+    (k : HostAt h s past x y t mem lens lines n) where
   -- ---- the channel that is watched
 
   abbrev pub own : Channel
@@ -91,7 +91,7 @@ module _ {h s : End} {past : List Event} {x : Sender} {y : Receiver} {t : List C
 
   -- the index that a call tells
   abbrev pub indexFor : Request → ℕ
-  indexFor r = indexTold (endWith h t mem lens n) r
+  indexFor r = indexTold (endWith h t mem lens lines n) r
 
   abbrev pub Next : Request → ℕ → View
   Next r copy a o c m l = HostNext h s past y (hostEvent r copy n (indexFor r) a o) n own c m l

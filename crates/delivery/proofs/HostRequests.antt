@@ -55,8 +55,8 @@ pub data Named : Kind → Type 0 where
   a-takes : Named takes
   a-reclaims : Named reclaims
 
-module _ {h s : End} {past : List Event} {x : Sender} {y : Receiver} {t : List Channel} {mem lens : List ℕ} {n : ℕ}
-    (k : HostAt h s past x y t mem lens n) where
+module _ {h s : End} {past : List Event} {x : Sender} {y : Receiver} {t : List Channel} {mem lens lines : List ℕ} {n : ℕ}
+    (k : HostAt h s past x y t mem lens lines n) where
   -- for another channel, or refused
   pub request-quiet : {kind : Kind} → Named kind → (copy i : ℕ) (u b : List ℕ) (a : Answer) (o : List ℕ)
       → (eqb i (h .index) && eqb (numberOf a) 0) ≡ false
@@ -73,12 +73,12 @@ module _ {h s : End} {past : List Event} {x : Sender} {y : Receiver} {t : List C
   pub by-index : (P : View) (i : ℕ) (step : Step) (out : List ℕ) → Shapes (seeking (Index i)) step out
       → ((a : Answer) (o : List ℕ) → (eqb i (h .index) && eqb (numberOf a) 0) ≡ false → P a o (own k) (octets k) (lengths k))
       → (i ≡ h .index → (rank : ℕ) → Left P (step (own k) rank (octets k) (lengths k) out))
-      → Seen P (h .index) (serveOne (seeking (Index i)) step t mem lens out)
+      → Seen P (h .index) (serveOne (seeking (Index i)) step t mem lens lines out)
   by-index P i step out shaped quiet mine =
-      own-cases (seeking (Index i)) step t mem lens out shaped (h .index) (own-below k) P
+      own-cases (seeking (Index i)) step t mem lens lines out shaped (h .index) (own-below k) P
       (λ why. quiet (Refused why) out (last-not (eqb i (h .index)) (eqb (numberOf (Refused why)) 0) (refused-not-done why)))
       (λ j there apart at g.
-      let w = workedAt (seeking (Index i)) step t mem lens out shaped (h .index) (own-below k) j in
+      let w = workedAt (seeking (Index i)) step t mem lens lines out shaped (h .index) (own-below k) j in
       quiet (w .made .answer) (w .out)
       (ap (λ (q : Bool). q && eqb (numberOf (w .made .answer)) 0) (ne-eqb i (h .index) (λ q. apart (index-served i j _ _ _ _ g ∙ q)))))
       (λ at g. mine (sym (index-served i (h .index) _ _ _ _ g)) _)
@@ -91,8 +91,8 @@ open-enables c =
     open-cases c (λ (s : Stepped). eqb (numberOf (s .answer)) 0 ≡ true → s .channel .phase .state ≡ state.enabled)
     (λ e. absurd (true≢false (sym e))) (λ e. absurd (true≢false (sym e))) (λ e. refl)
 
-module _ {h s : End} {past : List Event} {x : Sender} {y : Receiver} {t : List Channel} {mem lens : List ℕ} {n : ℕ}
-    (k : HostAt h s past x y t mem lens n) where
+module _ {h s : End} {past : List Event} {x : Sender} {y : Receiver} {t : List Channel} {mem lens lines : List ℕ} {n : ℕ}
+    (k : HostAt h s past x y t mem lens lines n) where
   own-opens : (copy i : ℕ) (u b o : List ℕ) → i ≡ h .index
       → (eqb (numberOf (sender.openStep (own k) .answer)) 0 ≡ true → openings host (h .index) past ≡ 0)
       → Next k (asking opens i u b) copy (sender.openStep (own k) .answer) o (sender.openStep (own k) .channel) (octets k) (lengths k)
@@ -124,9 +124,9 @@ module _ {h s : End} {past : List Event} {x : Sender} {y : Receiver} {t : List C
           (λ z. absurd (omega (arith, z, counted)))
 
   pub host-opens : (copy i : ℕ) (u b : List ℕ)
-      → (granted host opens (h .index) (hostEvent (asking opens i u b) copy n (indexFor k (asking opens i u b)) (served t mem lens (Open i) u b .answer) (served t mem lens (Open i) u b .out)) ≡ true
+      → (granted host opens (h .index) (hostEvent (asking opens i u b) copy n (indexFor k (asking opens i u b)) (served t mem lens lines (Open i) u b .answer) (served t mem lens lines (Open i) u b .out)) ≡ true
       → openings host (h .index) past ≡ 0)
-      → Seen (Next k (asking opens i u b) copy) (h .index) (served t mem lens (Open i) u b)
+      → Seen (Next k (asking opens i u b) copy) (h .index) (served t mem lens lines (Open i) u b)
   host-opens copy i u b =
       by-index k Once i (alone openedBy) b (shapes (seeking (Index i)) (alone openedBy) b (open-keeps (seeking (Index i)) b))
       (λ a o q once. request-quiet k an-opens copy i u b a o q)
@@ -141,7 +141,7 @@ module _ {h s : End} {past : List Event} {x : Sender} {y : Receiver} {t : List C
 
   -- ---- the Close directive
 
-  pub host-closes : (copy i : ℕ) (u b : List ℕ) → Seen (Next k (asking closes i u b) copy) (h .index) (served t mem lens (Close i) u b)
+  pub host-closes : (copy i : ℕ) (u b : List ℕ) → Seen (Next k (asking closes i u b) copy) (h .index) (served t mem lens lines (Close i) u b)
   host-closes copy i u b =
       let P = Next k (asking closes i u b) copy in
       by-index k P i (alone closedBy) b (shapes (seeking (Index i)) (alone closedBy) b (close-keeps (seeking (Index i)) b))
@@ -156,7 +156,7 @@ module _ {h s : End} {past : List Event} {x : Sender} {y : Receiver} {t : List C
   ask-quiet : (copy i : ℕ) (u b : List ℕ) (a : Answer) (o : List ℕ) → Next k (asking asks i u b) copy a o (own k) (octets k) (lengths k)
   ask-quiet copy i u b a o = stays-so k (asking asks i u b) copy a o refl refl refl (λ packet q. absurd (true≢false (sym q)))
 
-  pub host-asks : (copy i : ℕ) (u b : List ℕ) → Seen (Next k (asking asks i u b) copy) (h .index) (served t mem lens (WouldTransfer i (length u)) u b)
+  pub host-asks : (copy i : ℕ) (u b : List ℕ) → Seen (Next k (asking asks i u b) copy) (h .index) (served t mem lens lines (WouldTransfer i (length u)) u b)
   unfolding askedBy
   host-asks copy i u b =
       by-index k (Next k (asking asks i u b) copy) i (alone (askedBy (length u))) b
@@ -166,9 +166,9 @@ module _ {h s : End} {past : List Event} {x : Sender} {y : Receiver} {t : List C
 
   -- ---- and a request that is none
 
-  pub host-strays : (copy i : ℕ) (u b : List ℕ) → Seen (Next k (asking strays i u b) copy) (h .index) (served t mem lens Unknown u b)
+  pub host-strays : (copy i : ℕ) (u b : List ℕ) → Seen (Next k (asking strays i u b) copy) (h .index) (served t mem lens lines Unknown u b)
   host-strays copy i u b =
-      own-cases none refuses t mem lens b (shapes none refuses b (unknown-keeps none b)) (h .index) (own-below k) (Next k (asking strays i u b) copy)
+      own-cases none refuses t mem lens lines b (shapes none refuses b (unknown-keeps none b)) (h .index) (own-below k) (Next k (asking strays i u b) copy)
       (λ why. nothing (Refused why) b)
       (λ j there apart at g. nothing (Refused refusal.NoChannel) b)
       (λ at g. nothing (Refused refusal.NoChannel) b)
@@ -190,7 +190,7 @@ module _ {h s : End} {past : List Event} {x : Sender} {y : Receiver} {t : List C
       passed-by (eqb (c .addresses .direction) receives) (works (takeStep c l (length o)) m l (takeOut c l m o)) (works (refusing c refusal.State) m l o)
       (ne-eqb (c .addresses .direction) receives (λ q. omega (arith, q, d)))
 
-  pub host-takes : (copy i : ℕ) (u b : List ℕ) → Seen (Next k (asking takes i u b) copy) (h .index) (served t mem lens (Take i) u b)
+  pub host-takes : (copy i : ℕ) (u b : List ℕ) → Seen (Next k (asking takes i u b) copy) (h .index) (served t mem lens lines (Take i) u b)
   host-takes copy i u b =
       let P = Next k (asking takes i u b) copy in
       by-index k P i takeFor b (shapes (seeking (Index i)) takeFor b (take-keeps (seeking (Index i)) b))

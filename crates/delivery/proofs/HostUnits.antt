@@ -52,8 +52,8 @@ use Rattle.delivery.proofs.HostNow.{HostAt, asking, own, octets, length
 
 -- ---- a unit is handed over
 
-module _ {h s : End} {past : List Event} {x : Sender} {y : Receiver} {t : List Channel} {mem lens : List ℕ} {n : ℕ}
-    (k : HostAt h s past x y t mem lens n) where
+module _ {h s : End} {past : List Event} {x : Sender} {y : Receiver} {t : List Channel} {mem lens lines : List ℕ} {n : ℕ}
+    (k : HostAt h s past x y t mem lens lines n) where
   taken-start : (a b d : Bool) (l : List Segment) → sending.transferred a b d x l .0 .start ≡ x .start
   taken-start false b d l = refl
   taken-start true false d l = refl
@@ -106,7 +106,7 @@ module _ {h s : End} {past : List Event} {x : Sender} {y : Receiver} {t : List C
       chosen (eqb (c .addresses .direction) sends) (works (transferStep c (length u)) (transferMem c u m) (transferLens c u l) o)
       (works (refusing c refusal.State) m l o) (eq-eqb (c .addresses .direction) sends d)
 
-  pub host-transfers : (copy i : ℕ) (u b : List ℕ) → Seen (Next k (asking transfers i u b) copy) (h .index) (served t mem lens (Transfer i) u b)
+  pub host-transfers : (copy i : ℕ) (u b : List ℕ) → Seen (Next k (asking transfers i u b) copy) (h .index) (served t mem lens lines (Transfer i) u b)
   host-transfers copy i u b =
       let P = Next k (asking transfers i u b) copy in
       by-index k P i (transferFor u) b (transfer-shapes (seeking (Index i)) u b)
@@ -130,8 +130,8 @@ laid-first : (out u : List ℕ) → take (length u) (laid out 0 u) ≡ u
 unfolding laid
 laid-first out u = take-at u (drop (0 + length u) out) (length u) refl
 
-module _ {h s : End} {past : List Event} {x : Sender} {y : Receiver} {t : List Channel} {mem lens : List ℕ} {n : ℕ}
-    (k : HostAt h s past x y t mem lens n) where
+module _ {h s : End} {past : List Event} {x : Sender} {y : Receiver} {t : List Channel} {mem lens lines : List ℕ} {n : ℕ}
+    (k : HostAt h s past x y t mem lens lines n) where
   given-start : (p : Phase) (l : List DataUnit) → sending.reclaiming p l x .0 .start ≡ x .start
   given-start fresh l = refl
   given-start enabled l = refl
@@ -205,7 +205,7 @@ module _ {h s : End} {past : List Event} {x : Sender} {y : Receiver} {t : List C
       chosen (eqb (c .addresses .direction) sends) (works (reclaimStep c l (length o)) m l (reclaimOut c l m o)) (works (refusing c refusal.State) m l o)
       (eq-eqb (c .addresses .direction) sends d)
 
-  pub host-reclaims : (copy i : ℕ) (u b : List ℕ) → Seen (Next k (asking reclaims i u b) copy) (h .index) (served t mem lens (Reclaim i) u b)
+  pub host-reclaims : (copy i : ℕ) (u b : List ℕ) → Seen (Next k (asking reclaims i u b) copy) (h .index) (served t mem lens lines (Reclaim i) u b)
   host-reclaims copy i u b =
       let P = Next k (asking reclaims i u b) copy in
       by-index k P i reclaimFor b (shapes (seeking (Index i)) reclaimFor b (reclaim-keeps (seeking (Index i)) b))

@@ -5,7 +5,6 @@ use mathlib.Core.Bool.{Bool, true, false}
 use mathlib.Core.List.{List, [], _∷_, map}
 use Prim.Native.Nat.{ℕ, zero, suc, _≤_, _<_}
 use native.Mathlib.Omega.{arith}
-use borrow.Author.Tests.{lt-ltb}
 use lib.ListN.{length, drop, getD, length-map, length-drop}
 use lib.Seq.{length-take-le}
 use Rattle.walks.specs.Serving.{Called}
@@ -18,9 +17,7 @@ use Rattle.channel.proofs.SettingsLaws.{fit-is}
 use Rattle.channel.proofs.StandingLaws.{stands-is}
 use Rattle.table.specs.Lent.{areaOf, octetAt, lawful}
 use Rattle.channel.proofs.PrefixLaws.{same-itself}
-use Rattle.table.specs.declared.looking.Look.{Look}
-use Rattle.table.specs.Looking.{chosen as choice}
-use Rattle.table.specs.Serving.{blank, recordAt, ownMem, ownLens, indexServed}
+use Rattle.table.specs.Serving.{blank, recordAt, ownMem, ownLens}
 use Rattle.table.proofs.SurveyLaws.{each-stands}
 use Rattle.table.proofs.ServeLaws.{lawful-is}
 use Rattle.node.specs.declared.request.Request as door
@@ -35,8 +32,8 @@ use Rattle.delivery.specs.Calls.{End, Kind, opens, closes, transfers, as
 use Rattle.delivery.specs.History.{Toward}
 
 -- the node of the beginning, with what is lent now
-abbrev pub endWith : End → List Channel → List ℕ → List ℕ → ℕ → End
-endWith e t mem lens n = record { node = e .node; table = t; mem = mem; lens = lens; index = e .index; start = n }
+abbrev pub endWith : End → List Channel → List ℕ → List ℕ → List ℕ → ℕ → End
+endWith e t mem lens lines n = record { node = e .node; table = t; mem = mem; lens = lens; lines = lines; index = e .index; start = n }
 
 pub record Kept (e : End) (t : List Channel) (mem lens : List ℕ) : Type 0 where
   pub stands : lawful t mem lens ≡ true
@@ -96,19 +93,19 @@ module _ (e : End) (t : List Channel) (mem lens : List ℕ) (k : Kept e t mem le
 stays-on : (t u v : List Channel) → SettingsStay t u → SettingsStay u v → SettingsStay t v
 stays-on t u v a b = (b .0 ∙ a .0, b .1 ∙ a .1)
 
-pub kept-called : (e : End) (t : List Channel) (mem lens : List ℕ) (n : ℕ) → Kept e t mem lens → (kind : Kind) (r : Request)
-    → KeptBy e (calledBy kind (endWith e t mem lens n) r)
-kept-called e t mem lens n k kind r = go kind
+pub kept-called : (e : End) (t : List Channel) (mem lens lines : List ℕ) (n : ℕ) → Kept e t mem lens → (kind : Kind) (r : Request)
+    → KeptBy e (calledBy kind (endWith e t mem lens lines n) r)
+kept-called e t mem lens lines n k kind r = go kind
   where
     done : (g : Called Answer Channel) → lawful (g .table) (g .mem) (g .lens) ≡ true → Wide (g .table) → SettingsStay t (g .table) → KeptBy e g
     done g a b c = record { stands = a; wide = b; settings = stays-on (e .table) t (g .table) (k .settings) c }
 
-    by-door : (asked : door.Request) → KeptBy e (atDoor (endWith e t mem lens n) r asked)
+    by-door : (asked : door.Request) → KeptBy e (atDoor (endWith e t mem lens lines n) r asked)
     by-door asked =
-        done (atDoor (endWith e t mem lens n) r asked) (served-lawful t mem lens asked (r .octets) (r .buffer) (k .wide) (k .stands))
-        (served-wide t mem lens asked (r .octets) (r .buffer) (k .wide)) (served-settings-stay t mem lens asked (r .octets) (r .buffer))
+        done (atDoor (endWith e t mem lens lines n) r asked) (served-lawful t mem lens lines asked (r .octets) (r .buffer) (k .wide) (k .stands))
+        (served-wide t mem lens lines asked (r .octets) (r .buffer) (k .wide)) (served-settings-stay t mem lens lines asked (r .octets) (r .buffer))
 
-    go : (kind : Kind) → KeptBy e (calledBy kind (endWith e t mem lens n) r)
+    go : (kind : Kind) → KeptBy e (calledBy kind (endWith e t mem lens lines n) r)
     go opens = by-door (Open (r .channel))
     go closes = by-door (Close (r .channel))
     go transfers = by-door (Transfer (r .channel))
@@ -118,14 +115,7 @@ kept-called e t mem lens n k kind r = go kind
     go hands = by-door (NextPacket (e .node))
     go arrives = by-door (Arrival (e .node))
     go strays = by-door Unknown
-    go ticks = done (calledBy ticks (endWith e t mem lens n) r) (tick-lawful t mem lens (k .stands)) (tick-wide t mem lens (k .wide)) (tick-settings-stay t mem lens)
-
--- ---- the index that is told
-
-pub index-is : (look : Look) (t : List Channel) (mem lens : List ℕ) (j : ℕ) → lawful t mem lens ≡ true → choice look t .rank < 3 → choice look t .at ≡ j
-    → indexServed look t mem lens ≡ j
-unfolding indexServed
-index-is look t mem lens j e found at = simp (e, lt-ltb (choice look t .rank) 3 found) at
+    go ticks = done (calledBy ticks (endWith e t mem lens lines n) r) (tick-lawful t mem lens lines (k .stands)) (tick-wide t mem lens lines (k .wide)) (tick-settings-stay t mem lens lines)
 
 -- a packet of the watched channel goes where its packets go
 pub toward-itself : (e : End) (j : ℕ) → j ≡ e .index → Toward e j

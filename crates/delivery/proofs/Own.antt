@@ -5,7 +5,7 @@ use mathlib.Core.Path.{_≡_, refl, sym, ap, _∙_, subst}
 use mathlib.Core.Bool.{Bool, true, false}
 use mathlib.Core.List.{List}
 use Prim.Native.Nat.{ℕ, _<_}
-use borrow.Author.Tests.{eqb-true, eqb-false}
+use borrow.Author.Tests.{eqb-true, eqb-false, lt-ltb}
 use lib.Dec.{eqb}
 use lib.ListN.{length}
 use Rattle.walks.specs.Serving.{Worked, Called, leaves}
@@ -17,10 +17,11 @@ use Rattle.channel.specs.declared.answer.Refusal.the-variants as refusal
 use Rattle.channel.specs.declared.step.Stepped.{Stepped}
 use Rattle.table.specs.declared.looking.Look.{Look}
 use Rattle.table.specs.Looking.{missing, chosen as choice}
-use Rattle.table.specs.Serving.{recordAt, ownMem, ownLens, Step, stored, serveOne}
+use Rattle.table.specs.Lent.{passes}
+use Rattle.table.specs.Serving.{recordAt, ownMem, ownLens, Step, stored, serveOne, indexServed}
 use Rattle.table.proofs.ServeLaws.{Lawful}
 use Rattle.keeps.specs.Keeping.{Given}
-use Rattle.keeps.proofs.Serving.{serve-cases}
+use Rattle.keeps.proofs.Serving.{serve-cases, serve-unlawful}
 use Rattle.keeps.proofs.Alone.{Shaped, Shapes, stored-others, stored-record, stored-mem, stored-lens}
 
 -- an answer, a buffer, and a channel with its octets and lengths
@@ -40,22 +41,22 @@ shift : (P : View) (r : Answer) (o : List ℕ) {c d : Channel} {m n l k : List �
 shift P r o {c = c} {d = d} {m = m} {n = n} {l = l} {k = k} e f g x =
     subst (λ (z : Channel). P r o z n k) (sym e) (subst (λ (z : List ℕ). P r o c z k) (sym f) (subst (λ (z : List ℕ). P r o c m z) (sym g) x))
 
-module _ (P : View) (t : List Channel) (mem lens : List ℕ) (h : Lawful t mem lens) where
+module _ (P : View) (t : List Channel) (mem lens lines : List ℕ) (h : Lawful t mem lens) where
   -- the record that is stored is what the step left
-  stored-own : (i : ℕ) → i < length t → (w : Worked Stepped) → Shaped (recordAt t i) w → Left P w → Seen P i (stored t mem lens i w)
+  stored-own : (i : ℕ) → i < length t → (w : Worked Stepped) → Shaped (recordAt t i) w → Left P w → Seen P i (stored t mem lens lines i w)
   unfolding stored
   stored-own i below w k x =
-      shift P (w .made .answer) (w .out) (stored-record t mem lens h i below w k) (stored-mem t mem lens h i below w k) (stored-lens t mem lens h i below w k) x
+      shift P (w .made .answer) (w .out) (stored-record t mem lens lines h i below w k) (stored-mem t mem lens lines h i below w k) (stored-lens t mem lens lines h i below w k) x
 
   -- every other is as it was
   stored-other : (i j : ℕ) → i < length t → j < length t → (i ≡ j → ⊥) → (w : Worked Stepped) → Shaped (recordAt t j) w
-      → P (w .made .answer) (w .out) (recordAt t i) (ownMem t i mem) (ownLens t i lens) → Seen P i (stored t mem lens j w)
+      → P (w .made .answer) (w .out) (recordAt t i) (ownMem t i mem) (ownLens t i lens) → Seen P i (stored t mem lens lines j w)
   unfolding stored
   stored-other i j below there apart w k x =
-      let o = stored-others t mem lens h j there w k in
+      let o = stored-others t mem lens lines h j there w k in
       shift P (w .made .answer) (w .out) (o .records i apart) (o .octets i below apart) (o .lengths i below apart) x
 
-module _ (look : Look) (step : Step) (t : List Channel) (mem lens out : List ℕ) (shapes : Shapes look step out) (i : ℕ) (below : i < length t) where
+module _ (look : Look) (step : Step) (t : List Channel) (mem lens lines out : List ℕ) (shapes : Shapes look step out) (i : ℕ) (below : i < length t) where
   -- the step of the channel with index j
   abbrev pub workedAt : ℕ → Worked Stepped
   workedAt j = step (recordAt t j) (choice look t .rank) (ownMem t j mem) (ownLens t j lens) out
@@ -63,25 +64,36 @@ module _ (look : Look) (step : Step) (t : List Channel) (mem lens out : List ℕ
   abbrev pub GivenAt : ℕ → Type 0
   GivenAt j = Given look j (choice look t .rank) (recordAt t j) (ownMem t j mem) (ownLens t j lens)
 
+  -- the index that is told
+  index-is : passes t mem lens lines ≡ true → choice look t .rank < 3 → indexServed look t mem lens lines ≡ choice look t .at
+  unfolding indexServed
+  index-is e found = simp (e, lt-ltb (choice look t .rank) 3 found)
+
   pub own-cases : (P : View)
       → ((why : Refusal) → P (Refused why) out (recordAt t i) (ownMem t i mem) (ownLens t i lens))
-      → ((j : ℕ) → j < length t → (j ≡ i → ⊥) → choice look t .at ≡ j → GivenAt j
+      → ((j : ℕ) → j < length t → (j ≡ i → ⊥) → indexServed look t mem lens lines ≡ j → GivenAt j
       → P (workedAt j .made .answer) (workedAt j .out) (recordAt t i) (ownMem t i mem) (ownLens t i lens))
-      → (choice look t .at ≡ i → GivenAt i → Left P (workedAt i))
-      → Seen P i (serveOne look step t mem lens out)
-  own-cases P bad elsewhere own =
-      serve-cases look step t mem lens out (Seen P i) (bad refusal.Settings) (bad (missing (look .sought))) (λ h there g. go (eqb at i) refl h there g)
+      → (indexServed look t mem lens lines ≡ i → GivenAt i → Left P (workedAt i))
+      → Seen P i (serveOne look step t mem lens lines out)
+  own-cases P bad elsewhere own = by (passes t mem lens lines) refl
     where
       at : ℕ
       at = choice look t .at
 
-      go : (b : Bool) → eqb at i ≡ b → Lawful t mem lens → at < length t → GivenAt at → Seen P i (stored t mem lens at (workedAt at))
-      go true e h there g =
+      go : (b : Bool) → eqb at i ≡ b → indexServed look t mem lens lines ≡ at → Lawful t mem lens → at < length t → GivenAt at
+          → Seen P i (stored t mem lens lines at (workedAt at))
+      go true e told h there g =
           let is : at ≡ i = eqb-true at i e in
-          subst (λ (j : ℕ). Seen P i (stored t mem lens j (workedAt j))) (sym is)
+          subst (λ (j : ℕ). Seen P i (stored t mem lens lines j (workedAt j))) (sym is)
           (let given = subst GivenAt is g in
-          stored-own P t mem lens h i below (workedAt i) (shapes i (choice look t .rank) (recordAt t i) (ownMem t i mem) (ownLens t i lens) given) (own is given))
-      go false e h there g =
+          stored-own P t mem lens lines h i below (workedAt i) (shapes i (choice look t .rank) (recordAt t i) (ownMem t i mem) (ownLens t i lens) given) (own (told ∙ is) given))
+      go false e told h there g =
           let apart : at ≡ i → ⊥ = eqb-false at i e in
-          stored-other P t mem lens h i at below there (λ q. apart (sym q)) (workedAt at)
-          (shapes at (choice look t .rank) (recordAt t at) (ownMem t at mem) (ownLens t at lens) g) (elsewhere at there apart refl g)
+          stored-other P t mem lens lines h i at below there (λ q. apart (sym q)) (workedAt at)
+          (shapes at (choice look t .rank) (recordAt t at) (ownMem t at mem) (ownLens t at lens) g) (elsewhere at there apart told g)
+
+      by : (a : Bool) → passes t mem lens lines ≡ a → Seen P i (serveOne look step t mem lens lines out)
+      by false e = subst (Seen P i) (sym (serve-unlawful look step t mem lens lines out e)) (bad refusal.Settings)
+      by true e =
+          serve-cases look step t mem lens lines out (Seen P i) (bad refusal.Settings) (bad (missing (look .sought)))
+          (λ h there g. go (eqb at i) refl (index-is e (g .found)) h there g)

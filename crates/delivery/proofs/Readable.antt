@@ -26,25 +26,25 @@ use Rattle.delivery.specs.Readable.{HandOutRead, ReplyRead}
 use Rattle.delivery.proofs.Handed.{hand-cases}
 use Rattle.delivery.proofs.Replies.{arrival-wrote}
 
-module _ (t : List Channel) (mem lens : List ℕ) (node : Node) (out : List ℕ) where
-  pub hand-out-read : HandOutRead (nextPacketCall t mem lens node out)
+module _ (t : List Channel) (mem lens lines : List ℕ) (node : Node) (out : List ℕ) where
+  pub hand-out-read : HandOutRead (nextPacketCall t mem lens lines node out)
   unfolding stored
   hand-out-read =
-      serve-cases (seeking sought.Ready) (nextFor node) t mem lens out HandOutRead (λ e. absurd (omega (arith, e))) (λ e. absurd (omega (arith, e)))
+      serve-cases (seeking sought.Ready) (nextFor node) t mem lens lines out HandOutRead (λ e. absurd (omega (arith, e))) (λ e. absurd (omega (arith, e)))
       (λ h below g.
-      let i = servedAt (seeking sought.Ready) (nextFor node) t mem lens out in
+      let i = servedAt (seeking sought.Ready) (nextFor node) t mem lens lines out in
       let asked : Asked (recordAt t i) (ownMem t i mem) (ownLens t i lens) = record { standing = g .standing; sized = g .sized } in
       hand-cases node (recordAt t i) (ownMem t i mem) (ownLens t i lens) asked (choice (seeking sought.Ready) t .rank)
       (ready-is (recordAt t i) (choice (seeking sought.Ready) t .rank) (g .suits) (g .found) .1)
-      (λ (w : Worked Stepped). HandOutRead (stored t mem lens i w)) out
+      (λ (w : Worked Stepped). HandOutRead (stored t mem lens lines i w)) out
       (λ e. absurd (omega (arith, e)))
       (λ n o carries e. ap readNumber (carries .read)))
 
-  pub reply-read : (packet : List ℕ) → ReplyRead (arrivalCall t mem lens node packet out)
+  pub reply-read : (packet : List ℕ) → ReplyRead (arrivalCall t mem lens lines node packet out)
   unfolding stored
   reply-read packet =
-      serve-cases (lookOf node packet (length out)) (arrivalFor node packet) t mem lens out ReplyRead (inl refl) (inl refl)
+      serve-cases (lookOf node packet (length out)) (arrivalFor node packet) t mem lens lines out ReplyRead (inl refl) (inl refl)
       (λ h below g.
-      let i = servedAt (lookOf node packet (length out)) (arrivalFor node packet) t mem lens out in
+      let i = servedAt (lookOf node packet (length out)) (arrivalFor node packet) t mem lens lines out in
       ⊎-elim (λ e. inl e) (⊎-elim (λ a. inr (ap readNumber (a .read))) (λ a. inr (ap readNumber (a .1 .read))))
       (arrival-wrote node packet out i (choice (lookOf node packet (length out)) t .rank) (recordAt t i) (ownMem t i mem) (ownLens t i lens) g))

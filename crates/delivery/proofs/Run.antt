@@ -56,10 +56,10 @@ module _ (h s : End) (fresh-h : Fresh h) (fresh-s : Fresh s) (alike : Alike h s)
       }
 
   -- what it says of deliveries
-  pub delivered : (past : List Event) (t : List Channel) (mem lens : List ℕ) (n : ℕ) (u : List Channel) (mem2 lens2 : List ℕ) (m : ℕ)
-      → Holds past (endWith h t mem lens n) (endWith s u mem2 lens2 m)
-      → Delivered h s (record { past = past; host = endWith h t mem lens n; subscriber = endWith s u mem2 lens2 m })
-  delivered past t mem lens n u mem2 lens2 m k =
+  pub delivered : (past : List Event) (t : List Channel) (mem lens lines : List ℕ) (n : ℕ) (u : List Channel) (mem2 lens2 lines2 : List ℕ) (m : ℕ)
+      → Holds past (endWith h t mem lens lines n) (endWith s u mem2 lens2 lines2 m)
+      → Delivered h s (record { past = past; host = endWith h t mem lens lines n; subscriber = endWith s u mem2 lens2 lines2 m })
+  delivered past t mem lens lines n u mem2 lens2 lines2 m k =
       let x = k .at-host in
       let y = k .at-subscriber in
       let below-h = subst (λ (z : ℕ). suc (h .index) ≤ z) (sym (same-length h t mem lens (x .kept))) (fresh-h .below) in

@@ -53,7 +53,7 @@ use Rattle.delivery.specs.Calls.{End, arrives, Request, channelOf, calle
 use Rattle.delivery.specs.History.{Event, names, IsData, Toward, HandedOut}
 use Rattle.delivery.specs.Delivery.{NotLate}
 use Rattle.delivery.proofs.Own.{Seen, Left, own-cases}
-use Rattle.delivery.proofs.Nodes.{endWith, same-length, same-addresses, index-is, toward-itself}
+use Rattle.delivery.proofs.Nodes.{endWith, same-length, same-addresses, toward-itself}
 use Rattle.delivery.proofs.Packets.{named-is, names-so, equal-clash}
 use Rattle.delivery.proofs.Replies.{control-long, Acks, reply-written, ack-named, arrival-framed, arrival-wrote}
 use Rattle.delivery.proofs.SubscriberData.{data-next}
@@ -61,7 +61,7 @@ use Rattle.delivery.proofs.SubscriberEnd.{Stage, below, addresses-are, 
 
 -- ---- the arrival
 
-module _ {h s : End} {past : List Event} {x : Sender} {y : Receiver} {t : List Channel} {mem lens : List ℕ} {n : ℕ} (w : Stage h s past x y t mem lens n)
+module _ {h s : End} {past : List Event} {x : Sender} {y : Receiver} {t : List Channel} {mem lens lines : List ℕ} {n : ℕ} (w : Stage h s past x y t mem lens lines n)
     (channel : ℕ) (packet buffer : List ℕ) (copy : ℕ) where
   abbrev i : ℕ
   i = s .index
@@ -143,7 +143,7 @@ module _ {h s : End} {past : List Event} {x : Sender} {y : Receiver} {t : List C
 
   -- ---- at the channel itself
 
-  module _ (fair : names s packet ≡ true → HandedOut h past copy packet × (IsData packet → NotLate (endWith s t mem lens n) copy))
+  module _ (fair : names s packet ≡ true → HandedOut h past copy packet × (IsData packet → NotLate (endWith s t mem lens lines n) copy))
       (rank : ℕ) (g : Given look i rank c m l) (toward : Toward s (indexFor w request)) where
     told : Framed c f (payloadAt (prefixAt packet)) count packet buffer
     told = arrival-framed (s .node) packet buffer i rank c m l g
@@ -200,12 +200,12 @@ module _ {h s : End} {past : List Event} {x : Sender} {y : Receiver} {t : List C
     unfolding arrivalFor
     own-arrival = either-way (ltb (length buffer) (replyLength c (kindOf (f .kind)))) small (λ e. by-fit (ltb-false _ _ e) (unfit c f count) refl)
 
-  pub subscriber-arrives : (names s packet ≡ true → HandedOut h past copy packet × (IsData packet → NotLate (endWith s t mem lens n) copy))
-      → Seen (Next w request copy) i (calledBy arrives (endWith s t mem lens n) request)
+  pub subscriber-arrives : (names s packet ≡ true → HandedOut h past copy packet × (IsData packet → NotLate (endWith s t mem lens lines n) copy))
+      → Seen (Next w request copy) i (calledBy arrives (endWith s t mem lens lines n) request)
   subscriber-arrives fair =
-      own-cases look (arrivalFor (s .node) packet) t mem lens buffer (shapes look (arrivalFor (s .node) packet) buffer (arrival-keeps (s .node) packet buffer)) i (below w)
+      own-cases look (arrivalFor (s .node) packet) t mem lens lines buffer (shapes look (arrivalFor (s .node) packet) buffer (arrival-keeps (s .node) packet buffer)) i (below w)
       (Next w request copy)
       (λ why. arrives-quiet (Refused why) buffer (unwritten w request copy (Refused why) buffer refl))
       (λ j there apart at g.
-      elsewhere j there apart (index-is look t mem lens j (w .now .kept .stands) (g .found) at) g (arrivalFor (s .node) packet (recordAt t j) (choice look t .rank) (ownMem t j mem) (ownLens t j lens) buffer) refl)
-      (λ at g. own-arrival fair (choice look t .rank) g (toward-itself s _ (index-is look t mem lens i (w .now .kept .stands) (g .found) at)))
+      elsewhere j there apart at g (arrivalFor (s .node) packet (recordAt t j) (choice look t .rank) (ownMem t j mem) (ownLens t j lens) buffer) refl)
+      (λ at g. own-arrival fair (choice look t .rank) g (toward-itself s _ at))

@@ -23,13 +23,13 @@ use Rattle.delivery.proofs.SubscriberTicks.{subscriber-ticks}
 use Rattle.delivery.proofs.SubscriberArrivals.{subscriber-arrives}
 
 module _ (h s : End) (fresh-h : Fresh h) (fresh-s : Fresh s) (alike : Alike h s) (past : List Event) (x : Sender) (y : Receiver)
-    (v : InvOf h s past x y) (numbered : Numbered h s past) (t : List Channel) (mem lens : List ℕ) (n : ℕ) (now : Subscriber s past t mem lens n y) where
+    (v : InvOf h s past x y) (numbered : Numbered h s past) (t : List Channel) (mem lens lines : List ℕ) (n : ℕ) (now : Subscriber s past t mem lens n y) where
   -- what the call gives, and what it is in the history
   abbrev outcome : Request → Called Answer Channel
-  outcome r = called (endWith s t mem lens n) r
+  outcome r = called (endWith s t mem lens lines n) r
 
   abbrev event : Request → ℕ → Event
-  event r copy = subscriberEvent r copy n (indexTold (endWith s t mem lens n) r) (outcome r .answer) (outcome r .out)
+  event r copy = subscriberEvent r copy n (indexTold (endWith s t mem lens lines n) r) (outcome r .answer) (outcome r .out)
 
   abbrev After : Request → ℕ → Type 0
   After r copy =
@@ -41,12 +41,12 @@ module _ (h s : End) (fresh-h : Fresh h) (fresh-s : Fresh s) (alike : Alike h s)
   FairArrival r copy =
       is subscriber arrives (subscriberCall r copy) ≡ true
       → names s (r .octets) ≡ true
-      → HandedOut h past copy (r .octets) × (IsData (r .octets) → NotLate (endWith s t mem lens n) copy)
+      → HandedOut h past copy (r .octets) × (IsData (r .octets) → NotLate (endWith s t mem lens lines n) copy)
 
   abbrev FairOpening : Request → ℕ → Type 0
   FairOpening r copy = granted subscriber opens (s .index) (event r copy) ≡ true → openings subscriber (s .index) past ≡ 0
 
-  stage : Stage h s past x y t mem lens n
+  stage : Stage h s past x y t mem lens lines n
   stage = record { beginning = fresh-s; alike = alike; inv = v; numbered = numbered; now = now }
 
   pub subscriber-call : (r : Request) (copy : ℕ) → FairArrival r copy → FairOpening r copy → After r copy

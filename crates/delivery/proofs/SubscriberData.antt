@@ -109,7 +109,7 @@ module _ (c : Limits) (r : Receiver) where
 
 -- ---- Data
 
-module _ {h s : End} {past : List Event} {x : Sender} {y : Receiver} {t : List Channel} {mem lens : List ℕ} {n : ℕ} (w : Stage h s past x y t mem lens n)
+module _ {h s : End} {past : List Event} {x : Sender} {y : Receiver} {t : List Channel} {mem lens lines : List ℕ} {n : ℕ} (w : Stage h s past x y t mem lens lines n)
     (channel : ℕ) (packet buffer : List ℕ) (copy : ℕ) where
   abbrev c : Channel
   c = recordAt t (s .index)
@@ -130,7 +130,7 @@ module _ {h s : End} {past : List Event} {x : Sender} {y : Receiver} {t : List C
   request = record { kind = arrives; channel = channel; octets = packet; buffer = buffer }
 
   -- what is known of the packet, and where its reply goes
-  module _ (toward : Toward s (indexFor w request)) (named : names s packet ≡ true) (kind : kindOf (f .kind) ≡ Data) (handed : HandedOut h past copy packet) (late : NotLate (endWith s t mem lens n) copy)
+  module _ (toward : Toward s (indexFor w request)) (named : names s packet ≡ true) (kind : kindOf (f .kind) ≡ Data) (handed : HandedOut h past copy packet) (late : NotLate (endWith s t mem lens lines n) copy)
       (room : ackLength (c .addresses) ≤ length buffer) (few : f .flags < 4) (short : length p ≤ c .limits .payload) where
     abbrev call : ReceiverCall
     call = ReceiverCall.arrival copy (f .number) (carried (f .flags) p)

@@ -76,14 +76,14 @@ rank-fresh shut e = absurd (omega (arith, e))
 
 -- ---- the subscriber before a call
 
-pub record Stage (h s : End) (past : List Event) (x : Sender) (y : Receiver) (t : List Channel) (mem lens : List ℕ) (n : ℕ) : Type 0 where
+pub record Stage (h s : End) (past : List Event) (x : Sender) (y : Receiver) (t : List Channel) (mem lens lines : List ℕ) (n : ℕ) : Type 0 where
   pub beginning : Fresh s
   pub alike : Alike h s
   pub inv : InvOf h s past x y
   pub numbered : Numbered h s past
   pub now : Subscriber s past t mem lens n y
 
-module _ {h s : End} {past : List Event} {x : Sender} {y : Receiver} {t : List Channel} {mem lens : List ℕ} {n : ℕ} (w : Stage h s past x y t mem lens n) where
+module _ {h s : End} {past : List Event} {x : Sender} {y : Receiver} {t : List Channel} {mem lens lines : List ℕ} {n : ℕ} (w : Stage h s past x y t mem lens lines n) where
   -- the record, its octets and its lengths
   abbrev c : Channel
   c = recordAt t (s .index)
@@ -119,7 +119,7 @@ module _ {h s : End} {past : List Event} {x : Sender} {y : Receiver} {t : List C
 
   -- the index that a call tells
   abbrev pub indexFor : Request → ℕ
-  indexFor r = indexTold (endWith s t mem lens n) r
+  indexFor r = indexTold (endWith s t mem lens lines n) r
 
   abbrev pub Next : Request → ℕ → View
   Next r copy a o k m2 l2 = SubscriberNext h s past x (subscriberEvent r copy n (indexFor r) a o) n c k m2 l2

@@ -64,7 +64,7 @@ module _ (c : Channel) (rank : ℕ) (mem lens out : List ℕ) (other : c .addres
   unfolding reclaimFor
   reclaim-refused = passed-by (eqb (c .addresses .direction) sends) _ _ (ne-eqb (c .addresses .direction) sends other)
 
-module _ {h s : End} {past : List Event} {x : Sender} {y : Receiver} {t : List Channel} {mem lens : List ℕ} {n : ℕ} (w : Stage h s past x y t mem lens n)
+module _ {h s : End} {past : List Event} {x : Sender} {y : Receiver} {t : List Channel} {mem lens lines : List ℕ} {n : ℕ} (w : Stage h s past x y t mem lens lines n)
     (channel : ℕ) (octets buffer : List ℕ) (copy : ℕ) where
   abbrev i : ℕ
   i = s .index
@@ -83,16 +83,16 @@ module _ {h s : End} {past : List Event} {x : Sender} {y : Receiver} {t : List C
 
   -- what is to be shown of a call
   abbrev Shown : Kind → Type 0
-  Shown kind = Seen (Next w (request kind) copy) i (calledBy kind (endWith s t mem lens n) (request kind))
+  Shown kind = Seen (Next w (request kind) copy) i (calledBy kind (endWith s t mem lens lines n) (request kind))
 
   -- ---- a call that leaves a receiving record as it was
 
   unmoved : (kind : Kind) → ((a : Answer) (o : List ℕ) → Next w (request kind) copy a o c m l)
       → (look : Look) (step : Step) (out : List ℕ) → Shapes look step out
       → (why : Refusal) → (Given look i (choice look t .rank) c m l → step c (choice look t .rank) m l out ≡ works (refusing c why) m l out)
-      → Seen (Next w (request kind) copy) i (serveOne look step t mem lens out)
+      → Seen (Next w (request kind) copy) i (serveOne look step t mem lens lines out)
   unmoved kind nothing look step out shape why refuses =
-      own-cases look step t mem lens out shape i (below w) (Next w (request kind) copy)
+      own-cases look step t mem lens lines out shape i (below w) (Next w (request kind) copy)
       (λ other. nothing (Refused other) out)
       (λ j there apart at g. nothing _ _)
       (λ at g. subst (Left (Next w (request kind) copy)) (sym (refuses g)) (nothing (Refused why) out))
@@ -188,11 +188,11 @@ module _ {h s : End} {past : List Event} {x : Sender} {y : Receiver} {t : List C
 
   pub subscriber-opens :
       (granted subscriber opens i
-      (subscriberEvent (request opens) copy n (indexFor w (request opens)) (calledBy opens (endWith s t mem lens n) (request opens) .answer) (calledBy opens (endWith s t mem lens n) (request opens) .out)) ≡ true
+      (subscriberEvent (request opens) copy n (indexFor w (request opens)) (calledBy opens (endWith s t mem lens lines n) (request opens) .answer) (calledBy opens (endWith s t mem lens lines n) (request opens) .out)) ≡ true
       → openings subscriber i past ≡ 0)
       → Shown opens
   subscriber-opens =
-      own-cases (seeking (Index channel)) (alone openedBy) t mem lens buffer (shapes (seeking (Index channel)) (alone openedBy) buffer (open-keeps (seeking (Index channel)) buffer)) i (below w) First
+      own-cases (seeking (Index channel)) (alone openedBy) t mem lens lines buffer (shapes (seeking (Index channel)) (alone openedBy) buffer (open-keeps (seeking (Index channel)) buffer)) i (below w) First
       (λ why first. opens-refused why buffer)
       (λ j there apart at g first.
       opens-quiet (openedBy (recordAt t j) .answer) buffer

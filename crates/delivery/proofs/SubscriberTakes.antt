@@ -58,7 +58,7 @@ takes-by : (c : Channel) (rank : ℕ) (mem lens out : List ℕ) → c .addresses
 unfolding takeFor
 takes-by c rank mem lens out e = chosen (eqb (c .addresses .direction) receives) _ _ (eq-eqb (c .addresses .direction) receives e)
 
-module _ {h s : End} {past : List Event} {x : Sender} {y : Receiver} {t : List Channel} {mem lens : List ℕ} {n : ℕ} (w : Stage h s past x y t mem lens n)
+module _ {h s : End} {past : List Event} {x : Sender} {y : Receiver} {t : List Channel} {mem lens lines : List ℕ} {n : ℕ} (w : Stage h s past x y t mem lens lines n)
     (channel : ℕ) (octets buffer : List ℕ) (copy : ℕ) where
   abbrev i : ℕ
   i = s .index
@@ -156,9 +156,9 @@ module _ {h s : End} {past : List Event} {x : Sender} {y : Receiver} {t : List C
           made (doing (dropped c (unitAt c)) (sizeAt c l)) (laid buffer 0 unit) done (out-done c l m buffer (eqb-false _ _ e) (ltb-false _ _ z))
           (takes-done own done (ltb-false _ _ z))
 
-  pub subscriber-takes : Seen (Next w request copy) i (calledBy takes (endWith s t mem lens n) request)
+  pub subscriber-takes : Seen (Next w request copy) i (calledBy takes (endWith s t mem lens lines n) request)
   subscriber-takes =
-      own-cases (seeking (Index channel)) takeFor t mem lens buffer (shapes (seeking (Index channel)) takeFor buffer (take-keeps (seeking (Index channel)) buffer)) i (below w)
+      own-cases (seeking (Index channel)) takeFor t mem lens lines buffer (shapes (seeking (Index channel)) takeFor buffer (take-keeps (seeking (Index channel)) buffer)) i (below w)
       (Next w request copy)
       (λ why. takes-refused why buffer)
       (λ j there apart at g.

@@ -18,13 +18,14 @@ use Rattle.keeps.specs.Keeping.{staying}
 use Rattle.protocol.specs.Numbers.{distance}
 use Rattle.means.specs.Held.{unitsHeld}
 
--- The node's own settings, the lent table, memory and lengths, and the index of the channel that is watched. `start`: how many segments its
+-- The node's own settings, the lent table, memory, lengths and lines, and the index of the channel that is watched. `start`: how many segments its
 -- window has passed in this opening.
 pub record End : Type 0 where
   pub node : Node
   pub table : List Channel
   pub mem : List ℕ
   pub lens : List ℕ
+  pub lines : List ℕ
   pub index : ℕ
   pub start : ℕ
 
@@ -53,7 +54,7 @@ pub record Request : Type 0 where
 
 -- the node's door, asked this: the definition that its contract cites (crate node), and nothing else
 abbrev pub atDoor : End → Request → door.Request → Called Answer Channel
-atDoor e r asked = served (e .table) (e .mem) (e .lens) asked (r .octets) (r .buffer)
+atDoor e r asked = served (e .table) (e .mem) (e .lens) (e .lines) asked (r .octets) (r .buffer)
 
 -- What a call gives. A tick alone does not come by the door.
 abbrev pub calledBy : Kind → End → Request → Called Answer Channel
@@ -66,14 +67,14 @@ calledBy reclaims e r = atDoor e r (Reclaim (r .channel))
 calledBy hands e r = atDoor e r (NextPacket (e .node))
 calledBy arrives e r = atDoor e r (Arrival (e .node))
 calledBy strays e r = atDoor e r Unknown
-calledBy ticks e r = staying (ticked (e .table) (e .mem) (e .lens)) (e .mem) (e .lens)
+calledBy ticks e r = staying (ticked (e .table) (e .mem) (e .lens) (e .lines)) (e .mem) (e .lens)
 
 abbrev pub called : End → Request → Called Answer Channel
 called e r = calledBy (r .kind) e r
 
 -- The index that it tells, of the channel that it served: by it a driver knows where a packet goes that was handed out or replied.
 abbrev pub indexAt : End → Request → door.Request → ℕ
-indexAt e r asked = servedIndex (e .table) (e .mem) (e .lens) asked (r .octets) (r .buffer)
+indexAt e r asked = servedIndex (e .table) (e .mem) (e .lens) (e .lines) asked (r .octets) (r .buffer)
 
 abbrev pub indexBy : Kind → End → Request → ℕ
 indexBy opens e r = indexAt e r (Open (r .channel))
@@ -85,7 +86,7 @@ indexBy reclaims e r = indexAt e r (Reclaim (r .channel))
 indexBy hands e r = indexAt e r (NextPacket (e .node))
 indexBy arrives e r = indexAt e r (Arrival (e .node))
 indexBy strays e r = indexAt e r Unknown
-indexBy ticks e r = tickIndex (e .table) (e .mem) (e .lens)
+indexBy ticks e r = tickIndex (e .table) (e .mem) (e .lens) (e .lines)
 
 abbrev pub indexTold : End → Request → ℕ
 indexTold e r = indexBy (r .kind) e r
@@ -109,6 +110,7 @@ afterCall e g =
       table = g .table;
       mem = g .mem;
       lens = g .lens;
+      lines = g .lines;
       index = e .index;
       start = countedOn (e .start) (channelOf e) (recordAt (g .table) (e .index));
     }

@@ -26,10 +26,10 @@ abbrev pub receiving : Settings
 receiving = record { addresses = record { channel = 7; remote = 64; direction = 1; prefix = noPrefix; own = noPrefix }; limits = limits }
 
 abbrev pub hostEnd : End
-hostEnd = record { node = record { address = 64; protocol = 5 }; table = madeOf sending ∷ []; mem = replicate 10 0; lens = replicate 5 0; index = 0; start = 0 }
+hostEnd = record { node = record { address = 64; protocol = 5 }; table = madeOf sending ∷ []; mem = replicate 10 0; lens = replicate 5 0; lines = replicate 51 0; index = 0; start = 0 }
 
 abbrev pub stationEnd : End
-stationEnd = record { node = record { address = 65; protocol = 5 }; table = madeOf receiving ∷ []; mem = replicate 10 0; lens = replicate 5 0; index = 0; start = 0 }
+stationEnd = record { node = record { address = 65; protocol = 5 }; table = madeOf receiving ∷ []; mem = replicate 10 0; lens = replicate 5 0; lines = replicate 51 0; index = 0; start = 0 }
 
 -- ---- calls at the host and at the station
 
@@ -149,13 +149,14 @@ hostAfter i =
       table = standingAt sending i 0 (record { closing = 0; left = replicate 128 0; tries = fiveOf 1 }) (fiveOf 1) ∷ [];
       mem = lastFive i;
       lens = replicate 5 1;
+      lines = replicate 51 0;
       index = 0;
       start = i;
     }
 
 abbrev pub stationAfter : ℕ → End
 stationAfter i =
-    record { node = stationEnd .node; table = standingAt receiving i 1 noTimers noMarks ∷ []; mem = lastFive i; lens = replicate 5 1; index = 0; start = i }
+    record { node = stationEnd .node; table = standingAt receiving i 1 noTimers noMarks ∷ []; mem = lastFive i; lens = replicate 5 1; lines = replicate 51 0; index = 0; start = i }
 
 abbrev pub from : Run
 from = begin hostEnd stationEnd

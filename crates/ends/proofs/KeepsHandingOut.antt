@@ -16,8 +16,8 @@ use Rattle.channel.specs.Standing.{Standing}
 use Rattle.channel.specs.Steps.{refusing, doing}
 use Rattle.channel.proofs.StandingLaws.{counted-is, named-is, open-rests}
 use Rattle.sender_packets.specs.Asked.{Ready}
-use Rattle.sender_packets.specs.HandingOut.{rankOf, oneMore, controlOut, againOut, newOut, nextOut, nextLength, handStep}
-use Rattle.sender_packets.proofs.HandLaws.{rank-open, rank-2-is}
+use Rattle.sender_packets.specs.HandingOut.{ready, oneMore, controlOut, againOut, newOut, nextOut, nextLength, handStep}
+use Rattle.sender_packets.proofs.HandLaws.{ready-as, ready-open, ready-2-is}
 use Rattle.ends.proofs.SenderKeeps.{sided-way, open-sided, stand}
 use Rattle.ends.proofs.KeepsDirectives.{timers-stand, control-stands}
 
@@ -47,9 +47,9 @@ module _ (c : Channel) (lens : List ℕ) (h : Standing c lens) (s : c .addresses
           let x = eqb-false rank 0 p in
           let y = eqb-false rank 1 q in
           let two : rank ≡ 2 = omega (arith, r .some) in
-          let e : rankOf c ≡ 2 = sym (r .is) ∙ two in
-          let w = rank-2-is c e in
-          new-stands (rank-open c 2 e (λ z. omega arith) (λ z. omega arith)) (w .0) (w .1)
+          let e : ready 2 c ≡ true = ready-as c two (r .is) in
+          let w = ready-2-is c e in
+          new-stands (ready-open c 2 e (λ z. omega arith)) (w .0) (w .1)
 
 pub hand-stands : (c : Channel) (lens : List ℕ) (rank n : ℕ) → Standing c lens → c .addresses .direction ≡ sends → Ready c rank
     → Standing (handStep c lens rank n .channel) lens

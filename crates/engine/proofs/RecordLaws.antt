@@ -100,17 +100,17 @@ module _ (kind : ℕ) (body : List ℕ) where
 
 -- ---- the call
 
-module _ (t : List Channel) (mem lens : List ℕ) (node : Node) (kind : ℕ) (body out : List ℕ) where
-  pub replays-tick : (a : Told) (u : List Channel)
+module _ (t : List Channel) (mem lens lines : List ℕ) (node : Node) (kind : ℕ) (body out : List ℕ) where
+  pub replays-tick : (a : Told) (u : List Channel) (i : List ℕ)
       → kind ≡ 2
-      → changes a u ≡ telling (toldOf (tickIndex t mem lens)) (ticked t mem lens)
-      → leaves a u mem lens out ≡ replayed t mem lens node kind body out
+      → changes a u i ≡ telling (toldOf (tickIndex t mem lens lines)) (ticked t mem lens lines)
+      → leaves a u mem lens i out ≡ replayed t mem lens lines node kind body out
   unfolding replayed
-  replays-tick a u k e =
-      ap (λ (x : Changed Told Channel). leaves (x .answer) (x .table) mem lens out) e
-      ∙ sym (chosen (eqb kind 2) (ticking t mem lens out) (serving t mem lens (requestOf kind body node) (drop (octetsFrom kind body) body) out) (eq-eqb kind 2 k))
+  replays-tick a u i k e =
+      ap (λ (x : Changed Told Channel). leaves (x .answer) (x .table) mem lens (x .lines) out) e
+      ∙ sym (chosen (eqb kind 2) (ticking t mem lens lines out) (serving t mem lens lines (requestOf kind body node) (drop (octetsFrom kind body) body) out) (eq-eqb kind 2 k))
 
-  pub replays-other : (kind ≡ 2 → ⊥) → serving t mem lens (requestOf kind body node) (drop (octetsFrom kind body) body) out ≡ replayed t mem lens node kind body out
+  pub replays-other : (kind ≡ 2 → ⊥) → serving t mem lens lines (requestOf kind body node) (drop (octetsFrom kind body) body) out ≡ replayed t mem lens lines node kind body out
   unfolding replayed
   replays-other n =
-      sym (passed-by (eqb kind 2) (ticking t mem lens out) (serving t mem lens (requestOf kind body node) (drop (octetsFrom kind body) body) out) (ne-eqb kind 2 n))
+      sym (passed-by (eqb kind 2) (ticking t mem lens lines out) (serving t mem lens lines (requestOf kind body node) (drop (octetsFrom kind body) body) out) (ne-eqb kind 2 n))

@@ -18,17 +18,18 @@ use Rattle.node.specs.Calls.{served, servedIndex}
 use Rattle.engine.specs.Asking.{requestOf, octetsFrom}
 
 -- the node's tick, and its one door, each with the index that is told
-abbrev pub ticking : List Channel → List ℕ → List ℕ → List ℕ → Called Told Channel
-ticking t mem lens out = leaves (toldOf (tickIndex t mem lens) (ticked t mem lens .answer)) (ticked t mem lens .table) mem lens out
+abbrev pub ticking : List Channel → List ℕ → List ℕ → List ℕ → List ℕ → Called Told Channel
+ticking t mem lens lines out =
+    let g = ticked t mem lens lines in leaves (toldOf (tickIndex t mem lens lines) (g .answer)) (g .table) mem lens (g .lines) out
 
-abbrev pub serving : List Channel → List ℕ → List ℕ → Request → List ℕ → List ℕ → Called Told Channel
-serving t mem lens n x out = saying (toldOf (servedIndex t mem lens n x out)) (served t mem lens n x out)
+abbrev pub serving : List Channel → List ℕ → List ℕ → List ℕ → Request → List ℕ → List ℕ → Called Told Channel
+serving t mem lens lines n x out = saying (toldOf (servedIndex t mem lens lines n x out)) (served t mem lens lines n x out)
 
 -- kind 2 is a tick; all others are for one channel
-unfoldable pub replayed : List Channel → List ℕ → List ℕ → Node → ℕ → List ℕ → List ℕ → Called Told Channel
-replayed t mem lens node kind body out =
-    if eqb kind 2 then ticking t mem lens out
-    else serving t mem lens (requestOf kind body node) (drop (octetsFrom kind body) body) out
+unfoldable pub replayed : List Channel → List ℕ → List ℕ → List ℕ → Node → ℕ → List ℕ → List ℕ → Called Told Channel
+replayed t mem lens lines node kind body out =
+    if eqb kind 2 then ticking t mem lens lines out
+    else serving t mem lens lines (requestOf kind body node) (drop (octetsFrom kind body) body) out
 
 -- k 4, slots 8, P 16, M 4, timeouts 4, retries 2; no prefixes
 abbrev pub settingsFor : ℕ → ℕ → ℕ → Settings

@@ -21,21 +21,22 @@ pub fn serve_in(
     t: [Channel; 2],
     mem: &mut [u8],
     lens: &mut [u16],
+    lines: &mut [u8],
     n: Request,
     x: &[u8],
     out: &mut [u8],
 ) -> Kept
-    ensures { λ r. ⌜ leaves (r .told) (r .table) (now (mem .exit)) (now (lens .exit)) (now (out .exit)) ≡ serving t (now (mem .entry)) (now (lens .entry)) n (now (x .entry)) (now (out .entry)) ⌝ }
+    ensures { λ r. ⌜ leaves (r .told) (r .table) (now (mem .exit)) (now (lens .exit)) (now (lines .exit)) (now (out .exit)) ≡ serving t (now (mem .entry)) (now (lens .entry)) (now (lines .entry)) n (now (x .entry)) (now (out .entry)) ⌝ }
 {
     let mut u = t;
-    let a = serve(&mut u, mem, lens, n, x, out);
+    let a = serve(&mut u, mem, lens, lines, n, x, out);
     Kept { told: a, table: u }
 }
 
-pub fn tick_in(t: [Channel; 2], mem: &[u8], lens: &[u16]) -> Kept
-    ensures { λ r. ⌜ changes (r .told) (r .table) ≡ telling (toldOf (tickIndex t (now (mem .entry)) (now (lens .entry)))) (ticked t (now (mem .entry)) (now (lens .entry))) ⌝ }
+pub fn tick_in(t: [Channel; 2], mem: &[u8], lens: &[u16], lines: &mut [u8]) -> Kept
+    ensures { λ r. ⌜ changes (r .told) (r .table) (now (lines .exit)) ≡ telling (toldOf (tickIndex t (now (mem .entry)) (now (lens .entry)) (now (lines .entry)))) (ticked t (now (mem .entry)) (now (lens .entry)) (now (lines .entry))) ⌝ }
 {
     let mut u = t;
-    let a = tick(&mut u, mem, lens);
+    let a = tick(&mut u, mem, lens, lines);
     Kept { told: a, table: u }
 }

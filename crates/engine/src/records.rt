@@ -16,17 +16,18 @@ pub fn step(
     t: [Channel; 2],
     mem: &mut [u8],
     lens: &mut [u16],
+    lines: &mut [u8],
     node: Node,
     kind: u16,
     body: &[u8],
     out: &mut [u8],
 ) -> Kept
-    ensures { λ r. ⌜ leaves (r .told) (r .table) (now (mem .exit)) (now (lens .exit)) (now (out .exit)) ≡ replayed t (now (mem .entry)) (now (lens .entry)) node kind (now (body .entry)) (now (out .entry)) ⌝ }
+    ensures { λ r. ⌜ leaves (r .told) (r .table) (now (mem .exit)) (now (lens .exit)) (now (lines .exit)) (now (out .exit)) ≡ replayed t (now (mem .entry)) (now (lens .entry)) (now (lines .entry)) node kind (now (body .entry)) (now (out .entry)) ⌝ }
 {
     if kind == TICK {
-        return tick_in(t, mem, lens);
+        return tick_in(t, mem, lens, lines);
     }
     let n = request_of(kind, body, node);
     let from = octets_from(kind, body);
-    serve_in(t, mem, lens, n, &body[from..], out)
+    serve_in(t, mem, lens, lines, n, &body[from..], out)
 }

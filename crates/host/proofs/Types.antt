@@ -33,5 +33,5 @@ door = record {
   answer = told;
   result = said;
   turned = saidOf;
-  says = λ ys m l n x o r zs m′ l′ o′. leaves r zs m′ l′ o′ ≡ saying (toldOf (servedIndex ys m l n x o)) (served ys m l n x o);
+  says = λ ys m l li n x o r zs m′ l′ li′ o′. leaves r zs m′ l′ li′ o′ ≡ saying (toldOf (servedIndex ys m l li n x o)) (served ys m l li n x o);
 }

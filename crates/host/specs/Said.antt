@@ -28,6 +28,6 @@ saidOf t =
 abbrev pub saidAt : ℕ → Called Answer Channel → Called Said Channel
 saidAt index g = saying (λ a. saidOf (toldOf index a)) g
 
--- the same of a call that changes the table alone
+-- the same of a call that changes the table and the lines alone
 abbrev pub toldAt : ℕ → Changed Answer Channel → Changed Said Channel
 toldAt index g = telling (λ a. saidOf (toldOf index a)) g

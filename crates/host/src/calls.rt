@@ -1,4 +1,4 @@
-// Every call of the node for C: the table, the memory, the lengths and the buffers are lent as they are, and the answer comes as numbers. Each is a
+// Every call of the node for C: the table, the memory, the lengths, the lines and the buffers are lent as they are, and the answer comes as numbers. Each is a
 // thin call of the node's door; what a call does not have, it lends empty.
 use crate::answers::Said;
 use crate::answers::said_of;
@@ -28,10 +28,16 @@ ghost use Rattle.host.specs.Said.{saidAt, toldAt};
 
 // A table made afresh.
 #[no_mangle]
-pub extern "C" fn peat_settings(t: &mut [Channel], mem: &[u8], lens: &[u16], s: &[Settings]) -> Said
-    ensures { λ r. ⌜ changes r (now (t .exit)) ≡ toldAt (length (now (t .entry))) (configured (now (t .entry)) (now (mem .entry)) (now (lens .entry)) (now (s .entry))) ⌝ }
+pub extern "C" fn peat_settings(
+    t: &mut [Channel],
+    mem: &[u8],
+    lens: &[u16],
+    lines: &mut [u8],
+    s: &[Settings],
+) -> Said
+    ensures { λ r. ⌜ changes r (now (t .exit)) (now (lines .exit)) ≡ toldAt (length (now (t .entry))) (configured (now (t .entry)) (now (mem .entry)) (now (lens .entry)) (now (lines .entry)) (now (s .entry))) ⌝ }
 {
-    let a = settings(t, mem, lens, s);
+    let a = settings(t, mem, lens, lines, s);
     let r = said_of(a);
     r
 }
@@ -42,14 +48,15 @@ pub extern "C" fn peat_open(
     t: &mut [Channel],
     mem: &mut [u8],
     lens: &mut [u16],
+    lines: &mut [u8],
     index: usize,
 ) -> Said
-    ensures { λ r. ⌜ (changes r (now (t .exit)) ≡ toldAt (servedIndex (now (t .entry)) (now (mem .entry)) (now (lens .entry)) (request.Open index) [] []) (openCall (now (t .entry)) (now (mem .entry)) (now (lens .entry)) index)) × (now (mem .exit) ≡ now (mem .entry)) × (now (lens .exit) ≡ now (lens .entry)) ⌝ }
+    ensures { λ r. ⌜ (changes r (now (t .exit)) (now (lines .exit)) ≡ toldAt (servedIndex (now (t .entry)) (now (mem .entry)) (now (lens .entry)) (now (lines .entry)) (request.Open index) [] []) (openCall (now (t .entry)) (now (mem .entry)) (now (lens .entry)) (now (lines .entry)) index)) × (now (mem .exit) ≡ now (mem .entry)) × (now (lens .exit) ≡ now (lens .entry)) ⌝ }
 {
     let n = open_asked(index);
     let x: [u8; 0] = [0; 0];
     let mut out: [u8; 0] = [0; 0];
-    let a = serve(t, mem, lens, n, &x, &mut out);
+    let a = serve(t, mem, lens, lines, n, &x, &mut out);
     let r = said_of(a);
     r
 }
@@ -59,14 +66,15 @@ pub extern "C" fn peat_close(
     t: &mut [Channel],
     mem: &mut [u8],
     lens: &mut [u16],
+    lines: &mut [u8],
     index: usize,
 ) -> Said
-    ensures { λ r. ⌜ (changes r (now (t .exit)) ≡ toldAt (servedIndex (now (t .entry)) (now (mem .entry)) (now (lens .entry)) (request.Close index) [] []) (closeCall (now (t .entry)) (now (mem .entry)) (now (lens .entry)) index)) × (now (mem .exit) ≡ now (mem .entry)) × (now (lens .exit) ≡ now (lens .entry)) ⌝ }
+    ensures { λ r. ⌜ (changes r (now (t .exit)) (now (lines .exit)) ≡ toldAt (servedIndex (now (t .entry)) (now (mem .entry)) (now (lens .entry)) (now (lines .entry)) (request.Close index) [] []) (closeCall (now (t .entry)) (now (mem .entry)) (now (lens .entry)) (now (lines .entry)) index)) × (now (mem .exit) ≡ now (mem .entry)) × (now (lens .exit) ≡ now (lens .entry)) ⌝ }
 {
     let n = close_asked(index);
     let x: [u8; 0] = [0; 0];
     let mut out: [u8; 0] = [0; 0];
-    let a = serve(t, mem, lens, n, &x, &mut out);
+    let a = serve(t, mem, lens, lines, n, &x, &mut out);
     let r = said_of(a);
     r
 }
@@ -76,14 +84,15 @@ pub extern "C" fn peat_transfer(
     t: &mut [Channel],
     mem: &mut [u8],
     lens: &mut [u16],
+    lines: &mut [u8],
     index: usize,
     unit: &[u8],
 ) -> Said
-    ensures { λ r. ⌜ leaves r (now (t .exit)) (now (mem .exit)) (now (lens .exit)) [] ≡ saidAt (servedIndex (now (t .entry)) (now (mem .entry)) (now (lens .entry)) (request.Transfer index) (now (unit .entry)) []) (transferCall (now (t .entry)) (now (mem .entry)) (now (lens .entry)) index (now (unit .entry))) ⌝ }
+    ensures { λ r. ⌜ leaves r (now (t .exit)) (now (mem .exit)) (now (lens .exit)) (now (lines .exit)) [] ≡ saidAt (servedIndex (now (t .entry)) (now (mem .entry)) (now (lens .entry)) (now (lines .entry)) (request.Transfer index) (now (unit .entry)) []) (transferCall (now (t .entry)) (now (mem .entry)) (now (lens .entry)) (now (lines .entry)) index (now (unit .entry))) ⌝ }
 {
     let n = transfer_asked(index);
     let mut out: [u8; 0] = [0; 0];
-    let a = serve(t, mem, lens, n, unit, &mut out);
+    let a = serve(t, mem, lens, lines, n, unit, &mut out);
     let r = said_of(a);
     r
 }
@@ -94,15 +103,16 @@ pub extern "C" fn peat_would_transfer(
     t: &mut [Channel],
     mem: &mut [u8],
     lens: &mut [u16],
+    lines: &mut [u8],
     index: usize,
     count: usize,
 ) -> Said
-    ensures { λ r. ⌜ (changes r (now (t .exit)) ≡ toldAt (servedIndex (now (t .entry)) (now (mem .entry)) (now (lens .entry)) (request.WouldTransfer index count) [] []) (questionCall (now (t .entry)) (now (mem .entry)) (now (lens .entry)) index count)) × (now (t .exit) ≡ now (t .entry)) × (now (mem .exit) ≡ now (mem .entry)) × (now (lens .exit) ≡ now (lens .entry)) ⌝ }
+    ensures { λ r. ⌜ (changes r (now (t .exit)) (now (lines .exit)) ≡ toldAt (servedIndex (now (t .entry)) (now (mem .entry)) (now (lens .entry)) (now (lines .entry)) (request.WouldTransfer index count) [] []) (questionCall (now (t .entry)) (now (mem .entry)) (now (lens .entry)) (now (lines .entry)) index count)) × (now (t .exit) ≡ now (t .entry)) × (now (mem .exit) ≡ now (mem .entry)) × (now (lens .exit) ≡ now (lens .entry)) × (now (lines .exit) ≡ now (lines .entry)) ⌝ }
 {
     let n = would_asked(index, count);
     let x: [u8; 0] = [0; 0];
     let mut out: [u8; 0] = [0; 0];
-    let a = serve(t, mem, lens, n, &x, &mut out);
+    let a = serve(t, mem, lens, lines, n, &x, &mut out);
     let r = said_of(a);
     r
 }
@@ -112,14 +122,15 @@ pub extern "C" fn peat_take(
     t: &mut [Channel],
     mem: &mut [u8],
     lens: &mut [u16],
+    lines: &mut [u8],
     index: usize,
     out: &mut [u8],
 ) -> Said
-    ensures { λ r. ⌜ (leaves r (now (t .exit)) (now (mem .exit)) (now (lens .exit)) (now (out .exit)) ≡ saidAt (servedIndex (now (t .entry)) (now (mem .entry)) (now (lens .entry)) (request.Take index) [] (now (out .entry))) (takeCall (now (t .entry)) (now (mem .entry)) (now (lens .entry)) index (now (out .entry)))) × (now (mem .exit) ≡ now (mem .entry)) × (now (lens .exit) ≡ now (lens .entry)) ⌝ }
+    ensures { λ r. ⌜ (leaves r (now (t .exit)) (now (mem .exit)) (now (lens .exit)) (now (lines .exit)) (now (out .exit)) ≡ saidAt (servedIndex (now (t .entry)) (now (mem .entry)) (now (lens .entry)) (now (lines .entry)) (request.Take index) [] (now (out .entry))) (takeCall (now (t .entry)) (now (mem .entry)) (now (lens .entry)) (now (lines .entry)) index (now (out .entry)))) × (now (mem .exit) ≡ now (mem .entry)) × (now (lens .exit) ≡ now (lens .entry)) ⌝ }
 {
     let n = take_asked(index);
     let x: [u8; 0] = [0; 0];
-    let a = serve(t, mem, lens, n, &x, out);
+    let a = serve(t, mem, lens, lines, n, &x, out);
     let r = said_of(a);
     r
 }
@@ -129,14 +140,15 @@ pub extern "C" fn peat_reclaim(
     t: &mut [Channel],
     mem: &mut [u8],
     lens: &mut [u16],
+    lines: &mut [u8],
     index: usize,
     out: &mut [u8],
 ) -> Said
-    ensures { λ r. ⌜ (leaves r (now (t .exit)) (now (mem .exit)) (now (lens .exit)) (now (out .exit)) ≡ saidAt (servedIndex (now (t .entry)) (now (mem .entry)) (now (lens .entry)) (request.Reclaim index) [] (now (out .entry))) (reclaimCall (now (t .entry)) (now (mem .entry)) (now (lens .entry)) index (now (out .entry)))) × (now (mem .exit) ≡ now (mem .entry)) × (now (lens .exit) ≡ now (lens .entry)) ⌝ }
+    ensures { λ r. ⌜ (leaves r (now (t .exit)) (now (mem .exit)) (now (lens .exit)) (now (lines .exit)) (now (out .exit)) ≡ saidAt (servedIndex (now (t .entry)) (now (mem .entry)) (now (lens .entry)) (now (lines .entry)) (request.Reclaim index) [] (now (out .entry))) (reclaimCall (now (t .entry)) (now (mem .entry)) (now (lens .entry)) (now (lines .entry)) index (now (out .entry)))) × (now (mem .exit) ≡ now (mem .entry)) × (now (lens .exit) ≡ now (lens .entry)) ⌝ }
 {
     let n = reclaim_asked(index);
     let x: [u8; 0] = [0; 0];
-    let a = serve(t, mem, lens, n, &x, out);
+    let a = serve(t, mem, lens, lines, n, &x, out);
     let r = said_of(a);
     r
 }
@@ -146,14 +158,15 @@ pub extern "C" fn peat_next_packet(
     t: &mut [Channel],
     mem: &mut [u8],
     lens: &mut [u16],
+    lines: &mut [u8],
     node: Node,
     out: &mut [u8],
 ) -> Said
-    ensures { λ r. ⌜ (leaves r (now (t .exit)) (now (mem .exit)) (now (lens .exit)) (now (out .exit)) ≡ saidAt (servedIndex (now (t .entry)) (now (mem .entry)) (now (lens .entry)) (request.NextPacket node) [] (now (out .entry))) (nextPacketCall (now (t .entry)) (now (mem .entry)) (now (lens .entry)) node (now (out .entry)))) × (now (mem .exit) ≡ now (mem .entry)) × (now (lens .exit) ≡ now (lens .entry)) ⌝ }
+    ensures { λ r. ⌜ (leaves r (now (t .exit)) (now (mem .exit)) (now (lens .exit)) (now (lines .exit)) (now (out .exit)) ≡ saidAt (servedIndex (now (t .entry)) (now (mem .entry)) (now (lens .entry)) (now (lines .entry)) (request.NextPacket node) [] (now (out .entry))) (nextPacketCall (now (t .entry)) (now (mem .entry)) (now (lens .entry)) (now (lines .entry)) node (now (out .entry)))) × (now (mem .exit) ≡ now (mem .entry)) × (now (lens .exit) ≡ now (lens .entry)) ⌝ }
 {
     let n = next_asked(node);
     let x: [u8; 0] = [0; 0];
-    let a = serve(t, mem, lens, n, &x, out);
+    let a = serve(t, mem, lens, lines, n, &x, out);
     let r = said_of(a);
     r
 }
@@ -163,23 +176,24 @@ pub extern "C" fn peat_arrival(
     t: &mut [Channel],
     mem: &mut [u8],
     lens: &mut [u16],
+    lines: &mut [u8],
     node: Node,
     packet: &[u8],
     reply: &mut [u8],
 ) -> Said
-    ensures { λ r. ⌜ leaves r (now (t .exit)) (now (mem .exit)) (now (lens .exit)) (now (reply .exit)) ≡ saidAt (servedIndex (now (t .entry)) (now (mem .entry)) (now (lens .entry)) (request.Arrival node) (now (packet .entry)) (now (reply .entry))) (arrivalCall (now (t .entry)) (now (mem .entry)) (now (lens .entry)) node (now (packet .entry)) (now (reply .entry))) ⌝ }
+    ensures { λ r. ⌜ leaves r (now (t .exit)) (now (mem .exit)) (now (lens .exit)) (now (lines .exit)) (now (reply .exit)) ≡ saidAt (servedIndex (now (t .entry)) (now (mem .entry)) (now (lens .entry)) (now (lines .entry)) (request.Arrival node) (now (packet .entry)) (now (reply .entry))) (arrivalCall (now (t .entry)) (now (mem .entry)) (now (lens .entry)) (now (lines .entry)) node (now (packet .entry)) (now (reply .entry))) ⌝ }
 {
     let n = arrival_asked(node);
-    let a = serve(t, mem, lens, n, packet, reply);
+    let a = serve(t, mem, lens, lines, n, packet, reply);
     let r = said_of(a);
     r
 }
 
 #[no_mangle]
-pub extern "C" fn peat_tick(t: &mut [Channel], mem: &[u8], lens: &[u16]) -> Said
-    ensures { λ r. ⌜ changes r (now (t .exit)) ≡ toldAt (tickIndex (now (t .entry)) (now (mem .entry)) (now (lens .entry))) (ticked (now (t .entry)) (now (mem .entry)) (now (lens .entry))) ⌝ }
+pub extern "C" fn peat_tick(t: &mut [Channel], mem: &[u8], lens: &[u16], lines: &mut [u8]) -> Said
+    ensures { λ r. ⌜ changes r (now (t .exit)) (now (lines .exit)) ≡ toldAt (tickIndex (now (t .entry)) (now (mem .entry)) (now (lens .entry)) (now (lines .entry))) (ticked (now (t .entry)) (now (mem .entry)) (now (lens .entry)) (now (lines .entry))) ⌝ }
 {
-    let a = tick(t, mem, lens);
+    let a = tick(t, mem, lens, lines);
     let r = said_of(a);
     r
 }

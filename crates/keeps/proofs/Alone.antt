@@ -32,7 +32,7 @@ use Rattle.table.specs.Looking.{seeking}
 use Rattle.table.specs.Looking.{addressed, graded, missing, Chosen, chosenFrom, isFound, chosen as choice}
 use Rattle.table.specs.Lent.{areaOf, partOf, slotAt, octetAt}
 use Rattle.table.specs.Serving.{blank, recordAt, ownMem, ownLens, Step, stored, serveOne}
-use Rattle.table.proofs.ServeLaws.{Lawful, lawful-is, found-below}
+use Rattle.table.proofs.ServeLaws.{Lawful, passing-is, found-below}
 use Rattle.keeps.specs.Keeping.{Given, Kept, OthersStay, SameOwn, SameFor, addressesIn, OwnChannelAlone}
 use Rattle.keeps.proofs.Storing.{slots-before, octets-before}
 use Rattle.keeps.proofs.Serving.{slots-inside, octets-inside, worked, serve-missing, serve-found, given, serve-cases}
@@ -52,7 +52,7 @@ Shapes look step out = (at rank : ℕ) (c : Channel) (mem lens : List ℕ) → G
 
 -- ---- a record stored, and its parts laid in their place
 
-module _ (t : List Channel) (mem lens : List ℕ) (h : Lawful t mem lens) (i : ℕ) (below : i < length t) (w : Worked Stepped) (k : Shaped (recordAt t i) w) where
+module _ (t : List Channel) (mem lens lines : List ℕ) (h : Lawful t mem lens) (i : ℕ) (below : i < length t) (w : Worked Stepped) (k : Shaped (recordAt t i) w) where
   in-mem : octetAt t i + length (w .mem) ≤ length mem
   in-mem = omega (arith, octets-inside t mem lens h i below, k .sized .exact)
 
@@ -60,7 +60,7 @@ module _ (t : List Channel) (mem lens : List ℕ) (h : Lawful t mem lens) (i : �
   in-lens = omega (arith, slots-inside t mem lens h i below, k .sized .each)
 
   -- all else stays
-  pub stored-others : OthersStay t mem lens i (stored t mem lens i w)
+  pub stored-others : OthersStay t mem lens i (stored t mem lens lines i w)
   unfolding stored
   stored-others =
       record {
@@ -80,11 +80,11 @@ module _ (t : List Channel) (mem lens : List ℕ) (h : Lawful t mem lens) (i : �
       }
 
   -- and there stands what the step left
-  pub stored-record : recordAt (stored t mem lens i w .table) i ≡ w .made .channel
+  pub stored-record : recordAt (stored t mem lens lines i w .table) i ≡ w .made .channel
   unfolding stored
   stored-record = getD-set-same t i (w .made .channel) blank below
 
-  pub stored-mem : ownMem (stored t mem lens i w .table) i (stored t mem lens i w .mem) ≡ w .mem
+  pub stored-mem : ownMem (stored t mem lens lines i w .table) i (stored t mem lens lines i w .mem) ≡ w .mem
   unfolding stored
   stored-mem =
       ap₂ (λ (at : ℕ) (c : Channel). partOf at (areaOf (c .limits)) (laid mem (octetAt t i) (w .mem))) (octets-before (w .made .channel) t i i (k .limits)) stored-record
@@ -92,7 +92,7 @@ module _ (t : List Channel) (mem lens : List ℕ) (h : Lawful t mem lens) (i : �
       ∙ ap (λ (n : ℕ). partOf (octetAt t i) n (laid mem (octetAt t i) (w .mem))) (sym (k .sized .exact))
       ∙ laid-here mem (octetAt t i) (w .mem) in-mem
 
-  pub stored-lens : ownLens (stored t mem lens i w .table) i (stored t mem lens i w .lens) ≡ w .lens
+  pub stored-lens : ownLens (stored t mem lens lines i w .table) i (stored t mem lens lines i w .lens) ≡ w .lens
   unfolding stored
   stored-lens =
       ap₂ (λ (at : ℕ) (c : Channel). partOf at (c .limits .slots) (laid lens (slotAt t i) (w .lens))) (slots-before (w .made .channel) t i i (k .limits)) stored-record
@@ -101,10 +101,10 @@ module _ (t : List Channel) (mem lens : List ℕ) (h : Lawful t mem lens) (i : �
       ∙ laid-here lens (slotAt t i) (w .lens) in-lens
 
 -- the answer and the buffer are the step's
-said : (t : List Channel) (mem lens : List ℕ) (t2 : List Channel) (mem2 lens2 : List ℕ) (i : ℕ) (w w2 : Worked Stepped) → w ≡ w2
-    → (stored t mem lens i w .answer ≡ stored t2 mem2 lens2 i w2 .answer) × (stored t mem lens i w .out ≡ stored t2 mem2 lens2 i w2 .out)
+said : (t : List Channel) (mem lens lines : List ℕ) (t2 : List Channel) (mem2 lens2 lines2 : List ℕ) (i : ℕ) (w w2 : Worked Stepped) → w ≡ w2
+    → (stored t mem lens lines i w .answer ≡ stored t2 mem2 lens2 lines2 i w2 .answer) × (stored t mem lens lines i w .out ≡ stored t2 mem2 lens2 lines2 i w2 .out)
 unfolding stored
-said t mem lens t2 mem2 lens2 i w w2 e = (ap (λ (y : Worked Stepped). y .made .answer) e, ap (λ (y : Worked Stepped). y .out) e)
+said t mem lens lines t2 mem2 lens2 lines2 i w w2 e = (ap (λ (y : Worked Stepped). y .made .answer) e, ap (λ (y : Worked Stepped). y .out) e)
 
 -- ---- the channel that is served
 
@@ -118,23 +118,23 @@ index-served i at rank c mem lens g = go (eqb i at) refl
 
 -- ---- its own channel alone is changed
 
-module _ (look : Look) (step : Step) (t : List Channel) (mem lens out : List ℕ) (shapes : Shapes look step out) where
+module _ (look : Look) (step : Step) (t : List Channel) (mem lens lines out : List ℕ) (shapes : Shapes look step out) where
   -- of the channel at index i, where it is the one that is served
   pub others-stay : (i : ℕ)
       → (Given look (choice look t .at) (choice look t .rank) (recordAt t (choice look t .at)) (ownMem t (choice look t .at) mem) (ownLens t (choice look t .at) lens)
       → choice look t .at ≡ i)
-      → OthersStay t mem lens i (serveOne look step t mem lens out)
+      → OthersStay t mem lens i (serveOne look step t mem lens lines out)
   others-stay i is =
-      serve-cases look step t mem lens out (OthersStay t mem lens i) nothing nothing
+      serve-cases look step t mem lens lines out (OthersStay t mem lens i) nothing nothing
       (λ h below g.
-      subst (λ (j : ℕ). OthersStay t mem lens j (stored t mem lens at (worked look step t mem lens out))) (is g)
-      (stored-others t mem lens h at below (worked look step t mem lens out)
+      subst (λ (j : ℕ). OthersStay t mem lens j (stored t mem lens lines at (worked look step t mem lens lines out))) (is g)
+      (stored-others t mem lens lines h at below (worked look step t mem lens lines out)
       (shapes at (choice look t .rank) (recordAt t at) (ownMem t at mem) (ownLens t at lens) g)))
     where
       at : ℕ
       at = choice look t .at
 
-      nothing : {why : Refusal} → OthersStay t mem lens i (leaves (Refused why) t mem lens out)
+      nothing : {why : Refusal} → OthersStay t mem lens i (leaves (Refused why) t mem lens lines out)
       nothing =
           record {
             records = λ j other. refl;
@@ -180,15 +180,15 @@ same-choice look by j (c ∷ t) (d ∷ t2) e =
     (same-choice look by (j + 1) t t2 (ap restOf e))
 
 module _ (look : Look) (step : Step) (out : List ℕ) (shapes : Shapes look step out) (by : ByAddresses look)
-    (t : List Channel) (mem lens : List ℕ) (i : ℕ)
+    (t : List Channel) (mem lens lines : List ℕ) (i : ℕ)
     (is : Given look (choice look t .at) (choice look t .rank) (recordAt t (choice look t .at)) (ownMem t (choice look t .at) mem) (ownLens t (choice look t .at) lens)
     → choice look t .at ≡ i) where
   -- what the step leaves, of the channel and the rank that are chosen
   abbrev made : List Channel → List ℕ → List ℕ → Chosen → Worked Stepped
   made s m l x = step (recordAt s (x .at)) (x .rank) (ownMem s (x .at) m) (ownLens s (x .at) l) out
 
-  pub own-channel-alone : OwnChannelAlone (λ s m l. serveOne look step s m l out) i t mem lens
-  own-channel-alone t2 mem2 lens2 e e2 same own = go (isFound x) refl
+  pub own-channel-alone : OwnChannelAlone (λ s m l li. serveOne look step s m l li out) i t mem lens lines
+  own-channel-alone t2 mem2 lens2 lines2 e e2 same own = go (isFound x) refl
     where
       x : Chosen
       x = choice look t
@@ -197,13 +197,13 @@ module _ (look : Look) (step : Step) (out : List ℕ) (shapes : Shapes look step
       eq = same-choice look by 0 t t2 same
 
       Wanted : Type 0
-      Wanted = SameFor i (serveOne look step t mem lens out) (serveOne look step t2 mem2 lens2 out)
+      Wanted = SameFor i (serveOne look step t mem lens lines out) (serveOne look step t2 mem2 lens2 lines2 out)
 
       h : Lawful t mem lens
-      h = lawful-is t mem lens e
+      h = passing-is t mem lens lines e .lawful
 
       h2 : Lawful t2 mem2 lens2
-      h2 = lawful-is t2 mem2 lens2 e2
+      h2 = passing-is t2 mem2 lens2 lines2 e2 .lawful
 
       -- both serve the channel at index i
       both : (at : ℕ) → at ≡ i → SameOwn at t mem lens t2 mem2 lens2
@@ -214,8 +214,8 @@ module _ (look : Look) (step : Step) (out : List ℕ) (shapes : Shapes look step
           let less = ltb-true (x .rank) 3 f in
           let f2 : isFound (choice look t2) ≡ true = ap isFound (sym eq) ∙ f in
           let less2 = ltb-true (choice look t2 .rank) 3 f2 in
-          let g = given look step t mem lens out h less in
-          let g2 = given look step t2 mem2 lens2 out h2 less2 in
+          let g = given look step t mem lens lines out h less in
+          let g2 = given look step t2 mem2 lens2 lines2 out h2 less2 in
           let k = shapes (x .at) (x .rank) (recordAt t (x .at)) (ownMem t (x .at) mem) (ownLens t (x .at) lens) g in
           let k2 = subst (λ (y : Chosen). Shaped (recordAt t2 (y .at)) (made t2 mem2 lens2 y)) (sym eq)
           (shapes (choice look t2 .at) (choice look t2 .rank) (recordAt t2 (choice look t2 .at)) (ownMem t2 (choice look t2 .at) mem2) (ownLens t2 (choice look t2 .at) lens2) g2) in
@@ -227,30 +227,30 @@ module _ (look : Look) (step : Step) (out : List ℕ) (shapes : Shapes look step
           let agree : w ≡ w2 =
           ap (λ (c : Channel). step c (x .rank) (ownMem t (x .at) mem) (ownLens t (x .at) lens) out) (s .channel)
           ∙ ap₂ (λ (m l : List ℕ). step (recordAt t2 (x .at)) (x .rank) m l out) (s .octets) (s .lengths) in
-          let one : serveOne look step t mem lens out ≡ stored t mem lens (x .at) w = serve-found look step t mem lens out e f in
-          let two : serveOne look step t2 mem2 lens2 out ≡ stored t2 mem2 lens2 (x .at) w2 =
-          serve-found look step t2 mem2 lens2 out e2 f2 ∙ ap (λ (y : Chosen). stored t2 mem2 lens2 (y .at) (made t2 mem2 lens2 y)) (sym eq) in
-          let there = said t mem lens t2 mem2 lens2 (x .at) w w2 agree in
-          let after : SameFor (x .at) (stored t mem lens (x .at) w) (stored t2 mem2 lens2 (x .at) w2) =
+          let one : serveOne look step t mem lens lines out ≡ stored t mem lens lines (x .at) w = serve-found look step t mem lens lines out e f in
+          let two : serveOne look step t2 mem2 lens2 lines2 out ≡ stored t2 mem2 lens2 lines2 (x .at) w2 =
+          serve-found look step t2 mem2 lens2 lines2 out e2 f2 ∙ ap (λ (y : Chosen). stored t2 mem2 lens2 lines2 (y .at) (made t2 mem2 lens2 y)) (sym eq) in
+          let there = said t mem lens lines t2 mem2 lens2 lines2 (x .at) w w2 agree in
+          let after : SameFor (x .at) (stored t mem lens lines (x .at) w) (stored t2 mem2 lens2 lines2 (x .at) w2) =
           record {
             answer = there .0;
             own =
                 record {
-                  channel = stored-record t mem lens h (x .at) below w k ∙ ap (λ (y : Worked Stepped). y .made .channel) agree ∙ sym (stored-record t2 mem2 lens2 h2 (x .at) below2 w2 k2);
-                  octets = stored-mem t mem lens h (x .at) below w k ∙ ap (λ (y : Worked Stepped). y .mem) agree ∙ sym (stored-mem t2 mem2 lens2 h2 (x .at) below2 w2 k2);
-                  lengths = stored-lens t mem lens h (x .at) below w k ∙ ap (λ (y : Worked Stepped). y .lens) agree ∙ sym (stored-lens t2 mem2 lens2 h2 (x .at) below2 w2 k2);
+                  channel = stored-record t mem lens lines h (x .at) below w k ∙ ap (λ (y : Worked Stepped). y .made .channel) agree ∙ sym (stored-record t2 mem2 lens2 lines2 h2 (x .at) below2 w2 k2);
+                  octets = stored-mem t mem lens lines h (x .at) below w k ∙ ap (λ (y : Worked Stepped). y .mem) agree ∙ sym (stored-mem t2 mem2 lens2 lines2 h2 (x .at) below2 w2 k2);
+                  lengths = stored-lens t mem lens lines h (x .at) below w k ∙ ap (λ (y : Worked Stepped). y .lens) agree ∙ sym (stored-lens t2 mem2 lens2 lines2 h2 (x .at) below2 w2 k2);
                 };
             out = there .1;
           } in
-          subst (λ (j : ℕ). SameFor j (serveOne look step t mem lens out) (serveOne look step t2 mem2 lens2 out)) (is g)
-          (subst (λ (a : Called Answer Channel). SameFor (x .at) a (serveOne look step t2 mem2 lens2 out)) (sym one)
-          (subst (λ (b : Called Answer Channel). SameFor (x .at) (stored t mem lens (x .at) w) b) (sym two) after))
+          subst (λ (j : ℕ). SameFor j (serveOne look step t mem lens lines out) (serveOne look step t2 mem2 lens2 lines2 out)) (is g)
+          (subst (λ (a : Called Answer Channel). SameFor (x .at) a (serveOne look step t2 mem2 lens2 lines2 out)) (sym one)
+          (subst (λ (b : Called Answer Channel). SameFor (x .at) (stored t mem lens lines (x .at) w) b) (sym two) after))
 
       go : (b : Bool) → isFound x ≡ b → Wanted
       go true f = found f
       go false f =
-          let one = serve-missing look step t mem lens out e f in
-          let two = serve-missing look step t2 mem2 lens2 out e2 (ap isFound (sym eq) ∙ f) in
-          subst (λ (a : Called Answer Channel). SameFor i a (serveOne look step t2 mem2 lens2 out)) (sym one)
-          (subst (λ (b : Called Answer Channel). SameFor i (leaves (Refused (missing (look .sought))) t mem lens out) b) (sym two)
+          let one = serve-missing look step t mem lens lines out e f in
+          let two = serve-missing look step t2 mem2 lens2 lines2 out e2 (ap isFound (sym eq) ∙ f) in
+          subst (λ (a : Called Answer Channel). SameFor i a (serveOne look step t2 mem2 lens2 lines2 out)) (sym one)
+          (subst (λ (b : Called Answer Channel). SameFor i (leaves (Refused (missing (look .sought))) t mem lens lines out) b) (sym two)
           (record { answer = refl; own = own; out = refl }))

@@ -31,7 +31,7 @@ use Rattle.table.specs.declared.looking.Look.{Look}
 use Rattle.table.specs.declared.looking.Sought.the-variants.{Index, Packet, Ready, Nobody}
 use Rattle.table.specs.Looking.{seeking}
 use Rattle.table.specs.Looking.{chosen as choice}
-use Rattle.table.specs.Lent.{areaOf, slotAt, octetAt, lawful}
+use Rattle.table.specs.Lent.{areaOf, slotAt, octetAt, passes}
 use Rattle.table.specs.Serving.{recordAt, Step, alone, stored, serveOne, tableOf}
 use Rattle.requests.specs.Requests.{openedBy, closedBy, transferFor, takeFor, reclaimFor}
 use Rattle.requests.specs.Handing.{nextFor}
@@ -63,14 +63,14 @@ transfer-shapes look unit out at rank c mem lens g = go (eqb (c .addresses .dire
 
 -- ---- directives leave memory and lengths
 
-pub alone-called : (look : Look) (step : Channel → Stepped) (t : List Channel) (mem lens : List ℕ)
-    → serveOne look (alone step) t mem lens [] ≡ staying (tableOf (serveOne look (alone step) t mem lens [])) mem lens
+pub alone-called : (look : Look) (step : Channel → Stepped) (t : List Channel) (mem lens lines : List ℕ)
+    → serveOne look (alone step) t mem lens lines [] ≡ staying (tableOf (serveOne look (alone step) t mem lens lines [])) mem lens
 unfolding stored
-alone-called look step t mem lens =
-    serve-cases look (alone step) t mem lens [] (λ (g : Called Answer Channel). g ≡ staying (tableOf g) mem lens) refl refl
+alone-called look step t mem lens lines =
+    serve-cases look (alone step) t mem lens lines [] (λ (g : Called Answer Channel). g ≡ staying (tableOf g) mem lens) refl refl
     (λ h below g.
-    let i = servedAt look (alone step) t mem lens [] in
-    ap₂ (λ (m l : List ℕ). leaves (step (recordAt t i) .answer) (set t i (step (recordAt t i) .channel)) m l [])
+    let i = servedAt look (alone step) t mem lens lines [] in
+    ap₂ (λ (m l : List ℕ). leaves (step (recordAt t i) .answer) (set t i (step (recordAt t i) .channel)) m l lines [])
     (laid-own mem (octetAt t i) (areaOf (recordAt t i .limits))) (laid-own lens (slotAt t i) (recordAt t i .limits .slots)))
 
 -- ---- what an arrival looks for is told by the addresses
@@ -99,78 +99,78 @@ arrival-by-addresses node s room = by-room (ltb room least) (readOf s)
 
 -- ---- each call changes its own channel alone
 
-module _ (t : List Channel) (mem lens : List ℕ) where
-  index-stays : (index : ℕ) (step : Step) (out : List ℕ) → Shapes (seeking (Index index)) step out → OthersStay t mem lens index (serveOne (seeking (Index index)) step t mem lens out)
+module _ (t : List Channel) (mem lens lines : List ℕ) where
+  index-stays : (index : ℕ) (step : Step) (out : List ℕ) → Shapes (seeking (Index index)) step out → OthersStay t mem lens index (serveOne (seeking (Index index)) step t mem lens lines out)
   index-stays index step out s =
-      others-stay (seeking (Index index)) step t mem lens out s index (λ g. index-served index _ _ _ _ _ g)
+      others-stay (seeking (Index index)) step t mem lens lines out s index (λ g. index-served index _ _ _ _ _ g)
 
   -- the channel that the packet's head names
   pub arrival-others-stay : (node : Node) (packet reply : List ℕ)
-      → OthersStay t mem lens (choice (lookOf node packet (length reply)) t .at) (arrivalCall t mem lens node packet reply)
+      → OthersStay t mem lens (choice (lookOf node packet (length reply)) t .at) (arrivalCall t mem lens lines node packet reply)
   arrival-others-stay node packet reply =
       let look = lookOf node packet (length reply) in
-      others-stay look (arrivalFor node packet) t mem lens reply (shapes look (arrivalFor node packet) reply (arrival-keeps node packet reply)) (choice look t .at) (λ g. refl)
+      others-stay look (arrivalFor node packet) t mem lens lines reply (shapes look (arrivalFor node packet) reply (arrival-keeps node packet reply)) (choice look t .at) (λ g. refl)
 
   -- the channel that is served
-  pub next-packet-others-stay : (node : Node) (out : List ℕ) → OthersStay t mem lens (choice (seeking Ready) t .at) (nextPacketCall t mem lens node out)
+  pub next-packet-others-stay : (node : Node) (out : List ℕ) → OthersStay t mem lens (choice (seeking Ready) t .at) (nextPacketCall t mem lens lines node out)
   next-packet-others-stay node out =
-      others-stay (seeking Ready) (nextFor node) t mem lens out (shapes (seeking Ready) (nextFor node) out (next-keeps node out)) (choice (seeking Ready) t .at) (λ g. refl)
+      others-stay (seeking Ready) (nextFor node) t mem lens lines out (shapes (seeking Ready) (nextFor node) out (next-keeps node out)) (choice (seeking Ready) t .at) (λ g. refl)
 
-  pub open-others-stay : (index : ℕ) → OthersStay t mem lens index (staying (openCall t mem lens index) mem lens)
+  pub open-others-stay : (index : ℕ) → OthersStay t mem lens index (staying (openCall t mem lens lines index) mem lens)
   open-others-stay index =
-      subst (OthersStay t mem lens index) (alone-called (seeking (Index index)) openedBy t mem lens)
+      subst (OthersStay t mem lens index) (alone-called (seeking (Index index)) openedBy t mem lens lines)
       (index-stays index (alone openedBy) [] (shapes (seeking (Index index)) (alone openedBy) [] (open-keeps (seeking (Index index)) [])))
 
-  pub close-others-stay : (index : ℕ) → OthersStay t mem lens index (staying (closeCall t mem lens index) mem lens)
+  pub close-others-stay : (index : ℕ) → OthersStay t mem lens index (staying (closeCall t mem lens lines index) mem lens)
   close-others-stay index =
-      subst (OthersStay t mem lens index) (alone-called (seeking (Index index)) closedBy t mem lens)
+      subst (OthersStay t mem lens index) (alone-called (seeking (Index index)) closedBy t mem lens lines)
       (index-stays index (alone closedBy) [] (shapes (seeking (Index index)) (alone closedBy) [] (close-keeps (seeking (Index index)) [])))
 
-  pub transfer-others-stay : (index : ℕ) (unit : List ℕ) → OthersStay t mem lens index (transferCall t mem lens index unit)
+  pub transfer-others-stay : (index : ℕ) (unit : List ℕ) → OthersStay t mem lens index (transferCall t mem lens lines index unit)
   transfer-others-stay index unit = index-stays index (transferFor unit) [] (transfer-shapes (seeking (Index index)) unit [])
 
-  pub take-others-stay : (index : ℕ) (out : List ℕ) → OthersStay t mem lens index (takeCall t mem lens index out)
+  pub take-others-stay : (index : ℕ) (out : List ℕ) → OthersStay t mem lens index (takeCall t mem lens lines index out)
   take-others-stay index out = index-stays index takeFor out (shapes (seeking (Index index)) takeFor out (take-keeps (seeking (Index index)) out))
 
-  pub reclaim-others-stay : (index : ℕ) (out : List ℕ) → OthersStay t mem lens index (reclaimCall t mem lens index out)
+  pub reclaim-others-stay : (index : ℕ) (out : List ℕ) → OthersStay t mem lens index (reclaimCall t mem lens lines index out)
   reclaim-others-stay index out = index-stays index reclaimFor out (shapes (seeking (Index index)) reclaimFor out (reclaim-keeps (seeking (Index index)) out))
 
   -- ---- and reads its own channel alone
 
   index-alone : (index : ℕ) (step : Step) (out : List ℕ) → Shapes (seeking (Index index)) step out
-      → OwnChannelAlone (λ s m l. serveOne (seeking (Index index)) step s m l out) index t mem lens
+      → OwnChannelAlone (λ s m l li. serveOne (seeking (Index index)) step s m l li out) index t mem lens lines
   index-alone index step out s =
-      own-channel-alone (seeking (Index index)) step out s (index-by-addresses index) t mem lens index (λ g. index-served index _ _ _ _ _ g)
+      own-channel-alone (seeking (Index index)) step out s (index-by-addresses index) t mem lens lines index (λ g. index-served index _ _ _ _ _ g)
 
   -- a directive, of which the table alone is told
   order-alone : (index : ℕ) (step : Channel → Stepped) → Keeps (seeking (Index index)) (alone step) []
-      → OwnChannelAlone (λ s m l. staying (tableOf (serveOne (seeking (Index index)) (alone step) s m l [])) m l) index t mem lens
-  order-alone index step keeps t2 mem2 lens2 e e2 same own =
-      subst (λ (g : Called Answer Channel). SameFor index g (staying (tableOf (serveOne (seeking (Index index)) (alone step) t2 mem2 lens2 [])) mem2 lens2))
-      (alone-called (seeking (Index index)) step t mem lens)
-      (subst (λ (g : Called Answer Channel). SameFor index (serveOne (seeking (Index index)) (alone step) t mem lens []) g)
-      (alone-called (seeking (Index index)) step t2 mem2 lens2)
-      (index-alone index (alone step) [] (shapes (seeking (Index index)) (alone step) [] keeps) t2 mem2 lens2 e e2 same own))
+      → OwnChannelAlone (λ s m l li. staying (tableOf (serveOne (seeking (Index index)) (alone step) s m l li [])) m l) index t mem lens lines
+  order-alone index step keeps t2 mem2 lens2 lines2 e e2 same own =
+      subst (λ (g : Called Answer Channel). SameFor index g (staying (tableOf (serveOne (seeking (Index index)) (alone step) t2 mem2 lens2 lines2 [])) mem2 lens2))
+      (alone-called (seeking (Index index)) step t mem lens lines)
+      (subst (λ (g : Called Answer Channel). SameFor index (serveOne (seeking (Index index)) (alone step) t mem lens lines []) g)
+      (alone-called (seeking (Index index)) step t2 mem2 lens2 lines2)
+      (index-alone index (alone step) [] (shapes (seeking (Index index)) (alone step) [] keeps) t2 mem2 lens2 lines2 e e2 same own))
 
   pub arrival-own-channel-alone : (node : Node) (packet reply : List ℕ)
-      → OwnChannelAlone (λ s m l. arrivalCall s m l node packet reply) (choice (lookOf node packet (length reply)) t .at) t mem lens
+      → OwnChannelAlone (λ s m l li. arrivalCall s m l li node packet reply) (choice (lookOf node packet (length reply)) t .at) t mem lens lines
   arrival-own-channel-alone node packet reply =
       let look = lookOf node packet (length reply) in
-      own-channel-alone look (arrivalFor node packet) reply (shapes look (arrivalFor node packet) reply (arrival-keeps node packet reply)) (arrival-by-addresses node packet (length reply)) t mem lens (choice look t .at) (λ g. refl)
+      own-channel-alone look (arrivalFor node packet) reply (shapes look (arrivalFor node packet) reply (arrival-keeps node packet reply)) (arrival-by-addresses node packet (length reply)) t mem lens lines (choice look t .at) (λ g. refl)
 
-  pub open-own-channel-alone : (index : ℕ) → OwnChannelAlone (λ s m l. staying (openCall s m l index) m l) index t mem lens
+  pub open-own-channel-alone : (index : ℕ) → OwnChannelAlone (λ s m l li. staying (openCall s m l li index) m l) index t mem lens lines
   open-own-channel-alone index = order-alone index openedBy (open-keeps (seeking (Index index)) [])
 
-  pub close-own-channel-alone : (index : ℕ) → OwnChannelAlone (λ s m l. staying (closeCall s m l index) m l) index t mem lens
+  pub close-own-channel-alone : (index : ℕ) → OwnChannelAlone (λ s m l li. staying (closeCall s m l li index) m l) index t mem lens lines
   close-own-channel-alone index = order-alone index closedBy (close-keeps (seeking (Index index)) [])
 
-  pub transfer-own-channel-alone : (index : ℕ) (unit : List ℕ) → OwnChannelAlone (λ s m l. transferCall s m l index unit) index t mem lens
+  pub transfer-own-channel-alone : (index : ℕ) (unit : List ℕ) → OwnChannelAlone (λ s m l li. transferCall s m l li index unit) index t mem lens lines
   transfer-own-channel-alone index unit = index-alone index (transferFor unit) [] (transfer-shapes (seeking (Index index)) unit [])
 
-  pub take-own-channel-alone : (index : ℕ) (out : List ℕ) → OwnChannelAlone (λ s m l. takeCall s m l index out) index t mem lens
+  pub take-own-channel-alone : (index : ℕ) (out : List ℕ) → OwnChannelAlone (λ s m l li. takeCall s m l li index out) index t mem lens lines
   take-own-channel-alone index out = index-alone index takeFor out (shapes (seeking (Index index)) takeFor out (take-keeps (seeking (Index index)) out))
 
-  pub reclaim-own-channel-alone : (index : ℕ) (out : List ℕ) → OwnChannelAlone (λ s m l. reclaimCall s m l index out) index t mem lens
+  pub reclaim-own-channel-alone : (index : ℕ) (out : List ℕ) → OwnChannelAlone (λ s m l li. reclaimCall s m l li index out) index t mem lens lines
   reclaim-own-channel-alone index out = index-alone index reclaimFor out (shapes (seeking (Index index)) reclaimFor out (reclaim-keeps (seeking (Index index)) out))
 
 -- ---- a tick treats each channel alone
@@ -181,7 +181,7 @@ mapped-at f (c ∷ t) zero h = refl
 mapped-at f (c ∷ t) (suc i) h = mapped-at f t i (le-of-suc-le-suc h)
 
 -- the record at i afterwards is the tick of the record at i, whatever the others are
-pub tick-alone : (t : List Channel) (mem lens : List ℕ) → lawful t mem lens ≡ true → (i : ℕ) → i < length t
-    → recordAt (ticked t mem lens .table) i ≡ tickOf (recordAt t i)
+pub tick-alone : (t : List Channel) (mem lens lines : List ℕ) → passes t mem lens lines ≡ true → (i : ℕ) → i < length t
+    → recordAt (ticked t mem lens lines .table) i ≡ tickOf (recordAt t i)
 unfolding ticked
-tick-alone t mem lens e i h = ap (λ (g : Changed Answer Channel). recordAt (g .table) i) (chosen (lawful t mem lens) _ _ e) ∙ mapped-at tickOf t i h
+tick-alone t mem lens lines e i h = ap (λ (g : Changed Answer Channel). recordAt (g .table) i) (chosen (passes t mem lens lines) _ _ e) ∙ mapped-at tickOf t i h

@@ -2,7 +2,7 @@
 -- it nothing changes.
 -- Assumes nothing.
 use mathlib.Core.Path.{_≡_, refl, sym, ap, ap₂, _∙_}
-use mathlib.Core.Bool.{true, false}
+use mathlib.Core.Bool.{Bool, true, false}
 use mathlib.Core.List.{List, [], _∷_, map}
 use Prim.Native.Nat.{ℕ, suc, _+_}
 use native.Mathlib.Omega.{arith}
@@ -22,10 +22,10 @@ use Rattle.channel.proofs.StandingLaws.{stands-is, is-stands}
 use Rattle.table.specs.declared.looking.Look.{Look}
 use Rattle.table.specs.declared.looking.Sought.the-variants.{Index, Ready}
 use Rattle.table.specs.Looking.{seeking}
-use Rattle.table.specs.Lent.{areaOf, slotAt, octetAt, allSlots, allOctets, eachStands, lawful}
+use Rattle.table.specs.Lent.{areaOf, slotAt, octetAt, allSlots, allOctets, eachStands, lawful, passes}
 use Rattle.table.specs.Serving.{recordAt, ownMem, ownLens, Step, alone, stored, serveOne, tableOf}
 use Rattle.table.proofs.SurveyLaws.{stands-first, stands-both}
-use Rattle.table.proofs.ServeLaws.{lawful-is, is-lawful}
+use Rattle.table.proofs.ServeLaws.{Lawful, lawful-is, is-lawful}
 use Rattle.requests.specs.Requests.{openedBy, closedBy, transferFor, takeFor, reclaimFor}
 use Rattle.requests.specs.Handing.{nextFor}
 use Rattle.arrivals.specs.Finding.{lookOf}
@@ -38,61 +38,61 @@ use Rattle.keeps.proofs.StepsKeep.{open-keeps, close-keeps, transfer-ke
 
 -- ---- a table that does not pass the test: 13, and nothing changes
 
-pub unlawful-changes-nothing : (look : Look) (step : Step) (t : List Channel) (mem lens out : List ℕ) → lawful t mem lens ≡ false
-    → serveOne look step t mem lens out ≡ leaves (Refused refusal.Settings) t mem lens out
-unlawful-changes-nothing look step t mem lens out e = serve-unlawful look step t mem lens out e
+pub unlawful-changes-nothing : (look : Look) (step : Step) (t : List Channel) (mem lens lines out : List ℕ) → passes t mem lens lines ≡ false
+    → serveOne look step t mem lens lines out ≡ leaves (Refused refusal.Settings) t mem lens lines out
+unlawful-changes-nothing look step t mem lens lines out e = serve-unlawful look step t mem lens lines out e
 
-pub tick-unlawful-changes-nothing : (t : List Channel) (mem lens : List ℕ) → lawful t mem lens ≡ false
-    → ticked t mem lens ≡ changes (Refused refusal.Settings) t
+pub tick-unlawful-changes-nothing : (t : List Channel) (mem lens lines : List ℕ) → passes t mem lens lines ≡ false
+    → ticked t mem lens lines ≡ changes (Refused refusal.Settings) t lines
 unfolding ticked
-tick-unlawful-changes-nothing t mem lens e = simp (e)
+tick-unlawful-changes-nothing t mem lens lines e = simp (e)
 
--- ---- a call that is lent nothing that it could change but the table
+-- ---- a call that is lent nothing that it could change but the table and the lines
 
-module _ (look : Look) (step : Channel → Stepped) (t : List Channel) (mem lens out : List ℕ) where
+module _ (look : Look) (step : Channel → Stepped) (t : List Channel) (mem lens lines out : List ℕ) where
   -- it leaves memory and lengths
-  alone-stays : (serveOne look (alone step) t mem lens out .mem ≡ mem) × (serveOne look (alone step) t mem lens out .lens ≡ lens)
+  alone-stays : (serveOne look (alone step) t mem lens lines out .mem ≡ mem) × (serveOne look (alone step) t mem lens lines out .lens ≡ lens)
   unfolding stored
   alone-stays =
-      serve-cases look (alone step) t mem lens out (λ (g : Called Answer Channel). (g .mem ≡ mem) × (g .lens ≡ lens)) (refl, refl) (refl, refl)
+      serve-cases look (alone step) t mem lens lines out (λ (g : Called Answer Channel). (g .mem ≡ mem) × (g .lens ≡ lens)) (refl, refl) (refl, refl)
       (λ h below g.
-      let i = servedAt look (alone step) t mem lens out in
+      let i = servedAt look (alone step) t mem lens lines out in
       (laid-own mem (octetAt t i) (areaOf (recordAt t i .limits)), laid-own lens (slotAt t i) (recordAt t i .limits .slots)))
 
-  alone-lawful : Keeps look (alone step) out → KeepsTable t mem lens (tableOf (serveOne look (alone step) t mem lens out))
+  alone-lawful : Keeps look (alone step) out → KeepsTable t mem lens (tableOf (serveOne look (alone step) t mem lens lines out))
   alone-lawful keeps e =
-      ap₂ (λ (m l : List ℕ). lawful (serveOne look (alone step) t mem lens out .table) m l) (sym (alone-stays .0)) (sym (alone-stays .1))
-      ∙ serve-lawful look (alone step) t mem lens out keeps e
+      ap₂ (λ (m l : List ℕ). lawful (serveOne look (alone step) t mem lens lines out .table) m l) (sym (alone-stays .0)) (sym (alone-stays .1))
+      ∙ serve-lawful look (alone step) t mem lens lines out keeps e
 
 -- ---- each call
 
-module _ (t : List Channel) (mem lens : List ℕ) where
-  pub arrival-lawful : (node : Node) (packet reply : List ℕ) → KeepsLawful t mem lens (arrivalCall t mem lens node packet reply)
+module _ (t : List Channel) (mem lens lines : List ℕ) where
+  pub arrival-lawful : (node : Node) (packet reply : List ℕ) → KeepsLawful t mem lens (arrivalCall t mem lens lines node packet reply)
   arrival-lawful node packet reply =
-      serve-lawful (lookOf node packet (length reply)) (arrivalFor node packet) t mem lens reply (arrival-keeps node packet reply)
+      serve-lawful (lookOf node packet (length reply)) (arrivalFor node packet) t mem lens lines reply (arrival-keeps node packet reply)
 
-  pub next-packet-lawful : (node : Node) (out : List ℕ) → KeepsLawful t mem lens (nextPacketCall t mem lens node out)
-  next-packet-lawful node out = serve-lawful (seeking Ready) (nextFor node) t mem lens out (next-keeps node out)
+  pub next-packet-lawful : (node : Node) (out : List ℕ) → KeepsLawful t mem lens (nextPacketCall t mem lens lines node out)
+  next-packet-lawful node out = serve-lawful (seeking Ready) (nextFor node) t mem lens lines out (next-keeps node out)
 
-  pub open-lawful : (index : ℕ) → KeepsTable t mem lens (openCall t mem lens index)
-  open-lawful index = alone-lawful (seeking (Index index)) openedBy t mem lens [] (open-keeps (seeking (Index index)) [])
+  pub open-lawful : (index : ℕ) → KeepsTable t mem lens (openCall t mem lens lines index)
+  open-lawful index = alone-lawful (seeking (Index index)) openedBy t mem lens lines [] (open-keeps (seeking (Index index)) [])
 
-  pub close-lawful : (index : ℕ) → KeepsTable t mem lens (closeCall t mem lens index)
-  close-lawful index = alone-lawful (seeking (Index index)) closedBy t mem lens [] (close-keeps (seeking (Index index)) [])
+  pub close-lawful : (index : ℕ) → KeepsTable t mem lens (closeCall t mem lens lines index)
+  close-lawful index = alone-lawful (seeking (Index index)) closedBy t mem lens lines [] (close-keeps (seeking (Index index)) [])
 
   -- a table of records as they are made: each has its 128 marks
-  pub transfer-lawful : (index : ℕ) (unit : List ℕ) → Wide t → KeepsLawful t mem lens (transferCall t mem lens index unit)
+  pub transfer-lawful : (index : ℕ) (unit : List ℕ) → Wide t → KeepsLawful t mem lens (transferCall t mem lens lines index unit)
   transfer-lawful index unit wide =
       let look = seeking (Index index) in
-      let i = servedAt look (transferFor unit) t mem lens [] in
-      serve-keeps look (transferFor unit) t mem lens []
+      let i = servedAt look (transferFor unit) t mem lens lines [] in
+      serve-keeps look (transferFor unit) t mem lens lines []
       (λ below g. transfer-keeps look unit [] i _ (recordAt t i) (ownMem t i mem) (ownLens t i lens) (wide i below) g)
 
-  pub take-lawful : (index : ℕ) (out : List ℕ) → KeepsLawful t mem lens (takeCall t mem lens index out)
-  take-lawful index out = serve-lawful (seeking (Index index)) takeFor t mem lens out (take-keeps (seeking (Index index)) out)
+  pub take-lawful : (index : ℕ) (out : List ℕ) → KeepsLawful t mem lens (takeCall t mem lens lines index out)
+  take-lawful index out = serve-lawful (seeking (Index index)) takeFor t mem lens lines out (take-keeps (seeking (Index index)) out)
 
-  pub reclaim-lawful : (index : ℕ) (out : List ℕ) → KeepsLawful t mem lens (reclaimCall t mem lens index out)
-  reclaim-lawful index out = serve-lawful (seeking (Index index)) reclaimFor t mem lens out (reclaim-keeps (seeking (Index index)) out)
+  pub reclaim-lawful : (index : ℕ) (out : List ℕ) → KeepsLawful t mem lens (reclaimCall t mem lens lines index out)
+  reclaim-lawful index out = serve-lawful (seeking (Index index)) reclaimFor t mem lens lines out (reclaim-keeps (seeking (Index index)) out)
 
 -- ---- a tick
 
@@ -122,17 +122,25 @@ tick-sizes (c ∷ t) lens e =
       ap₂ (λ (l : Limits) (n : ℕ). areaOf l + n) (k .0 .1) (r .2),
     )
 
-pub tick-lawful : (t : List Channel) (mem lens : List ℕ) → KeepsTable t mem lens (ticked t mem lens)
+pub tick-lawful : (t : List Channel) (mem lens lines : List ℕ) → KeepsTable t mem lens (ticked t mem lens lines)
 unfolding ticked
-tick-lawful t mem lens e =
-    let h = lawful-is t mem lens e in
-    let s = tick-sizes t lens (h .stand) in
-    ap (λ (g : Changed Answer Channel). lawful (g .table) mem lens) (chosen (lawful t mem lens) _ _ e)
-    ∙ is-lawful (map tickOf t) mem lens
-    (record {
-      some = omega (arith, s .0, h .some);
-      few = omega (arith, s .0, h .few);
-      slots = h .slots ∙ sym (s .1);
-      octets = h .octets ∙ sym (s .2);
-      stand = tick-stands-all t lens (h .stand);
-    })
+tick-lawful t mem lens lines e = go (passes t mem lens lines) refl
+  where
+    h : Lawful t mem lens
+    h = lawful-is t mem lens e
+
+    s : (length (map tickOf t) ≡ length t) × (allSlots (map tickOf t) ≡ allSlots t) × (allOctets (map tickOf t) ≡ allOctets t)
+    s = tick-sizes t lens (h .stand)
+
+    go : (b : Bool) → passes t mem lens lines ≡ b → lawful (ticked t mem lens lines .table) mem lens ≡ true
+    go true p =
+        ap (λ (g : Changed Answer Channel). lawful (g .table) mem lens) (chosen (passes t mem lens lines) _ _ p)
+        ∙ is-lawful (map tickOf t) mem lens
+        (record {
+          some = omega (arith, s .0, h .some);
+          few = omega (arith, s .0, h .few);
+          slots = h .slots ∙ sym (s .1);
+          octets = h .octets ∙ sym (s .2);
+          stand = tick-stands-all t lens (h .stand);
+        })
+    go false p = ap (λ (g : Changed Answer Channel). lawful (g .table) mem lens) (tick-unlawful-changes-nothing t mem lens lines p) ∙ e

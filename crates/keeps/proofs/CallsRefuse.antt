@@ -41,7 +41,7 @@ use Rattle.table.specs.declared.looking.Look.{Look}
 use Rattle.table.specs.declared.looking.Sought.the-variants.{Index, Ready}
 use Rattle.table.specs.Looking.{seeking}
 use Rattle.table.specs.Looking.{chosen as choice}
-use Rattle.table.specs.Lent.{areaOf, slotAt, octetAt, lawful}
+use Rattle.table.specs.Lent.{areaOf, slotAt, octetAt, passes}
 use Rattle.table.specs.Serving.{blank, recordAt, ownMem, ownLens, Step, alone, stored, serveOne}
 use Rattle.requests.specs.Requests.{openedBy, closedBy, transferFor, takeFor, reclaimFor}
 use Rattle.requests.specs.Handing.{nextFor}
@@ -67,27 +67,28 @@ Still c mem lens out w =
 abbrev Silent : List ℕ → Worked Stepped → Type 0
 Silent out w = numberOf (w .made .answer) ≡ 9 → w .out ≡ out
 
-module _ (look : Look) (step : Step) (t : List Channel) (mem lens out : List ℕ) where
+module _ (look : Look) (step : Step) (t : List Channel) (mem lens lines out : List ℕ) where
   serve-still : ((c : Channel) (rank : ℕ) (m l : List ℕ) → Still c m l out (step c rank m l out))
-      → RefusalsChangeNothing t mem lens out (serveOne look step t mem lens out)
+      → RefusalsChangeNothing t mem lens lines out (serveOne look step t mem lens lines out)
   unfolding stored
   serve-still still =
-      serve-cases look step t mem lens out (RefusalsChangeNothing t mem lens out) (λ n. (refl, refl, refl, refl)) (λ n. (refl, refl, refl, refl))
+      serve-cases look step t mem lens lines out (RefusalsChangeNothing t mem lens lines out) (λ n. (refl, refl, refl, refl, refl)) (λ n. (refl, refl, refl, refl, refl))
       (λ h below g n.
-      let i = servedAt look step t mem lens out in
+      let i = servedAt look step t mem lens lines out in
       let s = still (recordAt t i) (choice look t .rank) (ownMem t i mem) (ownLens t i lens) n in (
         ap (set t i) (s .0) ∙ set-getD t i blank,
         ap (laid mem (octetAt t i)) (s .1) ∙ laid-own mem (octetAt t i) (areaOf (recordAt t i .limits)),
         ap (laid lens (slotAt t i)) (s .2) ∙ laid-own lens (slotAt t i) (recordAt t i .limits .slots),
+        refl,
         s .3,
       ))
 
-  serve-silent : ((c : Channel) (rank : ℕ) (m l : List ℕ) → Silent out (step c rank m l out)) → NineWritesNothing out (serveOne look step t mem lens out)
+  serve-silent : ((c : Channel) (rank : ℕ) (m l : List ℕ) → Silent out (step c rank m l out)) → NineWritesNothing out (serveOne look step t mem lens lines out)
   unfolding stored
   serve-silent silent =
-      serve-cases look step t mem lens out (NineWritesNothing out) (λ n. refl) (λ n. refl)
+      serve-cases look step t mem lens lines out (NineWritesNothing out) (λ n. refl) (λ n. refl)
       (λ h below g n.
-      let i = servedAt look step t mem lens out in
+      let i = servedAt look step t mem lens lines out in
       silent (recordAt t i) (choice look t .rank) (ownMem t i mem) (ownLens t i lens) n)
 
 -- ---- each step
@@ -251,54 +252,56 @@ module _ (node : Node) (packet : List ℕ) (c : Channel) (rank : ℕ) (mem lens 
 
 -- ---- each call: every answer but 0, 9 and 15 changes nothing
 
-module _ (t : List Channel) (mem lens : List ℕ) where
-  pub arrival-refusals-change-nothing : (node : Node) (packet reply : List ℕ) → RefusalsChangeNothing t mem lens reply (arrivalCall t mem lens node packet reply)
+module _ (t : List Channel) (mem lens lines : List ℕ) where
+  pub arrival-refusals-change-nothing : (node : Node) (packet reply : List ℕ) → RefusalsChangeNothing t mem lens lines reply (arrivalCall t mem lens lines node packet reply)
   arrival-refusals-change-nothing node packet reply =
-      serve-still (lookOf node packet (length reply)) (arrivalFor node packet) t mem lens reply (λ c rank m l. arrival-still node packet c rank m l reply)
+      serve-still (lookOf node packet (length reply)) (arrivalFor node packet) t mem lens lines reply (λ c rank m l. arrival-still node packet c rank m l reply)
 
-  pub next-packet-refusals-change-nothing : (node : Node) (out : List ℕ) → RefusalsChangeNothing t mem lens out (nextPacketCall t mem lens node out)
-  next-packet-refusals-change-nothing node out = serve-still (seeking Ready) (nextFor node) t mem lens out (λ c rank m l. next-still c rank m l out node)
+  pub next-packet-refusals-change-nothing : (node : Node) (out : List ℕ) → RefusalsChangeNothing t mem lens lines out (nextPacketCall t mem lens lines node out)
+  next-packet-refusals-change-nothing node out = serve-still (seeking Ready) (nextFor node) t mem lens lines out (λ c rank m l. next-still c rank m l out node)
 
-  pub open-refusals-change-nothing : (index : ℕ) → RefusalsChangeNoRecord t (openCall t mem lens index)
-  open-refusals-change-nothing index n = serve-still (seeking (Index index)) (alone openedBy) t mem lens [] (λ c rank m l. open-still c rank m l []) n .0
+  pub open-refusals-change-nothing : (index : ℕ) → RefusalsChangeNoRecord t lines (openCall t mem lens lines index)
+  open-refusals-change-nothing index n =
+      let s = serve-still (seeking (Index index)) (alone openedBy) t mem lens lines [] (λ c rank m l. open-still c rank m l []) n in (s .0, s .3)
 
-  pub close-refusals-change-nothing : (index : ℕ) → RefusalsChangeNoRecord t (closeCall t mem lens index)
-  close-refusals-change-nothing index n = serve-still (seeking (Index index)) (alone closedBy) t mem lens [] (λ c rank m l. close-still c rank m l []) n .0
+  pub close-refusals-change-nothing : (index : ℕ) → RefusalsChangeNoRecord t lines (closeCall t mem lens lines index)
+  close-refusals-change-nothing index n =
+      let s = serve-still (seeking (Index index)) (alone closedBy) t mem lens lines [] (λ c rank m l. close-still c rank m l []) n in (s .0, s .3)
 
-  pub transfer-refusals-change-nothing : (index : ℕ) (unit : List ℕ) → RefusalsChangeNothing t mem lens [] (transferCall t mem lens index unit)
+  pub transfer-refusals-change-nothing : (index : ℕ) (unit : List ℕ) → RefusalsChangeNothing t mem lens lines [] (transferCall t mem lens lines index unit)
   transfer-refusals-change-nothing index unit =
-      serve-still (seeking (Index index)) (transferFor unit) t mem lens [] (λ c rank m l. transfer-still c rank m l [] unit)
+      serve-still (seeking (Index index)) (transferFor unit) t mem lens lines [] (λ c rank m l. transfer-still c rank m l [] unit)
 
-  pub take-refusals-change-nothing : (index : ℕ) (out : List ℕ) → RefusalsChangeNothing t mem lens out (takeCall t mem lens index out)
-  take-refusals-change-nothing index out = serve-still (seeking (Index index)) takeFor t mem lens out (λ c rank m l. take-still c rank m l out)
+  pub take-refusals-change-nothing : (index : ℕ) (out : List ℕ) → RefusalsChangeNothing t mem lens lines out (takeCall t mem lens lines index out)
+  take-refusals-change-nothing index out = serve-still (seeking (Index index)) takeFor t mem lens lines out (λ c rank m l. take-still c rank m l out)
 
-  pub reclaim-refusals-change-nothing : (index : ℕ) (out : List ℕ) → RefusalsChangeNothing t mem lens out (reclaimCall t mem lens index out)
-  reclaim-refusals-change-nothing index out = serve-still (seeking (Index index)) reclaimFor t mem lens out (λ c rank m l. reclaim-still c rank m l out)
+  pub reclaim-refusals-change-nothing : (index : ℕ) (out : List ℕ) → RefusalsChangeNothing t mem lens lines out (reclaimCall t mem lens lines index out)
+  reclaim-refusals-change-nothing index out = serve-still (seeking (Index index)) reclaimFor t mem lens lines out (λ c rank m l. reclaim-still c rank m l out)
 
   -- a tick answers 0 or 9, or 13
-  pub tick-refusals-change-nothing : RefusalsChangeNoRecord t (ticked t mem lens)
+  pub tick-refusals-change-nothing : RefusalsChangeNoRecord t lines (ticked t mem lens lines)
   unfolding ticked
-  tick-refusals-change-nothing = go (lawful t mem lens) (anyInactive t)
+  tick-refusals-change-nothing = go (passes t mem lens lines) (anyInactive t)
     where
       why : ℕ
       why = recordAt (map tickOf t) (firstInactive t) .phase .reason
 
-      go : (a b : Bool) → RefusalsChangeNoRecord t (if a then changes (if b then Inactive why else Done 0 0) (map tickOf t) else changes (Refused refusal.Settings) t)
+      go : (a b : Bool) → RefusalsChangeNoRecord t lines (if a then changes (if b then Inactive why else Done 0 0) (map tickOf t) lines else changes (Refused refusal.Settings) t lines)
       go true true n = absurd (n (inr (inl refl)))
       go true false n = absurd (n (inl refl))
-      go false b n = refl
+      go false b n = (refl, refl)
 
   -- ---- 9 writes no reply, no packet and no unit
 
-  pub arrival-nine-writes-nothing : (node : Node) (packet reply : List ℕ) → NineWritesNothing reply (arrivalCall t mem lens node packet reply)
+  pub arrival-nine-writes-nothing : (node : Node) (packet reply : List ℕ) → NineWritesNothing reply (arrivalCall t mem lens lines node packet reply)
   arrival-nine-writes-nothing node packet reply =
-      serve-silent (lookOf node packet (length reply)) (arrivalFor node packet) t mem lens reply (λ c rank m l. arrival-silent node packet c rank m l reply)
+      serve-silent (lookOf node packet (length reply)) (arrivalFor node packet) t mem lens lines reply (λ c rank m l. arrival-silent node packet c rank m l reply)
 
-  pub next-packet-nine-writes-nothing : (node : Node) (out : List ℕ) → NineWritesNothing out (nextPacketCall t mem lens node out)
-  next-packet-nine-writes-nothing node out = serve-silent (seeking Ready) (nextFor node) t mem lens out (λ c rank m l. next-silent c rank m l out node)
+  pub next-packet-nine-writes-nothing : (node : Node) (out : List ℕ) → NineWritesNothing out (nextPacketCall t mem lens lines node out)
+  next-packet-nine-writes-nothing node out = serve-silent (seeking Ready) (nextFor node) t mem lens lines out (λ c rank m l. next-silent c rank m l out node)
 
-  pub take-nine-writes-nothing : (index : ℕ) (out : List ℕ) → NineWritesNothing out (takeCall t mem lens index out)
-  take-nine-writes-nothing index out = serve-silent (seeking (Index index)) takeFor t mem lens out (λ c rank m l. take-silent c rank m l out)
+  pub take-nine-writes-nothing : (index : ℕ) (out : List ℕ) → NineWritesNothing out (takeCall t mem lens lines index out)
+  take-nine-writes-nothing index out = serve-silent (seeking (Index index)) takeFor t mem lens lines out (λ c rank m l. take-silent c rank m l out)
 
-  pub reclaim-nine-writes-nothing : (index : ℕ) (out : List ℕ) → NineWritesNothing out (reclaimCall t mem lens index out)
-  reclaim-nine-writes-nothing index out = serve-silent (seeking (Index index)) reclaimFor t mem lens out (λ c rank m l. reclaim-silent c rank m l out)
+  pub reclaim-nine-writes-nothing : (index : ℕ) (out : List ℕ) → NineWritesNothing out (reclaimCall t mem lens lines index out)
+  reclaim-nine-writes-nothing index out = serve-silent (seeking (Index index)) reclaimFor t mem lens lines out (λ c rank m l. reclaim-silent c rank m l out)

@@ -77,17 +77,17 @@ step-fixing Unknown x out = λ at rank c mem lens g. (refl, refl)
 
 -- ---- the door
 
-module _ (t : List Channel) (mem lens : List ℕ) (n : Request) (x out : List ℕ) where
+module _ (t : List Channel) (mem lens lines : List ℕ) (n : Request) (x out : List ℕ) where
   -- a table of records as they are made: each has its 128 marks
-  pub served-lawful : Wide t → KeepsLawful t mem lens (served t mem lens n x out)
+  pub served-lawful : Wide t → KeepsLawful t mem lens (served t mem lens lines n x out)
   served-lawful wide =
       let look = lookIn n x (length out) in
-      let i = servedAt look (stepFor n x) t mem lens out in
-      serve-keeps look (stepFor n x) t mem lens out
+      let i = servedAt look (stepFor n x) t mem lens lines out in
+      serve-keeps look (stepFor n x) t mem lens lines out
       (λ below g. step-keeps n x out i _ (recordAt t i) (ownMem t i mem) (ownLens t i lens) (wide i below) g)
 
-  pub served-wide : Wide t → Wide (served t mem lens n x out .table)
-  served-wide = serve-wide (lookIn n x (length out)) (stepFor n x) t mem lens out (step-marking n x out)
+  pub served-wide : Wide t → Wide (served t mem lens lines n x out .table)
+  served-wide = serve-wide (lookIn n x (length out)) (stepFor n x) t mem lens lines out (step-marking n x out)
 
-  pub served-settings-stay : SettingsStay t (served t mem lens n x out .table)
-  served-settings-stay = settings-stay (lookIn n x (length out)) (stepFor n x) t mem lens out (step-fixing n x out)
+  pub served-settings-stay : SettingsStay t (served t mem lens lines n x out .table)
+  served-settings-stay = settings-stay (lookIn n x (length out)) (stepFor n x) t mem lens lines out (step-fixing n x out)

@@ -43,7 +43,7 @@ use Rattle.table.specs.declared.looking.Look.{Look}
 use Rattle.table.specs.declared.looking.Sought.the-variants.{Index, Ready}
 use Rattle.table.specs.Looking.{seeking}
 use Rattle.table.specs.Looking.{chosen as choice}
-use Rattle.table.specs.Lent.{lawful}
+use Rattle.table.specs.Lent.{passes}
 use Rattle.table.specs.Serving.{blank, recordAt, ownMem, ownLens, Step, alone, stored, serveOne}
 use Rattle.requests.specs.Requests.{openedBy, closedBy, transferFor, takeFor, reclaimFor}
 use Rattle.requests.specs.Handing.{nextFor}
@@ -171,13 +171,13 @@ stored-wide t i k wide full j less = go (eqb j i) refl
         ∙ full
     go false e = ap (λ (c : Channel). length (c .marks)) (getD-set-other t i j k blank (eqb-false j i e)) ∙ wide j below
 
-pub serve-wide : (look : Look) (step : Step) (t : List Channel) (mem lens out : List ℕ) → Marking step out → Wide t → Wide (serveOne look step t mem lens out .table)
+pub serve-wide : (look : Look) (step : Step) (t : List Channel) (mem lens lines out : List ℕ) → Marking step out → Wide t → Wide (serveOne look step t mem lens lines out .table)
 unfolding stored
-serve-wide look step t mem lens out marking wide =
-    serve-cases look step t mem lens out (λ (g : Called Answer Channel). Wide (g .table)) wide wide
+serve-wide look step t mem lens lines out marking wide =
+    serve-cases look step t mem lens lines out (λ (g : Called Answer Channel). Wide (g .table)) wide wide
     (λ h below g.
-    let i = servedAt look step t mem lens out in
-    stored-wide t i (worked look step t mem lens out .made .channel) wide
+    let i = servedAt look step t mem lens lines out in
+    stored-wide t i (worked look step t mem lens lines out .made .channel) wide
     (marking (recordAt t i) (choice look t .rank) (ownMem t i mem) (ownLens t i lens) (wide i below)))
 
 pub open-marking : (out : List ℕ) → Marking (alone openedBy) out
@@ -215,38 +215,38 @@ arrival-marking node packet out c rank mem lens w =
     (control-ack-full c w n)
     (λ opens. control-full c w opens n)
 
-module _ (t : List Channel) (mem lens : List ℕ) (wide : Wide t) where
-  pub arrival-wide : (node : Node) (packet reply : List ℕ) → Wide (arrivalCall t mem lens node packet reply .table)
+module _ (t : List Channel) (mem lens lines : List ℕ) (wide : Wide t) where
+  pub arrival-wide : (node : Node) (packet reply : List ℕ) → Wide (arrivalCall t mem lens lines node packet reply .table)
   arrival-wide node packet reply =
-      serve-wide (lookOf node packet (length reply)) (arrivalFor node packet) t mem lens reply (arrival-marking node packet reply) wide
+      serve-wide (lookOf node packet (length reply)) (arrivalFor node packet) t mem lens lines reply (arrival-marking node packet reply) wide
 
-  pub next-packet-wide : (node : Node) (out : List ℕ) → Wide (nextPacketCall t mem lens node out .table)
-  next-packet-wide node out = serve-wide (seeking Ready) (nextFor node) t mem lens out (next-marking node out) wide
+  pub next-packet-wide : (node : Node) (out : List ℕ) → Wide (nextPacketCall t mem lens lines node out .table)
+  next-packet-wide node out = serve-wide (seeking Ready) (nextFor node) t mem lens lines out (next-marking node out) wide
 
-  pub open-wide : (index : ℕ) → Wide (openCall t mem lens index .table)
-  open-wide index = serve-wide (seeking (Index index)) (alone openedBy) t mem lens [] (open-marking []) wide
+  pub open-wide : (index : ℕ) → Wide (openCall t mem lens lines index .table)
+  open-wide index = serve-wide (seeking (Index index)) (alone openedBy) t mem lens lines [] (open-marking []) wide
 
-  pub close-wide : (index : ℕ) → Wide (closeCall t mem lens index .table)
-  close-wide index = serve-wide (seeking (Index index)) (alone closedBy) t mem lens [] (close-marking []) wide
+  pub close-wide : (index : ℕ) → Wide (closeCall t mem lens lines index .table)
+  close-wide index = serve-wide (seeking (Index index)) (alone closedBy) t mem lens lines [] (close-marking []) wide
 
-  pub transfer-wide : (index : ℕ) (unit : List ℕ) → Wide (transferCall t mem lens index unit .table)
-  transfer-wide index unit = serve-wide (seeking (Index index)) (transferFor unit) t mem lens [] (transfer-marking unit []) wide
+  pub transfer-wide : (index : ℕ) (unit : List ℕ) → Wide (transferCall t mem lens lines index unit .table)
+  transfer-wide index unit = serve-wide (seeking (Index index)) (transferFor unit) t mem lens lines [] (transfer-marking unit []) wide
 
-  pub take-wide : (index : ℕ) (out : List ℕ) → Wide (takeCall t mem lens index out .table)
-  take-wide index out = serve-wide (seeking (Index index)) takeFor t mem lens out (take-marking out) wide
+  pub take-wide : (index : ℕ) (out : List ℕ) → Wide (takeCall t mem lens lines index out .table)
+  take-wide index out = serve-wide (seeking (Index index)) takeFor t mem lens lines out (take-marking out) wide
 
-  pub reclaim-wide : (index : ℕ) (out : List ℕ) → Wide (reclaimCall t mem lens index out .table)
-  reclaim-wide index out = serve-wide (seeking (Index index)) reclaimFor t mem lens out (reclaim-marking out) wide
+  pub reclaim-wide : (index : ℕ) (out : List ℕ) → Wide (reclaimCall t mem lens lines index out .table)
+  reclaim-wide index out = serve-wide (seeking (Index index)) reclaimFor t mem lens lines out (reclaim-marking out) wide
 
-  pub tick-wide : Wide (ticked t mem lens .table)
+  pub tick-wide : Wide (ticked t mem lens lines .table)
   unfolding ticked
-  tick-wide = go (lawful t mem lens)
+  tick-wide = go (passes t mem lens lines)
     where
       each : Wide (map tickOf t)
       each i less =
           let below = subst (λ (n : ℕ). i < n) (length-map t tickOf) less in
           ap (λ (c : Channel). length (c .marks)) (mapped-at tickOf t i below) ∙ tick-full (recordAt t i) (wide i below)
 
-      go : (b : Bool) → Wide ((if b then changes (tickAnswer t) (map tickOf t) else changes (Refused refusal.Settings) t) .table)
+      go : (b : Bool) → Wide ((if b then changes (tickAnswer t) (map tickOf t) lines else changes (Refused refusal.Settings) t lines) .table)
       go true = each
       go false = wide

@@ -20,10 +20,10 @@ use Rattle.channel.proofs.SettingsLaws.{fit-is}
 use Rattle.channel.proofs.StandingLaws.{stands-is, is-stands}
 use Rattle.table.specs.declared.looking.Look.{Look}
 use Rattle.table.specs.Looking.{missing, isFound, chosen as choice}
-use Rattle.table.specs.Lent.{areaOf, slotAt, octetAt, lawful}
+use Rattle.table.specs.Lent.{areaOf, slotAt, octetAt, lawful, passes}
 use Rattle.table.specs.Serving.{recordAt, ownMem, ownLens, Step, stored, serveOne}
 use Rattle.table.proofs.SurveyLaws.{each-stands, slots-within, octets-within}
-use Rattle.table.proofs.ServeLaws.{Lawful, lawful-is, is-lawful, found-below, found-suits}
+use Rattle.table.proofs.ServeLaws.{Lawful, is-lawful, passing-is, found-below, found-suits}
 use Rattle.keeps.specs.Keeping.{KeepsLawful, Given, Kept, Keeps}
 use Rattle.keeps.proofs.Storing.{slots-stored, octets-stored, stands-stored}
 
@@ -36,10 +36,10 @@ module _ (t : List Channel) (mem lens : List ℕ) (h : Lawful t mem lens) (i : �
   octets-inside = omega (arith, octets-within t i below, h .octets)
 
   -- stored with what was kept, the table is lawful again
-  pub stored-lawful : (w : Worked Stepped) → Kept (recordAt t i) w
-      → lawful (stored t mem lens i w .table) (stored t mem lens i w .mem) (stored t mem lens i w .lens) ≡ true
+  pub stored-lawful : (lines : List ℕ) (w : Worked Stepped) → Kept (recordAt t i) w
+      → lawful (stored t mem lens lines i w .table) (stored t mem lens lines i w .mem) (stored t mem lens lines i w .lens) ≡ true
   unfolding stored
-  stored-lawful w k =
+  stored-lawful lines w k =
       let c = recordAt t i in
       let in-mem : octetAt t i + length (w .mem) ≤ length mem = omega (arith, octets-inside, k .sized .exact) in
       let in-lens : slotAt t i + length (w .lens) ≤ length lens = omega (arith, slots-inside, k .sized .each) in
@@ -54,7 +54,7 @@ module _ (t : List Channel) (mem lens : List ℕ) (h : Lawful t mem lens) (i : �
             stands-stored (w .made .channel) (w .lens) (is-stands (w .made .channel) (w .lens) (k .standing)) t lens i below (omega (arith, h .slots)) (k .limits) (k .sized .each) (h .stand);
       })
 
-module _ (look : Look) (step : Step) (t : List Channel) (mem lens out : List ℕ) where
+module _ (look : Look) (step : Step) (t : List Channel) (mem lens lines out : List ℕ) where
   -- the channel that is served, and what its step leaves
   abbrev pub servedAt : ℕ
   servedAt = choice look t .at
@@ -64,16 +64,16 @@ module _ (look : Look) (step : Step) (t : List Channel) (mem lens out : List ℕ
 
   -- ---- the three cases
 
-  pub serve-unlawful : lawful t mem lens ≡ false → serveOne look step t mem lens out ≡ leaves (Refused refusal.Settings) t mem lens out
+  pub serve-unlawful : passes t mem lens lines ≡ false → serveOne look step t mem lens lines out ≡ leaves (Refused refusal.Settings) t mem lens lines out
   unfolding serveOne
   serve-unlawful e = simp (e)
 
-  pub serve-missing : lawful t mem lens ≡ true → isFound (choice look t) ≡ false
-      → serveOne look step t mem lens out ≡ leaves (Refused (missing (look .sought))) t mem lens out
+  pub serve-missing : passes t mem lens lines ≡ true → isFound (choice look t) ≡ false
+      → serveOne look step t mem lens lines out ≡ leaves (Refused (missing (look .sought))) t mem lens lines out
   unfolding serveOne
   serve-missing e f = simp (e, f)
 
-  pub serve-found : lawful t mem lens ≡ true → isFound (choice look t) ≡ true → serveOne look step t mem lens out ≡ stored t mem lens servedAt worked
+  pub serve-found : passes t mem lens lines ≡ true → isFound (choice look t) ≡ true → serveOne look step t mem lens lines out ≡ stored t mem lens lines servedAt worked
   unfolding serveOne
   serve-found e f = simp (e, f)
 
@@ -101,19 +101,19 @@ module _ (look : Look) (step : Step) (t : List Channel) (mem lens out : List ℕ
 
   -- what holds in each case holds of the call
   pub serve-cases : (P : Called Answer Channel → Type 0)
-      → P (leaves (Refused refusal.Settings) t mem lens out)
-      → P (leaves (Refused (missing (look .sought))) t mem lens out)
+      → P (leaves (Refused refusal.Settings) t mem lens lines out)
+      → P (leaves (Refused (missing (look .sought))) t mem lens lines out)
       → (Lawful t mem lens → servedAt < length t
       → Given look servedAt (choice look t .rank) (recordAt t servedAt) (ownMem t servedAt mem) (ownLens t servedAt lens)
-      → P (stored t mem lens servedAt worked))
-      → P (serveOne look step t mem lens out)
-  serve-cases P bad none found = go (lawful t mem lens) refl (isFound (choice look t)) refl
+      → P (stored t mem lens lines servedAt worked))
+      → P (serveOne look step t mem lens lines out)
+  serve-cases P bad none found = go (passes t mem lens lines) refl (isFound (choice look t)) refl
     where
-      go : (a : Bool) → lawful t mem lens ≡ a → (b : Bool) → isFound (choice look t) ≡ b → P (serveOne look step t mem lens out)
+      go : (a : Bool) → passes t mem lens lines ≡ a → (b : Bool) → isFound (choice look t) ≡ b → P (serveOne look step t mem lens lines out)
       go false e b f = subst P (sym (serve-unlawful e)) bad
       go true e false f = subst P (sym (serve-missing e f)) none
       go true e true f =
-          let h = lawful-is t mem lens e in
+          let h = passing-is t mem lens lines e .lawful in
           let less = ltb-true (choice look t .rank) 3 f in
           subst P (sym (serve-found e f)) (found h (found-below look t mem lens h less) (given h less))
 
@@ -122,11 +122,11 @@ module _ (look : Look) (step : Step) (t : List Channel) (mem lens out : List ℕ
   pub serve-keeps : (servedAt < length t
       → Given look servedAt (choice look t .rank) (recordAt t servedAt) (ownMem t servedAt mem) (ownLens t servedAt lens)
       → Kept (recordAt t servedAt) worked)
-      → KeepsLawful t mem lens (serveOne look step t mem lens out)
+      → KeepsLawful t mem lens (serveOne look step t mem lens lines out)
   serve-keeps keeps e =
       serve-cases (λ (g : Called Answer Channel). lawful (g .table) (g .mem) (g .lens) ≡ true) e e
-      (λ h below g. stored-lawful t mem lens h servedAt below worked (keeps below g))
+      (λ h below g. stored-lawful t mem lens h servedAt below lines worked (keeps below g))
 
-  pub serve-lawful : Keeps look step out → KeepsLawful t mem lens (serveOne look step t mem lens out)
+  pub serve-lawful : Keeps look step out → KeepsLawful t mem lens (serveOne look step t mem lens lines out)
   serve-lawful keeps =
       serve-keeps (λ below g. keeps servedAt (choice look t .rank) (recordAt t servedAt) (ownMem t servedAt mem) (ownLens t servedAt lens) g)

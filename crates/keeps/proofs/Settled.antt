@@ -26,10 +26,10 @@ use Rattle.table.specs.declared.looking.Look.{Look}
 use Rattle.table.specs.declared.looking.Sought.the-variants.{Index, Ready}
 use Rattle.table.specs.Looking.{seeking}
 use Rattle.table.specs.Looking.{chosen as choice}
-use Rattle.table.specs.Lent.{eachStands, lawful}
+use Rattle.table.specs.Lent.{eachStands, passes}
 use Rattle.table.specs.Serving.{blank, recordAt, ownMem, ownLens, Step, alone, stored, serveOne}
 use Rattle.table.proofs.SurveyLaws.{stands-first}
-use Rattle.table.proofs.ServeLaws.{lawful-is}
+use Rattle.table.proofs.ServeLaws.{passing-is}
 use Rattle.requests.specs.Requests.{openedBy, closedBy, transferFor, takeFor, reclaimFor}
 use Rattle.requests.specs.Handing.{nextFor}
 use Rattle.arrivals.specs.Finding.{lookOf}
@@ -64,45 +64,45 @@ transfer-fixing look unit out at rank c mem lens g = go (eqb (c .addresses .dire
     go true = transfer-fixed c unit
     go false = (refl, refl)
 
-pub settings-stay : (look : Look) (step : Step) (t : List Channel) (mem lens out : List ℕ) → Fixing look step out
-    → SettingsStay t (serveOne look step t mem lens out .table)
+pub settings-stay : (look : Look) (step : Step) (t : List Channel) (mem lens lines out : List ℕ) → Fixing look step out
+    → SettingsStay t (serveOne look step t mem lens lines out .table)
 unfolding stored
-settings-stay look step t mem lens out fixing =
-    serve-cases look step t mem lens out (λ (g : Called Answer Channel). SettingsStay t (g .table)) (refl, refl) (refl, refl)
+settings-stay look step t mem lens lines out fixing =
+    serve-cases look step t mem lens lines out (λ (g : Called Answer Channel). SettingsStay t (g .table)) (refl, refl) (refl, refl)
     (λ h below g.
-    let i = servedAt look step t mem lens out in
-    let k = worked look step t mem lens out .made .channel in
+    let i = servedAt look step t mem lens lines out in
+    let k = worked look step t mem lens lines out .made .channel in
     let f = fixing i (choice look t .rank) (recordAt t i) (ownMem t i mem) (ownLens t i lens) g in
     (map-set-same (λ (c : Channel). c .addresses) t i k blank (f .0), map-set-same (λ (c : Channel). c .limits) t i k blank (f .1)))
 
 -- ---- each call
 
-module _ (t : List Channel) (mem lens : List ℕ) where
-  pub arrival-settings-stay : (node : Node) (packet reply : List ℕ) → SettingsStay t (arrivalCall t mem lens node packet reply .table)
+module _ (t : List Channel) (mem lens lines : List ℕ) where
+  pub arrival-settings-stay : (node : Node) (packet reply : List ℕ) → SettingsStay t (arrivalCall t mem lens lines node packet reply .table)
   arrival-settings-stay node packet reply =
       let look = lookOf node packet (length reply) in
-      settings-stay look (arrivalFor node packet) t mem lens reply (keeps-fixing look (arrivalFor node packet) reply (arrival-keeps node packet reply))
+      settings-stay look (arrivalFor node packet) t mem lens lines reply (keeps-fixing look (arrivalFor node packet) reply (arrival-keeps node packet reply))
 
-  pub next-packet-settings-stay : (node : Node) (out : List ℕ) → SettingsStay t (nextPacketCall t mem lens node out .table)
-  next-packet-settings-stay node out = settings-stay (seeking Ready) (nextFor node) t mem lens out (keeps-fixing (seeking Ready) (nextFor node) out (next-keeps node out))
+  pub next-packet-settings-stay : (node : Node) (out : List ℕ) → SettingsStay t (nextPacketCall t mem lens lines node out .table)
+  next-packet-settings-stay node out = settings-stay (seeking Ready) (nextFor node) t mem lens lines out (keeps-fixing (seeking Ready) (nextFor node) out (next-keeps node out))
 
-  pub open-settings-stay : (index : ℕ) → SettingsStay t (openCall t mem lens index .table)
+  pub open-settings-stay : (index : ℕ) → SettingsStay t (openCall t mem lens lines index .table)
   open-settings-stay index =
-      settings-stay (seeking (Index index)) (alone openedBy) t mem lens [] (keeps-fixing (seeking (Index index)) (alone openedBy) [] (open-keeps (seeking (Index index)) []))
+      settings-stay (seeking (Index index)) (alone openedBy) t mem lens lines [] (keeps-fixing (seeking (Index index)) (alone openedBy) [] (open-keeps (seeking (Index index)) []))
 
-  pub close-settings-stay : (index : ℕ) → SettingsStay t (closeCall t mem lens index .table)
+  pub close-settings-stay : (index : ℕ) → SettingsStay t (closeCall t mem lens lines index .table)
   close-settings-stay index =
-      settings-stay (seeking (Index index)) (alone closedBy) t mem lens [] (keeps-fixing (seeking (Index index)) (alone closedBy) [] (close-keeps (seeking (Index index)) []))
+      settings-stay (seeking (Index index)) (alone closedBy) t mem lens lines [] (keeps-fixing (seeking (Index index)) (alone closedBy) [] (close-keeps (seeking (Index index)) []))
 
-  pub transfer-settings-stay : (index : ℕ) (unit : List ℕ) → SettingsStay t (transferCall t mem lens index unit .table)
-  transfer-settings-stay index unit = settings-stay (seeking (Index index)) (transferFor unit) t mem lens [] (transfer-fixing (seeking (Index index)) unit [])
+  pub transfer-settings-stay : (index : ℕ) (unit : List ℕ) → SettingsStay t (transferCall t mem lens lines index unit .table)
+  transfer-settings-stay index unit = settings-stay (seeking (Index index)) (transferFor unit) t mem lens lines [] (transfer-fixing (seeking (Index index)) unit [])
 
-  pub take-settings-stay : (index : ℕ) (out : List ℕ) → SettingsStay t (takeCall t mem lens index out .table)
-  take-settings-stay index out = settings-stay (seeking (Index index)) takeFor t mem lens out (keeps-fixing (seeking (Index index)) takeFor out (take-keeps (seeking (Index index)) out))
+  pub take-settings-stay : (index : ℕ) (out : List ℕ) → SettingsStay t (takeCall t mem lens lines index out .table)
+  take-settings-stay index out = settings-stay (seeking (Index index)) takeFor t mem lens lines out (keeps-fixing (seeking (Index index)) takeFor out (take-keeps (seeking (Index index)) out))
 
-  pub reclaim-settings-stay : (index : ℕ) (out : List ℕ) → SettingsStay t (reclaimCall t mem lens index out .table)
+  pub reclaim-settings-stay : (index : ℕ) (out : List ℕ) → SettingsStay t (reclaimCall t mem lens lines index out .table)
   reclaim-settings-stay index out =
-      settings-stay (seeking (Index index)) reclaimFor t mem lens out (keeps-fixing (seeking (Index index)) reclaimFor out (reclaim-keeps (seeking (Index index)) out))
+      settings-stay (seeking (Index index)) reclaimFor t mem lens lines out (keeps-fixing (seeking (Index index)) reclaimFor out (reclaim-keeps (seeking (Index index)) out))
 
 -- ---- a tick
 
@@ -117,14 +117,14 @@ each-stays (c ∷ t) lens e =
       ap₂ (λ (a : Limits) (l : List Limits). a ∷ l) (k .0 .1) (r .1),
     )
 
-pub tick-settings-stay : (t : List Channel) (mem lens : List ℕ) → SettingsStay t (ticked t mem lens .table)
+pub tick-settings-stay : (t : List Channel) (mem lens lines : List ℕ) → SettingsStay t (ticked t mem lens lines .table)
 unfolding ticked
-tick-settings-stay t mem lens = go (lawful t mem lens) refl
+tick-settings-stay t mem lens lines = go (passes t mem lens lines) refl
   where
     Same : Changed Answer Channel → Type 0
     Same g = SettingsStay t (g .table)
 
-    go : (b : Bool) → lawful t mem lens ≡ b → SettingsStay t (ticked t mem lens .table)
+    go : (b : Bool) → passes t mem lens lines ≡ b → SettingsStay t (ticked t mem lens lines .table)
     go true e =
-        subst Same (sym (chosen (lawful t mem lens) _ _ e)) (each-stays t lens (lawful-is t mem lens e .stand))
-    go false e = subst Same (sym (tick-unlawful-changes-nothing t mem lens e)) (refl, refl)
+        subst Same (sym (chosen (passes t mem lens lines) _ _ e)) (each-stays t lens (passing-is t mem lens lines e .lawful .stand))
+    go false e = subst Same (sym (tick-unlawful-changes-nothing t mem lens lines e)) (refl, refl)

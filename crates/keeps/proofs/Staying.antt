@@ -40,13 +40,13 @@ FilesNothing step out = (c : Channel) (rank : ℕ) (m l : List ℕ) → (step c 
 abbrev pub MemoryStays : List ℕ → List ℕ → Called Answer Channel → Type 0
 MemoryStays mem lens g = (g .mem ≡ mem) × (g .lens ≡ lens)
 
-module _ (look : Look) (step : Step) (t : List Channel) (mem lens out : List ℕ) where
-  files-nothing : FilesNothing step out → MemoryStays mem lens (serveOne look step t mem lens out)
+module _ (look : Look) (step : Step) (t : List Channel) (mem lens lines out : List ℕ) where
+  files-nothing : FilesNothing step out → MemoryStays mem lens (serveOne look step t mem lens lines out)
   unfolding stored
   files-nothing still =
-      serve-cases look step t mem lens out (MemoryStays mem lens) (refl, refl) (refl, refl)
+      serve-cases look step t mem lens lines out (MemoryStays mem lens) (refl, refl) (refl, refl)
       (λ h below g.
-      let i = servedAt look step t mem lens out in
+      let i = servedAt look step t mem lens lines out in
       let s = still (recordAt t i) (choice look t .rank) (ownMem t i mem) (ownLens t i lens) in (
         ap (laid mem (octetAt t i)) (s .0) ∙ laid-own mem (octetAt t i) (areaOf (recordAt t i .limits)),
         ap (laid lens (slotAt t i)) (s .1) ∙ laid-own lens (slotAt t i) (recordAt t i .limits .slots),
@@ -74,28 +74,34 @@ next-files-nothing node out c rank m l = (refl, refl)
 
 -- ---- each call
 
-module _ (t : List Channel) (mem lens x out : List ℕ) where
-  pub open-stays : (index : ℕ) → MemoryStays mem lens (served t mem lens (Open index) x out)
-  open-stays index = files-nothing (seeking (Index index)) (alone openedBy) t mem lens out (λ c rank m l. (refl, refl))
+module _ (t : List Channel) (mem lens lines x out : List ℕ) where
+  pub open-stays : (index : ℕ) → MemoryStays mem lens (served t mem lens lines (Open index) x out)
+  open-stays index = files-nothing (seeking (Index index)) (alone openedBy) t mem lens lines out (λ c rank m l. (refl, refl))
 
-  pub close-stays : (index : ℕ) → MemoryStays mem lens (served t mem lens (Close index) x out)
-  close-stays index = files-nothing (seeking (Index index)) (alone closedBy) t mem lens out (λ c rank m l. (refl, refl))
+  pub close-stays : (index : ℕ) → MemoryStays mem lens (served t mem lens lines (Close index) x out)
+  close-stays index = files-nothing (seeking (Index index)) (alone closedBy) t mem lens lines out (λ c rank m l. (refl, refl))
 
-  pub take-stays : (index : ℕ) → MemoryStays mem lens (served t mem lens (Take index) x out)
-  take-stays index = files-nothing (seeking (Index index)) takeFor t mem lens out (take-files-nothing out)
+  pub take-stays : (index : ℕ) → MemoryStays mem lens (served t mem lens lines (Take index) x out)
+  take-stays index = files-nothing (seeking (Index index)) takeFor t mem lens lines out (take-files-nothing out)
 
-  pub reclaim-stays : (index : ℕ) → MemoryStays mem lens (served t mem lens (Reclaim index) x out)
-  reclaim-stays index = files-nothing (seeking (Index index)) reclaimFor t mem lens out (reclaim-files-nothing out)
+  pub reclaim-stays : (index : ℕ) → MemoryStays mem lens (served t mem lens lines (Reclaim index) x out)
+  reclaim-stays index = files-nothing (seeking (Index index)) reclaimFor t mem lens lines out (reclaim-files-nothing out)
 
-  pub next-stays : (node : Node) → MemoryStays mem lens (served t mem lens (NextPacket node) x out)
-  next-stays node = files-nothing (seeking Ready) (nextFor node) t mem lens out (next-files-nothing node out)
+  pub next-stays : (node : Node) → MemoryStays mem lens (served t mem lens lines (NextPacket node) x out)
+  next-stays node = files-nothing (seeking Ready) (nextFor node) t mem lens lines out (next-files-nothing node out)
 
-  pub question-stays : (index count : ℕ) → MemoryStays mem lens (served t mem lens (WouldTransfer index count) x out)
-  question-stays index count = files-nothing (seeking (Index index)) (alone (askedBy count)) t mem lens out (λ c rank m l. (refl, refl))
+  pub question-stays : (index count : ℕ) → MemoryStays mem lens (served t mem lens lines (WouldTransfer index count) x out)
+  question-stays index count = files-nothing (seeking (Index index)) (alone (askedBy count)) t mem lens lines out (λ c rank m l. (refl, refl))
 
   -- and no record changes
-  pub question-changes-nothing : (index count : ℕ) → served t mem lens (WouldTransfer index count) x out .table ≡ t
+  pub question-changes-nothing : (index count : ℕ) → served t mem lens lines (WouldTransfer index count) x out .table ≡ t
   unfolding stored askedBy
   question-changes-nothing index count =
-      serve-cases (seeking (Index index)) (alone (askedBy count)) t mem lens out (λ (g : Called Answer Channel). g .table ≡ t) refl refl
-      (λ h below g. set-getD t (servedAt (seeking (Index index)) (alone (askedBy count)) t mem lens out) blank)
+      serve-cases (seeking (Index index)) (alone (askedBy count)) t mem lens lines out (λ (g : Called Answer Channel). g .table ≡ t) refl refl
+      (λ h below g. set-getD t (servedAt (seeking (Index index)) (alone (askedBy count)) t mem lens lines out) blank)
+
+  -- and no place in a line
+  pub question-lines-stay : (index count : ℕ) → served t mem lens lines (WouldTransfer index count) x out .lines ≡ lines
+  unfolding stored
+  question-lines-stay index count =
+      serve-cases (seeking (Index index)) (alone (askedBy count)) t mem lens lines out (λ (g : Called Answer Channel). g .lines ≡ lines) refl refl (λ h below g. refl)

@@ -16,21 +16,25 @@ use Rattle.channel.specs.Answers.{numberOf}
 use Rattle.channel.specs.Standing.{Standing}
 use Rattle.table.specs.declared.looking.Look.{Look}
 use Rattle.table.specs.Looking.{graded}
-use Rattle.table.specs.Lent.{areaOf, slotAt, octetAt, lawful}
+use Rattle.table.specs.Lent.{areaOf, slotAt, octetAt, lawful, passes}
 use Rattle.table.specs.Serving.{recordAt, ownMem, ownLens, Step}
 
 -- ---- 'Two outcomes it admits are proved equal'
 
 abbrev pub OneOutcome : Called Answer Channel → Type 0
 OneOutcome g =
-    (r r2 : Answer) (t t2 : List Channel) (m m2 l l2 o o2 : List ℕ)
-    → leaves r t m l o ≡ g
-    → leaves r2 t2 m2 l2 o2 ≡ g
-    → (r ≡ r2) × (t ≡ t2) × (m ≡ m2) × (l ≡ l2) × (o ≡ o2)
+    (r r2 : Answer) (t t2 : List Channel) (m m2 l l2 i i2 o o2 : List ℕ)
+    → leaves r t m l i o ≡ g
+    → leaves r2 t2 m2 l2 i2 o2 ≡ g
+    → (r ≡ r2) × (t ≡ t2) × (m ≡ m2) × (l ≡ l2) × (i ≡ i2) × (o ≡ o2)
 
--- of a call that changes the table alone
+-- of a call that changes the table and the lines alone
 abbrev pub OneChange : Changed Answer Channel → Type 0
-OneChange g = (r r2 : Answer) (t t2 : List Channel) → changes r t ≡ g → changes r2 t2 ≡ g → (r ≡ r2) × (t ≡ t2)
+OneChange g =
+    (r r2 : Answer) (t t2 : List Channel) (i i2 : List ℕ)
+    → changes r t i ≡ g
+    → changes r2 t2 i2 ≡ g
+    → (r ≡ r2) × (t ≡ t2) × (i ≡ i2)
 
 -- ---- 'every call keeps the condition'
 
@@ -68,11 +72,13 @@ Keeps look step out = (at rank : ℕ) (c : Channel) (mem lens : List ℕ) → Gi
 abbrev pub MayChange : Answer → Type 0
 MayChange r = (numberOf r ≡ 0) ⊎ (numberOf r ≡ 9) ⊎ (numberOf r ≡ 15)
 
-abbrev pub RefusalsChangeNothing : List Channel → List ℕ → List ℕ → List ℕ → Called Answer Channel → Type 0
-RefusalsChangeNothing t mem lens out g = (MayChange (g .answer) → ⊥) → (g .table ≡ t) × (g .mem ≡ mem) × (g .lens ≡ lens) × (g .out ≡ out)
+abbrev pub RefusalsChangeNothing : List Channel → List ℕ → List ℕ → List ℕ → List ℕ → Called Answer Channel → Type 0
+RefusalsChangeNothing t mem lens lines out g =
+    (MayChange (g .answer) → ⊥)
+    → (g .table ≡ t) × (g .mem ≡ mem) × (g .lens ≡ lens) × (g .lines ≡ lines) × (g .out ≡ out)
 
-abbrev pub RefusalsChangeNoRecord : List Channel → Changed Answer Channel → Type 0
-RefusalsChangeNoRecord t g = (MayChange (g .answer) → ⊥) → g .table ≡ t
+abbrev pub RefusalsChangeNoRecord : List Channel → List ℕ → Changed Answer Channel → Type 0
+RefusalsChangeNoRecord t lines g = (MayChange (g .answer) → ⊥) → (g .table ≡ t) × (g .lines ≡ lines)
 
 -- '9 writes no reply'
 abbrev pub NineWritesNothing : List ℕ → Called Answer Channel → Type 0
@@ -82,7 +88,7 @@ NineWritesNothing out g = numberOf (g .answer) ≡ 9 → g .out ≡ out
 
 -- what a call leaves that changes no octet and no length
 abbrev pub staying : Changed Answer Channel → List ℕ → List ℕ → Called Answer Channel
-staying g mem lens = leaves (g .answer) (g .table) mem lens []
+staying g mem lens = leaves (g .answer) (g .table) mem lens (g .lines) []
 
 -- past what the channel at index i has, all is as it was
 pub record OthersStay (t : List Channel) (mem lens : List ℕ) (i : ℕ) (g : Called Answer Channel) : Type 0 where
@@ -118,12 +124,12 @@ limitsIn t = map (λ c. c .limits) t
 abbrev pub SettingsStay : List Channel → List Channel → Type 0
 SettingsStay t t2 = (addressesIn t2 ≡ addressesIn t) × (limitsIn t2 ≡ limitsIn t)
 
--- in every node with the same addresses that has the same channel at index i the call does the same, whatever the other channels are
-abbrev pub OwnChannelAlone : (List Channel → List ℕ → List ℕ → Called Answer Channel) → ℕ → List Channel → List ℕ → List ℕ → Type 0
-OwnChannelAlone call i t mem lens =
-    (t2 : List Channel) (mem2 lens2 : List ℕ)
-    → lawful t mem lens ≡ true
-    → lawful t2 mem2 lens2 ≡ true
+-- in every node with the same addresses that has the same channel at index i the call does the same, whatever the other channels and the lines are
+abbrev pub OwnChannelAlone : (List Channel → List ℕ → List ℕ → List ℕ → Called Answer Channel) → ℕ → List Channel → List ℕ → List ℕ → List ℕ → Type 0
+OwnChannelAlone call i t mem lens lines =
+    (t2 : List Channel) (mem2 lens2 lines2 : List ℕ)
+    → passes t mem lens lines ≡ true
+    → passes t2 mem2 lens2 lines2 ≡ true
     → addressesIn t ≡ addressesIn t2
     → SameOwn i t mem lens t2 mem2 lens2
-    → SameFor i (call t mem lens) (call t2 mem2 lens2)
+    → SameFor i (call t mem lens lines) (call t2 mem2 lens2 lines2)

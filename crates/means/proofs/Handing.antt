@@ -24,8 +24,8 @@ use Rattle.channel.specs.Asked.{Asked}
 use Rattle.channel.proofs.SettingsLaws.{fit-is}
 use Rattle.channel.proofs.StandingLaws.{counted-is}
 use Rattle.sender.specs.Directives.{placeAt}
-use Rattle.sender_packets.specs.HandingOut.{againIn, againAt, rankOf, againOut, newOut, segmentFor, nextOut}
-use Rattle.sender_packets.proofs.HandLaws.{rank-open, rank-1-is, rank-2-is}
+use Rattle.sender_packets.specs.HandingOut.{againIn, againAt, ready, againOut, newOut, segmentFor, nextOut}
+use Rattle.sender_packets.proofs.HandLaws.{ready-as, ready-open, ready-1-is, ready-2-is}
 use Rattle.protocol.specs.Units.{blank}
 use Rattle.protocol.specs.Ends as ends-of
 use Rattle.protocol.specs.Sending.{Sender, mayHandOut, handedOut}
@@ -159,15 +159,15 @@ module _ (c : Channel) (mem lens : List ℕ) (s : Sender) (a : Asked c mem lens)
         }
 
   -- resent
-  again-sends : rankOf c ≡ 1 → DataOut c mem lens s 1
+  again-sends : ready 1 c ≡ true → DataOut c mem lens s 1
   unfolding nextOut
   again-sends e =
-      let o = rank-open c 1 e (λ z. omega arith) (λ z. omega arith) in
+      let o = ready-open c 1 e (λ z. omega arith) in
       let h = a .standing in
       let n = counted-is (c .limits) (c .window) (h .ring) (h .flight) in
       let f = fit-is (c .limits) (h .fit) in
       let k = againAt c in
-      let l : k < c .window .flight = rank-1-is c e in
+      let l : k < c .window .flight = ready-1-is c e in
       let x = holds o in
       let y = windowed o in
       let unacked = again-unacked (c .acked) (c .timers .left) (c .limits .slots) (c .window .flight) (c .window .place) (n .place) (omega (arith, n .flight, n .held)) l in
@@ -183,14 +183,14 @@ module _ (c : Channel) (mem lens : List ℕ) (s : Sender) (a : Asked c mem lens)
       }
 
   -- new
-  new-sends : rankOf c ≡ 2 → DataOut c mem lens s 2
+  new-sends : ready 2 c ≡ true → DataOut c mem lens s 2
   unfolding nextOut
   new-sends e =
-      let o = rank-open c 2 e (λ z. omega arith) (λ z. omega arith) in
+      let o = ready-open c 2 e (λ z. omega arith) in
       let h = a .standing in
       let f = fit-is (c .limits) (h .fit) in
       let k = c .window .flight in
-      let l = rank-2-is c e in
+      let l = ready-2-is c e in
       let x = holds o in
       let y = windowed o in
       let unsent : s .acked (s .start + k) ≡ false
@@ -206,9 +206,9 @@ module _ (c : Channel) (mem lens : List ℕ) (s : Sender) (a : Asked c mem lens)
         segment = carried-is c mem lens (s .line) (s .oldest) (s .start) (s .next) (s .acked) a x y k (l .0);
       }
 
-  pub data-out-sends : (rank : ℕ) → rank ≡ rankOf c → (rank ≡ 1) ⊎ (rank ≡ 2) → DataOut c mem lens s rank
+  pub data-out-sends : (rank : ℕ) → ready rank c ≡ true → (rank ≡ 1) ⊎ (rank ≡ 2) → DataOut c mem lens s rank
   data-out-sends rank e one-two =
       ⊎-elim
-      (λ q. subst (λ (k : ℕ). DataOut c mem lens s k) (sym q) (again-sends (sym e ∙ q)))
-      (λ q. subst (λ (k : ℕ). DataOut c mem lens s k) (sym q) (new-sends (sym e ∙ q)))
+      (λ q. subst (λ (k : ℕ). DataOut c mem lens s k) (sym q) (again-sends (ready-as c q e)))
+      (λ q. subst (λ (k : ℕ). DataOut c mem lens s k) (sym q) (new-sends (ready-as c q e)))
       one-two

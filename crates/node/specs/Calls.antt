@@ -1,5 +1,5 @@
 -- The one door of the node: every call that serves one channel, as one function of what it is given. It gives the answer, and the table, the memory, the
--- lengths and the lent buffer afterwards (document 01, Answer numbers). Every public call but `settings` and `tick` is this function at one request.
+-- lengths, the lines and the lent buffer afterwards (document 01, Answer numbers). Every public call but `settings` and `tick` is this function at one request.
 use mathlib.Core.List.{List, []}
 use Prim.Native.Nat.{ℕ}
 use lib.ListN.{length}
@@ -48,35 +48,35 @@ stepFor Unknown x = alone (λ c. refusing c refusal.NoChannel)
 
 -- ---- the call, and the index of the channel that it serves
 
-abbrev pub served : List Channel → List ℕ → List ℕ → Request → List ℕ → List ℕ → Called Answer Channel
-served t mem lens n x out = serveOne (lookIn n x (length out)) (stepFor n x) t mem lens out
+abbrev pub served : List Channel → List ℕ → List ℕ → List ℕ → Request → List ℕ → List ℕ → Called Answer Channel
+served t mem lens lines n x out = serveOne (lookIn n x (length out)) (stepFor n x) t mem lens lines out
 
-abbrev pub servedIndex : List Channel → List ℕ → List ℕ → Request → List ℕ → List ℕ → ℕ
-servedIndex t mem lens n x out = indexServed (lookIn n x (length out)) t mem lens
+abbrev pub servedIndex : List Channel → List ℕ → List ℕ → List ℕ → Request → List ℕ → List ℕ → ℕ
+servedIndex t mem lens lines n x out = indexServed (lookIn n x (length out)) t mem lens lines
 
 -- ---- the public calls
 
-abbrev pub openCall : List Channel → List ℕ → List ℕ → ℕ → Changed Answer Channel
-openCall t mem lens index = tableOf (served t mem lens (Open index) [] [])
+abbrev pub openCall : List Channel → List ℕ → List ℕ → List ℕ → ℕ → Changed Answer Channel
+openCall t mem lens lines index = tableOf (served t mem lens lines (Open index) [] [])
 
-abbrev pub closeCall : List Channel → List ℕ → List ℕ → ℕ → Changed Answer Channel
-closeCall t mem lens index = tableOf (served t mem lens (Close index) [] [])
+abbrev pub closeCall : List Channel → List ℕ → List ℕ → List ℕ → ℕ → Changed Answer Channel
+closeCall t mem lens lines index = tableOf (served t mem lens lines (Close index) [] [])
 
-abbrev pub transferCall : List Channel → List ℕ → List ℕ → ℕ → List ℕ → Called Answer Channel
-transferCall t mem lens index unit = served t mem lens (Transfer index) unit []
+abbrev pub transferCall : List Channel → List ℕ → List ℕ → List ℕ → ℕ → List ℕ → Called Answer Channel
+transferCall t mem lens lines index unit = served t mem lens lines (Transfer index) unit []
 
 -- a question: whatever it answers, nothing changes
-abbrev pub questionCall : List Channel → List ℕ → List ℕ → ℕ → ℕ → Changed Answer Channel
-questionCall t mem lens index count = tableOf (served t mem lens (WouldTransfer index count) [] [])
+abbrev pub questionCall : List Channel → List ℕ → List ℕ → List ℕ → ℕ → ℕ → Changed Answer Channel
+questionCall t mem lens lines index count = tableOf (served t mem lens lines (WouldTransfer index count) [] [])
 
-abbrev pub takeCall : List Channel → List ℕ → List ℕ → ℕ → List ℕ → Called Answer Channel
-takeCall t mem lens index out = served t mem lens (Take index) [] out
+abbrev pub takeCall : List Channel → List ℕ → List ℕ → List ℕ → ℕ → List ℕ → Called Answer Channel
+takeCall t mem lens lines index out = served t mem lens lines (Take index) [] out
 
-abbrev pub reclaimCall : List Channel → List ℕ → List ℕ → ℕ → List ℕ → Called Answer Channel
-reclaimCall t mem lens index out = served t mem lens (Reclaim index) [] out
+abbrev pub reclaimCall : List Channel → List ℕ → List ℕ → List ℕ → ℕ → List ℕ → Called Answer Channel
+reclaimCall t mem lens lines index out = served t mem lens lines (Reclaim index) [] out
 
-abbrev pub nextPacketCall : List Channel → List ℕ → List ℕ → Node → List ℕ → Called Answer Channel
-nextPacketCall t mem lens node out = served t mem lens (NextPacket node) [] out
+abbrev pub nextPacketCall : List Channel → List ℕ → List ℕ → List ℕ → Node → List ℕ → Called Answer Channel
+nextPacketCall t mem lens lines node out = served t mem lens lines (NextPacket node) [] out
 
-abbrev pub arrivalCall : List Channel → List ℕ → List ℕ → Node → List ℕ → List ℕ → Called Answer Channel
-arrivalCall t mem lens node packet out = served t mem lens (Arrival node) packet out
+abbrev pub arrivalCall : List Channel → List ℕ → List ℕ → List ℕ → Node → List ℕ → List ℕ → Called Answer Channel
+arrivalCall t mem lens lines node packet out = served t mem lens lines (Arrival node) packet out

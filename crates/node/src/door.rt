@@ -22,16 +22,16 @@ use table::deciding::decide;
 use table::surveying::begin;
 ghost use mathlib.Core.Path.{_≡_};
 ghost use lib.ListN.{length};
-ghost use Rattle.walks.specs.Serving.{works, leaves, saying};
+ghost use Rattle.walks.specs.Serving.{works, performs, leaves, saying};
 ghost use Rattle.table.specs.Serving.{toldOf};
 ghost use Rattle.table.specs.Surveying.{begun, stepping, placed, Served};
 ghost use Rattle.node.specs.Calls.{lookIn, stepFor, served, servedIndex};
 
 // A packet is read before the table is surveyed; what that says counts after the test for 13.
-fn serve_begin(n: Request, x: &[u8], room: usize) -> Survey
-    ensures { λ r. ⌜ r ≡ begun (lookIn n (now (x .entry)) room) ⌝ }
+fn serve_begin(lines: &[u8], n: Request, x: &[u8], room: usize) -> Survey
+    ensures { λ r. ⌜ r ≡ begun (lookIn n (now (x .entry)) room) (now (lines .entry)) ⌝ }
 {
-    begin(look_in(n, x, room))
+    begin(look_in(n, x, room), lines)
 }
 
 // What is asked of the channel that was found.
@@ -67,11 +67,12 @@ fn serve_step(
     n: Request,
     mem: &mut [u8],
     lens: &mut [u16],
+    lines: &mut [u8],
     x: &[u8],
     out: &mut [u8],
 ) -> Placed
     requires { ⌜ (Served c d (now mem) (now lens)) × (d .look ≡ lookIn n (now x) (length (now out))) ⌝ }
-    ensures { λ r. ⌜ works r (now (mem .exit)) (now (lens .exit)) (now (out .exit)) ≡ placed d (stepping (stepFor n (now (x .entry))) c d (now (mem .entry)) (now (lens .entry)) (now (out .entry))) ⌝ }
+    ensures { λ r. ⌜ performs r (now (mem .exit)) (now (lens .exit)) (now (lines .exit)) (now (out .exit)) ≡ placed d (now (lines .entry)) (stepping (stepFor n (now (x .entry))) c d (now (mem .entry)) (now (lens .entry)) (now (out .entry))) ⌝ }
 {
     let s = step_for(c, d, n, mem, lens, x, out);
     let channel = s.channel;
@@ -90,17 +91,18 @@ pub fn serve(
     t: &mut [Channel],
     mem: &mut [u8],
     lens: &mut [u16],
+    lines: &mut [u8],
     n: Request,
     x: &[u8],
     out: &mut [u8],
 ) -> Told
-    ensures { λ r. ⌜ leaves r (now (t .exit)) (now (mem .exit)) (now (lens .exit)) (now (out .exit)) ≡ saying (toldOf (servedIndex (now (t .entry)) (now (mem .entry)) (now (lens .entry)) n (now (x .entry)) (now (out .entry)))) (served (now (t .entry)) (now (mem .entry)) (now (lens .entry)) n (now (x .entry)) (now (out .entry))) ⌝ }
+    ensures { λ r. ⌜ leaves r (now (t .exit)) (now (mem .exit)) (now (lens .exit)) (now (lines .exit)) (now (out .exit)) ≡ saying (toldOf (servedIndex (now (t .entry)) (now (mem .entry)) (now (lens .entry)) (now (lines .entry)) n (now (x .entry)) (now (out .entry)))) (served (now (t .entry)) (now (mem .entry)) (now (lens .entry)) (now (lines .entry)) n (now (x .entry)) (now (out .entry))) ⌝ }
 {
-    let a = serve_begin(n, x, out.len());
+    let a = serve_begin(lines, n, x, out.len());
     let v = survey(t, lens, a);
     let d = decide(v, t.len(), mem.len(), lens.len());
     if d.at < t.len() {
-        let s = serve_step(t[d.at], d, n, mem, lens, x, out);
+        let s = serve_step(t[d.at], d, n, mem, lens, lines, x, out);
         t[d.at] = s.channel;
         s.told
     } else {

@@ -36,10 +36,11 @@ struct Run {
 fn main() {
     let mut mem = [0u8; 256];
     let mut lens = [0u16; 16];
+    let mut lines = [0u8; 51];
     let mut piece = io::large_buffer();
     let mut buffer = room();
     io::write_all(STDOUT_FILENO, b"rec answer\n");
-    if replay(&mut mem, &mut lens, &mut piece, &mut buffer) {
+    if replay(&mut mem, &mut lens, &mut lines, &mut piece, &mut buffer) {
         io::write_all(STDOUT_FILENO, b"end ok\n");
     } else {
         io::write_all(STDOUT_FILENO, b"end short\n");
@@ -48,7 +49,13 @@ fn main() {
 
 // One piece after another; true if the trace ended between two records. A read that fails is no end. A proved loop has to end, and nothing says
 // that a trace does: no trace has as many pieces as the loop would count.
-fn replay(mem: &mut [u8], lens: &mut [u16], piece: &mut [u8], buffer: &mut [u8]) -> bool
+fn replay(
+    mem: &mut [u8],
+    lens: &mut [u16],
+    lines: &mut [u8],
+    piece: &mut [u8],
+    buffer: &mut [u8],
+) -> bool
     requires { ⌜ 65539 ≤ length (now buffer) ⌝ }
 {
     let table = table_of(REMOTE, FIRST, SECOND);
@@ -67,7 +74,7 @@ fn replay(mem: &mut [u8], lens: &mut [u16], piece: &mut [u8], buffer: &mut [u8])
         if n == 0 {
             return !is_cut(run.held, buffer);
         }
-        let after = do_piece(run, &piece[..n], mem, lens, buffer);
+        let after = do_piece(run, &piece[..n], mem, lens, lines, buffer);
         run = after;
         turn += 1;
     }
@@ -75,21 +82,35 @@ fn replay(mem: &mut [u8], lens: &mut [u16], piece: &mut [u8], buffer: &mut [u8])
 }
 
 // The records that become whole with a piece.
-fn do_piece(run: Run, piece: &[u8], mem: &mut [u8], lens: &mut [u16], buffer: &mut [u8]) -> Run
+fn do_piece(
+    run: Run,
+    piece: &[u8],
+    mem: &mut [u8],
+    lens: &mut [u16],
+    lines: &mut [u8],
+    buffer: &mut [u8],
+) -> Run
     requires { ⌜ 65539 ≤ length (now buffer) ⌝ }
 {
     let mut r = run;
     let mut at: usize = 0;
     while at < piece.len() {
         let fed = feed(r.held, piece, at, buffer);
-        let after = do_fed(r, fed, mem, lens, buffer);
+        let after = do_fed(r, fed, mem, lens, lines, buffer);
         r = after;
         at = fed.next;
     }
     r
 }
 
-fn do_fed(run: Run, fed: Fed, mem: &mut [u8], lens: &mut [u16], buffer: &[u8]) -> Run
+fn do_fed(
+    run: Run,
+    fed: Fed,
+    mem: &mut [u8],
+    lens: &mut [u16],
+    lines: &mut [u8],
+    buffer: &[u8],
+) -> Run
     requires { ⌜ (fed .whole ≡ true → (4 ≤ fed .held) × (fed .held ≤ length (now buffer))) ⌝ }
 {
     let held = fed.held;
@@ -100,16 +121,23 @@ fn do_fed(run: Run, fed: Fed, mem: &mut [u8], lens: &mut [u16], buffer: &[u8]) -
         held,
     };
     if fed.whole {
-        return do_record(r, fed.kind, &buffer[4..held], mem, lens);
+        return do_record(r, fed.kind, &buffer[4..held], mem, lens, lines);
     }
     r
 }
 
 // A record is done, and its line is said: its place in the trace, from 1, and the answer's number.
-fn do_record(run: Run, kind: u16, body: &[u8], mem: &mut [u8], lens: &mut [u16]) -> Run {
+fn do_record(
+    run: Run,
+    kind: u16,
+    body: &[u8],
+    mem: &mut [u8],
+    lens: &mut [u16],
+    lines: &mut [u8],
+) -> Run {
     let mut out = [0u8; 64];
     let table = run.table;
-    let kept = step(table, mem, lens, own(), kind, body, &mut out);
+    let kept = step(table, mem, lens, lines, own(), kind, body, &mut out);
     let told = kept.told;
     let answer = told.answer;
     let after = kept.table;

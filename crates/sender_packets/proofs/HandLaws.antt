@@ -1,7 +1,7 @@
 -- Laws of the hand-out: which packet is ready, and what its hand-out answers in each case.
 -- Assumes nothing.
 use mathlib.Core.Path.{_≡_, refl, sym, ap, _∙_}
-use mathlib.Core.Bool.{Bool, true, false, _&&_, _||_}
+use mathlib.Core.Bool.{Bool, true, false, false≢true, _&&_, _||_}
 use mathlib.Core.List.{List, []}
 use Prim.Native.Nat.{ℕ, zero, suc, _+_, _-_, _≤_, _<_}
 use native.Mathlib.Omega.{arith}
@@ -32,7 +32,7 @@ use Rattle.channel.proofs.PrefixLaws.{prefix-short}
 use Rattle.channel.specs.Steps.{refusing, doing, outgoingOf, outgoingLength}
 use Rattle.sender_packets.specs.Asked.{Plain}
 use Rattle.sender.specs.Directives.{placeAt}
-use Rattle.sender_packets.specs.HandingOut.{againIn, againAt, readyControl, readyAgain, nextInWindow, readyNew, ready, rankOf, controlFields, controlOut, againOut, newOut, dataFields, nextFields, nextPayload, nextOut, sentStep, sentOut, handStep, handOut}
+use Rattle.sender_packets.specs.HandingOut.{againIn, againAt, readyControl, readyAgain, nextInWindow, readyNew, ready, rankOf, ranksOf, controlFields, controlOut, againOut, newOut, dataFields, nextFields, nextPayload, nextOut, sentStep, sentOut, handStep, handOut}
 
 module _ (c : Channel) where
   -- ---- the rank of the packet that is ready
@@ -102,25 +102,41 @@ module _ (c : Channel) where
       go (suc (suc zero)) l false p false q false s e = s
       go (suc (suc (suc k))) l false p false q false s e = absurd (omega arith)
 
+  -- ---- what a rank that is ready has shown
+
+  pub ready-as : {r k : ℕ} → r ≡ k → ready r c ≡ true → ready k c ≡ true
+  ready-as e h = ap (λ (n : ℕ). ready n c) (sym e) ∙ h
+
   -- ranks 1 and 2 are of OPEN
-  pub rank-open : (r : ℕ) → rankOf c ≡ r → (0 ≡ r → ⊥) → (3 ≡ r → ⊥) → c .phase .state ≡ opened
-  unfolding rankOf ready
-  rank-open r e z t = go (readyAgain c) refl (readyNew c) refl (not-first (readyControl c) _ _ _ e z .1)
+  pub ready-open : (r : ℕ) → ready r c ≡ true → (r ≡ 0 → ⊥) → c .phase .state ≡ opened
+  unfolding ready
+  ready-open r e z = go (eqb r 1) (eqb r 2) (sym (passed-by (eqb r 0) (readyControl c) _ (ne-eqb r 0 z)) ∙ e)
     where
-      go : (x : Bool) → readyAgain c ≡ x → (y : Bool) → readyNew c ≡ y → (if x then 1 else if y then 2 else 3) ≡ r → c .phase .state ≡ opened
-      go true p y q e = eqb-true _ _ (both (eqb (c .phase .state) opened) _ p .0)
-      go false p true q e = eqb-true _ _ (both (eqb (c .phase .state) opened) _ q .0)
-      go false p false q e = absurd (t e)
+      go : (x y : Bool) → (if x then readyAgain c else if y then readyNew c else false) ≡ true → c .phase .state ≡ opened
+      go true y e = eqb-true _ _ (both (eqb (c .phase .state) opened) _ e .0)
+      go false true e = eqb-true _ _ (both (eqb (c .phase .state) opened) _ e .0)
+      go false false e = absurd (false≢true e)
 
-  pub rank-1-is : rankOf c ≡ 1 → againAt c < c .window .flight
+  pub ready-1-is : ready 1 c ≡ true → againAt c < c .window .flight
   unfolding ready
-  rank-1-is e = ltb-true _ _ (both (eqb (c .phase .state) opened) _ (rank-ready 1 e (omega arith)) .1)
+  ready-1-is e = ltb-true _ _ (both (eqb (c .phase .state) opened) _ e .1)
 
-  pub rank-2-is : rankOf c ≡ 2 → (c .window .flight < c .window .ahead) × (c .window .flight < c .limits .window)
+  pub ready-2-is : ready 2 c ≡ true → (c .window .flight < c .window .ahead) × (c .window .flight < c .limits .window)
   unfolding ready
-  rank-2-is e =
-      let q = both _ _ (both (eqb (c .phase .state) opened) (nextInWindow (c .limits) (c .window)) (rank-ready 2 e (omega arith)) .1) in
+  ready-2-is e =
+      let q = both _ _ (both (eqb (c .phase .state) opened) (nextInWindow (c .limits) (c .window)) e .1) in
       (ltb-true _ _ (q .0), ltb-true _ _ (q .1))
+
+  -- ---- the ranks together: outside OPEN Control alone may be ready
+
+  pub ranks-closed : (c .phase .state ≡ opened → ⊥) → ranksOf c ≡ record { control = readyControl c; again = false; fresh = false }
+  unfolding ready
+  ranks-closed k = simp (ne-eqb (c .phase .state) opened k)
+
+  pub ranks-open : c .phase .state ≡ opened
+      → ranksOf c ≡ record { control = readyControl c; again = ltb (againAt c) (c .window .flight); fresh = nextInWindow (c .limits) (c .window) }
+  unfolding ready
+  ranks-open k = simp (eq-eqb (c .phase .state) opened k)
 
 -- ---- segments that wait to be resent: at one that does, at one that does not, and at their end
 

@@ -7,11 +7,11 @@ use Rattle.packet.specs.Tests.{lacking, strange}
 use Rattle.channel.specs.declared.record.Addresses.{Addresses}
 use Rattle.channel.specs.declared.record.Channel.{Channel}
 use Rattle.channel.specs.Prefixes.{fitPrefix}
-use Rattle.sender_packets.specs.HandingOut.{rankOf}
+use Rattle.sender_packets.specs.HandingOut.{ready}
 
 -- a packet of this rank is ready
 pub record Ready (c : Channel) (rank : ℕ) : Type 0 where
-  pub is : rank ≡ rankOf c
+  pub is : ready rank c ≡ true
   pub some : rank < 3
 
 -- a packet that its writer does not refuse, with the own prefix: tests 4 and 3 pass

@@ -26,6 +26,7 @@ use Rattle.channel.specs.Prefixes.{prefixOf}
 use Rattle.channel.specs.Steps.{refusing, doing, outgoingOf, outgoingLength}
 use Rattle.channel.specs.Lone.{isReady, handedOut}
 use Rattle.sender.specs.Directives.{placeAt}
+use Rattle.sender_packets.specs.declared.handing.Ranks.{Ranks}
 
 -- ---- ready packets, by rank: 0 Control, 1 resent Data, 2 new Data
 
@@ -61,6 +62,10 @@ ready rank c =
     else if eqb rank 1 then readyAgain c
     else if eqb rank 2 then readyNew c
     else false
+
+-- of which ranks a packet is ready
+abbrev pub ranksOf : Channel → Ranks
+ranksOf c = record { control = ready 0 c; again = ready 1 c; fresh = ready 2 c }
 
 -- the lowest rank of which a packet is ready; 3 if none is
 unfoldable pub rankOf : Channel → ℕ

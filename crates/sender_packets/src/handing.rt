@@ -32,7 +32,7 @@ ghost use Rattle.channel.specs.Record.{enabled, closing};
 ghost use Rattle.channel.specs.Prefixes.{fitPrefix};
 ghost use Rattle.channel.specs.Lone.{isReady};
 ghost use Rattle.channel.specs.Asked.{Ringed, Asked};
-ghost use Rattle.sender_packets.specs.HandingOut.{againIn, againAt, nextInWindow, rankOf, timedAt, controlOut, againOut, newOut, controlFields, dataFields, sentStep, sentOut, handStep, handOut};
+ghost use Rattle.sender_packets.specs.HandingOut.{againIn, againAt, nextInWindow, ranksOf, rankOf, timedAt, controlOut, againOut, newOut, controlFields, dataFields, sentStep, sentOut, handStep, handOut};
 ghost use mathlib.Core.List.{[]};
 ghost use lib.ListN.{length, getD};
 ghost use Rattle.laws.specs.Choice.{if_then_else_};
@@ -99,6 +99,34 @@ fn is_new_ready(l: Limits, w: Window) -> bool
         return false;
     }
     w.flight < l.window
+}
+
+// Of which ranks a packet is ready: Control, resent Data, new Data.
+pub struct Ranks {
+    pub control: bool,
+    pub again: bool,
+    pub fresh: bool,
+}
+
+pub fn ranks_of(c: Channel) -> Ranks
+    requires { ⌜ Ringed (c .limits) (c .window) ⌝ }
+    ensures { λ r. ⌜ r ≡ ranksOf c ⌝ }
+{
+    let control = is_control_ready(c.phase.state, c.phase.control);
+    if c.phase.state != OPEN {
+        return Ranks {
+            control,
+            again: false,
+            fresh: false,
+        };
+    }
+    let again = again_at(c) < c.window.flight;
+    let fresh = is_new_ready(c.limits, c.window);
+    Ranks {
+        control,
+        again,
+        fresh,
+    }
 }
 
 // The rank of the packet that is ready: 0 Control, 1 resent Data, 2 new Data; 3 if none is.

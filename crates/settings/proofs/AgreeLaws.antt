@@ -1,16 +1,17 @@
 -- What was seen of the settings, and the test of the sizes, amount to `settled`; and the call to `configured`.
 -- Assumes nothing.
-use mathlib.Core.Path.{_≡_, refl, sym, ap, _∙_}
+use mathlib.Core.Path.{_≡_, refl, sym, ap, ap₂, _∙_}
 use mathlib.Core.Bool.{Bool, true, false, _&&_, true≢false}
 use mathlib.Core.List.{List}
 use Prim.Native.Nat.{ℕ, _≤_}
 use native.Mathlib.Nat.{zero-add}
 use native.Mathlib.Omega.{arith}
 use borrow.Author.Tests.{le-leb, leb-true, eqb-true, eq-eqb}
-use lib.Dec.{leb}
+use lib.Dec.{leb, eqb}
 use lib.ListN.{length}
-use Rattle.laws.proofs.Choice.{both}
+use Rattle.laws.proofs.Choice.{both, chosen}
 use Rattle.walks.specs.Serving.{Changed, changes, telling, doneBy}
+use Rattle.lines.specs.Lines.{noLines}
 use Rattle.table.specs.declared.deciding.Told.{Told}
 use Rattle.table.specs.Serving.{toldOf}
 use Rattle.channel.specs.declared.record.Settings.{Settings}
@@ -21,23 +22,25 @@ use Rattle.channel.specs.Tables.{mostRecords, eachFit, fitTable}
 use Rattle.table.specs.Lent.{allSlots, allOctets}
 use Rattle.settings.specs.declared.seeing.Seen.{Seen}
 use Rattle.settings.specs.Configuring.{madeTable, settled, configured}
-use Rattle.settings.specs.Seeing.{begun, seen, isSettled}
-use Rattle.settings.proofs.SeenLaws.{Good, Counts, starts, free-begun, sees-good, sees-sound}
+use Rattle.settings.specs.Seeing.{begun, seen, isSettled, cleared}
+use Rattle.settings.proofs.SeenLaws.{Good, Counts, starts, free-begun, stays-spoilt, sees-good, sees-sound}
 
 -- ---- the test, as facts
 
-pub record Settled (t : List Channel) (mem lens : List ℕ) (s : List Settings) : Type 0 where
+pub record Settled (t : List Channel) (mem lens lines : List ℕ) (s : List Settings) : Type 0 where
   pub some : 1 ≤ length s
   pub few : length s ≤ mostRecords
   pub fit : eachFit s ≡ true
   pub count : length t ≡ length s
   pub slots : length lens ≡ allSlots (madeTable s)
   pub octets : length mem ≡ allOctets (madeTable s)
+  pub lined : length lines ≡ 51
 
-pub settled-is : (t : List Channel) (mem lens : List ℕ) (s : List Settings) → settled t mem lens s ≡ true → Settled t mem lens s
+pub settled-is : (t : List Channel) (mem lens lines : List ℕ) (s : List Settings) → settled t mem lens lines s ≡ true → Settled t mem lens lines s
 unfolding settled fitTable
-settled-is t mem lens s e =
-    let p3 = both _ _ e in
+settled-is t mem lens lines s e =
+    let p4 = both _ _ e in
+    let p3 = both _ _ (p4 .0) in
     let p2 = both _ _ (p3 .0) in
     let p1 = both _ _ (p2 .0) in
     let q2 = both (leb 1 (length s) && leb (length s) mostRecords) (eachFit s) (p1 .0) in
@@ -49,11 +52,12 @@ settled-is t mem lens s e =
       count = eqb-true _ _ (p1 .1);
       slots = eqb-true _ _ (p2 .1);
       octets = eqb-true _ _ (p3 .1);
+      lined = eqb-true _ _ (p4 .1);
     }
 
-pub is-settled : (t : List Channel) (mem lens : List ℕ) (s : List Settings) → Settled t mem lens s → settled t mem lens s ≡ true
+pub is-settled : (t : List Channel) (mem lens lines : List ℕ) (s : List Settings) → Settled t mem lens lines s → settled t mem lens lines s ≡ true
 unfolding settled fitTable
-is-settled t mem lens s h =
+is-settled t mem lens lines s h =
     simp (
       le-leb 1 (length s) (h .some),
       le-leb (length s) mostRecords (h .few),
@@ -61,24 +65,33 @@ is-settled t mem lens s h =
       eq-eqb (length t) (length s) (h .count),
       eq-eqb (length lens) (allSlots (madeTable s)) (h .slots),
       eq-eqb (length mem) (allOctets (madeTable s)) (h .octets),
+      eq-eqb (length lines) 51 (h .lined),
     )
 
 -- ---- what is seen and tested is that
 
-module _ (t : List Channel) (mem lens : List ℕ) (s : List Settings) where
+module _ (t : List Channel) (mem lens lines : List ℕ) (s : List Settings) where
   abbrev whole : Seen
-  whole = seen s lens begun
+  whole = seen s lens (begun lines)
 
   abbrev test : Bool
   test = isSettled whole (length t) (length s) (length mem) (length lens)
 
-  counted : Good begun 0 s → Counts whole begun s
-  counted g = sees-good lens 0 begun s starts g
+  counted : length lines ≡ 51 → Good (begun lines) 0 s → Counts whole (begun lines) s
+  counted e g = sees-good lens 0 (begun lines) s (starts lines e) g
 
-  from-settled : Settled t mem lens s → test ≡ true
+  -- what is not well at first is not at last
+  lined : whole .sound ≡ true → length lines ≡ 51
+  lined e = go (eqb (length lines) 51) refl
+    where
+      go : (b : Bool) → eqb (length lines) 51 ≡ b → length lines ≡ 51
+      go true p = eqb-true _ _ p
+      go false p = absurd (true≢false (sym e ∙ ap (λ (w : Seen). w .sound) (stays-spoilt lens 0 (begun lines) s p) ∙ p))
+
+  from-settled : Settled t mem lens lines s → test ≡ true
   unfolding isSettled
   from-settled h =
-      let n = counted (record { few = omega (arith, h .few); fit = h .fit; free = free-begun s }) in
+      let n = counted (h .lined) (record { few = omega (arith, h .few); fit = h .fit; free = free-begun lines s }) in
       simp (
         le-leb 1 (length s) (h .some),
         n .sound,
@@ -87,15 +100,16 @@ module _ (t : List Channel) (mem lens : List ℕ) (s : List Settings) where
         eq-eqb (whole .octets) (length mem) (n .octets ∙ zero-add (allOctets (madeTable s)) ∙ sym (h .octets)),
       )
 
-  from-test : test ≡ true → Settled t mem lens s
+  from-test : test ≡ true → Settled t mem lens lines s
   unfolding isSettled
   from-test e =
       let p4 = both _ _ e in
       let p3 = both _ _ (p4 .0) in
       let p2 = both _ _ (p3 .0) in
       let p1 = both _ _ (p2 .0) in
-      let g = sees-sound lens 0 begun s starts (p1 .1) in
-      let n = counted g in
+      let l = lined (p1 .1) in
+      let g = sees-sound lens 0 (begun lines) s (starts lines l) (p1 .1) in
+      let n = counted l g in
       record {
         some = leb-true _ _ (p1 .0);
         few = omega (arith, g .few);
@@ -103,33 +117,37 @@ module _ (t : List Channel) (mem lens : List ℕ) (s : List Settings) where
         count = eqb-true _ _ (p2 .1);
         slots = sym (eqb-true _ _ (p3 .1)) ∙ n .slots ∙ zero-add (allSlots (madeTable s));
         octets = sym (eqb-true _ _ (p4 .1)) ∙ n .octets ∙ zero-add (allOctets (madeTable s));
+        lined = l;
       }
 
-  pub test-settled : test ≡ settled t mem lens s
-  test-settled = go test refl (settled t mem lens s) refl
+  pub test-settled : test ≡ settled t mem lens lines s
+  test-settled = go test refl (settled t mem lens lines s) refl
     where
-      go : (a : Bool) → test ≡ a → (b : Bool) → settled t mem lens s ≡ b → test ≡ settled t mem lens s
+      go : (a : Bool) → test ≡ a → (b : Bool) → settled t mem lens lines s ≡ b → test ≡ settled t mem lens lines s
       go true p true q = p ∙ sym q
       go false p false q = p ∙ sym q
-      go true p false q = absurd (true≢false (sym (is-settled t mem lens s (from-test p)) ∙ q))
-      go false p true q = absurd (true≢false (sym (from-settled (settled-is t mem lens s q)) ∙ p))
+      go true p false q = absurd (true≢false (sym (is-settled t mem lens lines s (from-test p)) ∙ q))
+      go false p true q = absurd (true≢false (sym (from-settled (settled-is t mem lens lines s q)) ∙ p))
 
   -- the table may be filled: there are as many records as settings
   pub may-fill : test ≡ true → length t ≡ length s
   may-fill e = from-test e .count
 
-  -- what is told of settings that are refused, and of those that made the records
+  -- what is told of settings that are refused, and of those that made the records, with the lines then
   abbrev refused : Told
   refused = toldOf (length t) (Refused refusal.Settings)
 
   abbrev made : Changed Told Channel
-  made = changes (toldOf (length s) (Done 0 0)) (madeTable s)
+  made = changes (toldOf (length s) (Done 0 0)) (madeTable s) (cleared lines)
 
   -- the call is what `configured` says
-  pub agreed : doneBy refused test t made ≡ telling (toldOf (length t)) (configured t mem lens s)
+  pub agreed : doneBy refused test t lines made ≡ telling (toldOf (length t)) (configured t mem lens lines s)
   unfolding doneBy configured
-  agreed = ap (λ (b : Bool). doneBy refused b t made) test-settled ∙ go (settled t mem lens s) refl
+  agreed = ap (λ (b : Bool). doneBy refused b t lines made) test-settled ∙ go (settled t mem lens lines s) refl
     where
-      go : (b : Bool) → settled t mem lens s ≡ b → doneBy refused (settled t mem lens s) t made ≡ telling (toldOf (length t)) (configured t mem lens s)
-      go true e = simp (e) (ap (λ (n : ℕ). changes (toldOf n (Done 0 0)) (madeTable s)) (sym (may-fill (test-settled ∙ e))))
+      go : (b : Bool) → settled t mem lens lines s ≡ b → doneBy refused (settled t mem lens lines s) t lines made ≡ telling (toldOf (length t)) (configured t mem lens lines s)
+      go true e =
+          simp (e)
+          (ap₂ (λ (n : ℕ) (l : List ℕ). changes (toldOf n (Done 0 0)) (madeTable s) l) (sym (may-fill (test-settled ∙ e)))
+          (chosen (eqb (length lines) 51) noLines lines (eq-eqb (length lines) 51 (settled-is t mem lens lines s e .lined))))
       go false e = simp (e)

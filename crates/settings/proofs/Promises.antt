@@ -11,6 +11,9 @@ use lib.ListN.{length, getD, take, drop, length-map, length-drop}
 use lib.Seq.{length-take-le}
 use Rattle.laws.proofs.Choice.{both, chosen, passed-by}
 use Rattle.walks.specs.Serving.{Changed, changes}
+use Rattle.lines.specs.Lines.{noLines}
+use Rattle.lines.specs.Fit.{fitLines}
+use Rattle.lines.proofs.FitLaws.{none-fit}
 use Rattle.channel.specs.declared.record.Settings.{Settings}
 use Rattle.channel.specs.declared.record.Channel.{Channel}
 use Rattle.channel.specs.declared.answer.Answer.{Answer}
@@ -54,33 +57,39 @@ made-each (s ∷ l) lens f e =
 
 -- ---- the call
 
-module _ (t : List Channel) (mem lens : List ℕ) (s : List Settings) where
-  pub settings-done : settled t mem lens s ≡ true → configured t mem lens s ≡ changes (Done 0 0) (madeTable s)
+module _ (t : List Channel) (mem lens lines : List ℕ) (s : List Settings) where
+  pub settings-done : settled t mem lens lines s ≡ true → configured t mem lens lines s ≡ changes (Done 0 0) (madeTable s) noLines
   unfolding configured
-  settings-done e = chosen (settled t mem lens s) (changes (Done 0 0) (madeTable s)) (changes (Refused refusal.Settings) t) e
+  settings-done e = chosen (settled t mem lens lines s) (changes (Done 0 0) (madeTable s) noLines) (changes (Refused refusal.Settings) t lines) e
 
-  pub settings-refused : settled t mem lens s ≡ false → configured t mem lens s ≡ changes (Refused refusal.Settings) t
+  pub settings-refused : settled t mem lens lines s ≡ false → configured t mem lens lines s ≡ changes (Refused refusal.Settings) t lines
   unfolding configured
-  settings-refused e = passed-by (settled t mem lens s) (changes (Done 0 0) (madeTable s)) (changes (Refused refusal.Settings) t) e
+  settings-refused e = passed-by (settled t mem lens lines s) (changes (Done 0 0) (madeTable s) noLines) (changes (Refused refusal.Settings) t lines) e
 
   -- the table that is made passes the test for 13, with the same memory and lengths, whatever these hold
-  pub settings-lawful : settled t mem lens s ≡ true → lawful (configured t mem lens s .table) mem lens ≡ true
+  pub settings-lawful : settled t mem lens lines s ≡ true → lawful (configured t mem lens lines s .table) mem lens ≡ true
   settings-lawful e =
-      let h = settled-is t mem lens s e in
+      let h = settled-is t mem lens lines s e in
       let n = length-map s madeOf in
       ap (λ (w : Changed Answer Channel). lawful (w .table) mem lens) (settings-done e)
       ∙ is-lawful (madeTable s) mem lens
       (record { some = omega (arith, n, h .some); few = omega (arith, n, h .few); slots = h .slots; octets = h .octets; stand = made-each s lens (h .fit) (h .slots) })
 
-  -- every answer but 0 is 13, and leaves each record as it was
-  pub settings-refusal-changes-nothing : (numberOf (configured t mem lens s .answer) ≡ 0 → ⊥)
-      → (numberOf (configured t mem lens s .answer) ≡ 13) × (configured t mem lens s .table ≡ t)
-  settings-refusal-changes-nothing n = go (settled t mem lens s) refl
+  -- and so do the lines, where nobody waits
+  pub settings-lined : settled t mem lens lines s ≡ true → fitLines (length (configured t mem lens lines s .table)) (configured t mem lens lines s .lines) ≡ true
+  settings-lined e =
+      ap (λ (w : Changed Answer Channel). fitLines (length (w .table)) (w .lines)) (settings-done e)
+      ∙ none-fit (length (madeTable s)) (omega (arith, length-map s madeOf, settled-is t mem lens lines s e .few))
+
+  -- every answer but 0 is 13, and leaves each record and the lines as they were
+  pub settings-refusal-changes-nothing : (numberOf (configured t mem lens lines s .answer) ≡ 0 → ⊥)
+      → (numberOf (configured t mem lens lines s .answer) ≡ 13) × (configured t mem lens lines s .table ≡ t) × (configured t mem lens lines s .lines ≡ lines)
+  settings-refusal-changes-nothing n = go (settled t mem lens lines s) refl
     where
-      go : (b : Bool) → settled t mem lens s ≡ b → (numberOf (configured t mem lens s .answer) ≡ 13) × (configured t mem lens s .table ≡ t)
+      go : (b : Bool) → settled t mem lens lines s ≡ b → (numberOf (configured t mem lens lines s .answer) ≡ 13) × (configured t mem lens lines s .table ≡ t) × (configured t mem lens lines s .lines ≡ lines)
       go true e = absurd (n (ap (λ (w : Changed Answer Channel). numberOf (w .answer)) (settings-done e)))
       go false e =
-          (ap (λ (w : Changed Answer Channel). numberOf (w .answer)) (settings-refused e), ap (λ (w : Changed Answer Channel). w .table) (settings-refused e))
+          (ap (λ (w : Changed Answer Channel). numberOf (w .answer)) (settings-refused e), ap (λ (w : Changed Answer Channel). w .table) (settings-refused e), ap (λ (w : Changed Answer Channel). w .lines) (settings-refused e))
 
 -- a record as its settings make it: CLOSED, nothing held, and their addresses and limits
 pub record ClosedBy (s : Settings) (c : Channel) : Type 0 where
@@ -95,18 +104,18 @@ made-closed (s ∷ l) zero h = record { state = refl; held = refl; addresses = r
 made-closed (s ∷ l) (suc i) h = made-closed l i (le-of-suc-le-suc h)
 
 -- as many records as settings, and each is so made of those with its index
-pub settings-closed : (t : List Channel) (mem lens : List ℕ) (s : List Settings) → settled t mem lens s ≡ true
-    → (length (configured t mem lens s .table) ≡ length s)
-    × ((i : ℕ) → i < length s → ClosedBy (getD s i unset) (recordAt (configured t mem lens s .table) i))
-settings-closed t mem lens s e =
-    let d : configured t mem lens s .table ≡ madeTable s = ap (λ (w : Changed Answer Channel). w .table) (settings-done t mem lens s e) in
+pub settings-closed : (t : List Channel) (mem lens lines : List ℕ) (s : List Settings) → settled t mem lens lines s ≡ true
+    → (length (configured t mem lens lines s .table) ≡ length s)
+    × ((i : ℕ) → i < length s → ClosedBy (getD s i unset) (recordAt (configured t mem lens lines s .table) i))
+settings-closed t mem lens lines s e =
+    let d : configured t mem lens lines s .table ≡ madeTable s = ap (λ (w : Changed Answer Channel). w .table) (settings-done t mem lens lines s e) in
     (rw d (length-map s madeOf), rw d (made-closed s))
 
 -- two outcomes that the contract admits are equal
-pub settings-one-outcome : (t : List Channel) (mem lens : List ℕ) (s : List Settings) (r r2 : Answer) (u u2 : List Channel)
-    → changes r u ≡ configured t mem lens s
-    → changes r2 u2 ≡ configured t mem lens s
-    → (r ≡ r2) × (u ≡ u2)
-settings-one-outcome t mem lens s r r2 u u2 e f =
+pub settings-one-outcome : (t : List Channel) (mem lens lines : List ℕ) (s : List Settings) (r r2 : Answer) (u u2 : List Channel) (i i2 : List ℕ)
+    → changes r u i ≡ configured t mem lens lines s
+    → changes r2 u2 i2 ≡ configured t mem lens lines s
+    → (r ≡ r2) × (u ≡ u2) × (i ≡ i2)
+settings-one-outcome t mem lens lines s r r2 u u2 i i2 e f =
     let same = e ∙ sym f in
-    (ap (λ (x : Changed Answer Channel). x .answer) same, ap (λ (x : Changed Answer Channel). x .table) same)
+    (ap (λ (x : Changed Answer Channel). x .answer) same, ap (λ (x : Changed Answer Channel). x .table) same, ap (λ (x : Changed Answer Channel). x .lines) same)

@@ -52,8 +52,8 @@ taken-last v a (suc n) i =
 abbrev pub Sixteen : Seen → Type 0
 Sixteen v = length (v .addresses) ≡ 16
 
-begun-sixteen : Sixteen begun
-begun-sixteen = length-replicate {A = Addresses} 16 nowhere
+begun-sixteen : (lines : List ℕ) → Sixteen (begun lines)
+begun-sixteen lines = length-replicate {A = Addresses} 16 nowhere
 
 -- one is noted at index j
 module _ (v : Seen) (s : Settings) (j : ℕ) (places : Sixteen v) (few : j < 16) where
@@ -85,10 +85,10 @@ unfoldable pub free : Seen → ℕ → List Settings → Bool
 free v j [] = true
 free v j (x ∷ l) = not (clashesSeen v (x .addresses) j 0) && free v j l
 
-pub free-begun : (l : List Settings) → free begun 0 l ≡ true
+pub free-begun : (lines : List ℕ) (l : List Settings) → free (begun lines) 0 l ≡ true
 unfolding free clashesSeen
-free-begun [] = refl
-free-begun (x ∷ l) = free-begun l
+free-begun lines [] = refl
+free-begun lines (x ∷ l) = free-begun lines l
 
 apart : (t k f c : Bool) → (not (t || k) && (f && not c)) ≡ ((not t && f) && not (k || c))
 apart true k f c = refl
@@ -117,8 +117,9 @@ pub record Going (v : Seen) (j : ℕ) : Type 0 where
   pub octets : v .octets ≤ j * 131072
   pub places : Sixteen v
 
-pub starts : Going begun 0
-starts = record { sound = refl; few = omega arith; slots = omega arith; octets = omega arith; places = begun-sixteen }
+pub starts : (lines : List ℕ) → length lines ≡ 51 → Going (begun lines) 0
+starts lines e =
+    record { sound = eq-eqb (length lines) 51 e; few = omega arith; slots = omega arith; octets = omega arith; places = begun-sixteen lines }
 
 -- these are as they must be
 pub record Good (v : Seen) (j : ℕ) (l : List Settings) : Type 0 where
@@ -172,7 +173,7 @@ good-both v s j l g few f t h =
     }
 
 -- what is spoilt stays so
-stays-spoilt : (lens : List ℕ) (j : ℕ) (v : Seen) (l : List Settings) → v .sound ≡ false → foldFrom seeOne lens j v l ≡ v
+pub stays-spoilt : (lens : List ℕ) (j : ℕ) (v : Seen) (l : List Settings) → v .sound ≡ false → foldFrom seeOne lens j v l ≡ v
 unfolding foldFrom
 stays-spoilt lens j v [] e = refl
 stays-spoilt lens j v (s ∷ l) e =

@@ -3,9 +3,10 @@ use Prim.Native.Nat.{ℕ, zero, suc, _+_}
 use mathlib.Core.Bool.{Bool, true, false, not, _&&_, _||_}
 use mathlib.Core.List.{List, []}
 use lib.Dec.{ltb, leb, eqb}
-use lib.ListN.{getD, set, replicate}
+use lib.ListN.{length, getD, set, replicate}
 use Rattle.laws.specs.Choice.{if_then_else_}
 use Rattle.walks.specs.Fold.{foldFrom}
+use Rattle.lines.specs.Lines.{noLines}
 use Rattle.channel.specs.declared.record.Addresses.{Addresses}
 use Rattle.channel.specs.declared.record.Settings.{Settings}
 use Rattle.channel.specs.declared.answer.Answer.the-variants.{Done, Refused}
@@ -27,8 +28,9 @@ abbrev pub beyond : Addresses
 beyond =
     record { channel = 0; remote = 0; direction = 0; prefix = record { length = 0; octets = [] }; own = record { length = 0; octets = [] } }
 
-abbrev pub begun : Seen
-begun = record { sound = true; slots = 0; octets = 0; addresses = replicate 16 nowhere }
+-- all is well at first exactly if the lines have their octets
+abbrev pub begun : List ℕ → Seen
+begun lines = record { sound = eqb (length lines) 51; slots = 0; octets = 0; addresses = replicate 16 nowhere }
 
 abbrev pub unsound : Seen → Seen
 unsound v = record { sound = false; slots = v .slots; octets = v .octets; addresses = v .addresses }
@@ -71,6 +73,9 @@ isSettled v n k m l = leb 1 k && v .sound && eqb n k && eqb (v .slots) l && eqb 
 abbrev pub verdictOf : Seen → ℕ → ℕ → ℕ → ℕ → Verdict
 verdictOf v n k m l = record { ok = isSettled v n k m l; told = toldOf n (Refused refusal.Settings) }
 
--- once n records are made
+-- once n records are made: what is told, and the lines
 abbrev pub madeTold : ℕ → Told
 madeTold n = toldOf n (Done 0 0)
+
+abbrev pub cleared : List ℕ → List ℕ
+cleared lines = if eqb (length lines) 51 then noLines else lines

@@ -48,16 +48,22 @@ fn fill(t: &mut [Channel], s: &[Settings]) -> usize
     t.len()
 }
 
-// Answers 0 or 13, and serves no single channel. With 13 no record has changed. The memory and the lengths are only measured.
-pub fn settings(t: &mut [Channel], mem: &[u8], lens: &[u16], s: &[Settings]) -> Told
-    ensures { λ r. ⌜ changes r (now (t .exit)) ≡ telling (toldOf (length (now (t .entry)))) (configured (now (t .entry)) (now (mem .entry)) (now (lens .entry)) (now (s .entry))) ⌝ }
+// Answers 0 or 13, and serves no single channel. With 13 no record and no line has changed. The memory and the lengths are only measured.
+pub fn settings(
+    t: &mut [Channel],
+    mem: &[u8],
+    lens: &[u16],
+    lines: &mut [u8],
+    s: &[Settings],
+) -> Told
+    ensures { λ r. ⌜ changes r (now (t .exit)) (now (lines .exit)) ≡ telling (toldOf (length (now (t .entry)))) (configured (now (t .entry)) (now (mem .entry)) (now (lens .entry)) (now (lines .entry)) (now (s .entry))) ⌝ }
 {
-    let a = see_begin();
+    let a = see_begin(lines);
     let v = see(s, lens, a);
     let d = settle(v, t.len(), s.len(), mem.len(), lens.len());
     if d.ok {
         let n = fill(t, s);
-        let r = settings_end(n);
+        let r = settings_end(n, lines);
         r
     } else {
         d.told

@@ -20,8 +20,11 @@ pub struct Seen {
     pub addresses: [Addresses; 16],
 }
 
-pub fn see_begin() -> Seen
-    ensures { λ r. ⌜ r ≡ begun ⌝ }
+// How many octets the lines have.
+pub const LINES: usize = 51;
+
+pub fn see_begin(lines: &[u8]) -> Seen
+    ensures { λ r. ⌜ r ≡ begun (now (lines .entry)) ⌝ }
 {
     let nothing = Prefix {
         length: 0,
@@ -36,7 +39,7 @@ pub fn see_begin() -> Seen
     };
     let addresses = [none; 16];
     Seen {
-        sound: true,
+        sound: lines.len() == LINES,
         slots: 0,
         octets: 0,
         addresses,

@@ -1,11 +1,13 @@
 // Whether a table, a memory and lengths are what the settings ask for, and the answer.
+use crate::seeing::LINES;
 use crate::seeing::Seen;
 use channel::Answer;
 use channel::Refusal;
+use lines::clear;
 use table::Told;
 use table::Verdict;
 ghost use mathlib.Core.Path.{_≡_};
-ghost use Rattle.settings.specs.Seeing.{isSettled, verdictOf, madeTold};
+ghost use Rattle.settings.specs.Seeing.{isSettled, verdictOf, madeTold, cleared};
 
 // Of a table of n records, k settings, m octets and l lengths.
 fn is_settled(v: Seen, n: usize, k: usize, m: usize, l: usize) -> bool
@@ -38,10 +40,13 @@ pub fn settle(v: Seen, n: usize, k: usize, m: usize, l: usize) -> Verdict
     }
 }
 
-// What is told once n records are made.
-pub fn settings_end(n: usize) -> Told
-    ensures { λ r. ⌜ r ≡ madeTold n ⌝ }
+// What is told once n records are made, and nobody waits then.
+pub fn settings_end(n: usize, lines: &mut [u8]) -> Told
+    ensures { λ r. ⌜ (r ≡ madeTold n) × (now (lines .exit) ≡ cleared (now (lines .entry))) ⌝ }
 {
+    if lines.len() == LINES {
+        clear(lines);
+    }
     Told {
         answer: Answer::Done {
             length: 0,

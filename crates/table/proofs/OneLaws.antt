@@ -24,6 +24,7 @@ use Rattle.channel.proofs.SettingsLaws.{fit-is}
 use Rattle.channel.proofs.StandingLaws.{stands-is}
 use Rattle.table.specs.declared.surveying.Survey.{Survey}
 use Rattle.table.specs.Looking.{looksFor, same, readied, missing}
+use Rattle.lines.specs.Fit.{fitLines}
 use Rattle.table.specs.Lent.{partOf}
 use Rattle.table.specs.Surveying.{unsound, noted, surveyOne, isSound, refusedBy, servedBy, decided}
 
@@ -85,6 +86,11 @@ module _ (v : Survey) (c : Channel) (lens : List ℕ) (j : ℕ) where
 -- ---- what is decided
 
 module _ (v : Survey) (n m l : ℕ) where
+  -- where all else is well, the lines settle it
+  pub sound-rest : 1 ≤ n → v .sound ≡ true → v .slots ≡ l → v .octets ≡ m → isSound v n m l ≡ fitLines n (v .lines)
+  unfolding isSound
+  sound-rest h sound slots octets = simp (le-leb 1 n h, sound, eq-eqb (v .slots) l slots, eq-eqb (v .octets) m octets)
+
   pub decided-bad : isSound v n m l ≡ false → decided v n m l ≡ refusedBy v n refusal.Settings
   unfolding decided
   decided-bad e = simp (e)

@@ -13,6 +13,9 @@ use lib.Seq.{length-take-le}
 use Rattle.laws.specs.Choice.{if_then_else_}
 use Rattle.laws.proofs.Choice.{both, chosen, passed-by}
 use Rattle.slots.specs.Slots.{Sized, laid}
+use Rattle.lines.specs.Lines.{noLines}
+use Rattle.lines.specs.Fit.{fitLines}
+use Rattle.lines.proofs.FitLaws.{fit-test, tested}
 use Rattle.walks.specs.Serving.{Worked, Called, works, leaves, servedBy, saying}
 use Rattle.channel.specs.declared.record.Channel.{Channel}
 use Rattle.channel.specs.declared.answer.Answer.{Answer}
@@ -29,12 +32,12 @@ use Rattle.table.specs.declared.surveying.Survey.{Survey}
 use Rattle.table.specs.declared.surveying.Spot.{Spot}
 use Rattle.table.specs.declared.deciding.Decision.{Decision}
 use Rattle.table.specs.Looking.{graded, missing, Chosen, chosenFrom, isFound, chosen as choice}
-use Rattle.table.specs.Lent.{areaOf, partOf, allSlots, allOctets, slotAt, octetAt, eachStands, lawful}
+use Rattle.table.specs.Lent.{areaOf, partOf, allSlots, allOctets, slotAt, octetAt, eachStands, lawful, passes}
 use Rattle.table.specs.Serving.{blank, recordAt, ownMem, ownLens, Step, stored, serveOne, indexServed, toldOf}
-use Rattle.table.specs.Surveying.{begun, better, surveyOne, surveyed, isSound, decided, refusedBy, servedBy as served, roles, toldRoles, placed, mine, mineLens, wholly, stepping, Served}
+use Rattle.table.specs.Surveying.{begun, better, surveyOne, surveyed, isSound, decided, refusedBy, servedBy as served, toldRoles, placed, mine, mineLens, wholly, stepping, Served}
 use Rattle.table.proofs.OneLaws.{decided-bad, decided-found, decided-none}
 use Rattle.table.proofs.Spots.{spotFrom, far, spot-rank, chosen-at, Lies, spot-lies, Suits, chosen-suits}
-use Rattle.table.proofs.SurveyLaws.{each-stands, slots-within, octets-within, Going, survey-good, survey-bad, finally}
+use Rattle.table.proofs.SurveyLaws.{each-stands, slots-within, octets-within, Going, stays-spoilt, survey-good, survey-bad, finally}
 
 -- ---- the test for 13
 
@@ -59,59 +62,100 @@ unfolding lawful
 is-lawful t mem lens h =
     simp (le-leb 1 (length t) (h .some), le-leb (length t) 16 (h .few), eq-eqb (length lens) (allSlots t) (h .slots), eq-eqb (length mem) (allOctets t) (h .octets), h .stand)
 
-starts : (look : Look) → Going (begun look) 0
-starts look = record { sound = refl; few = omega arith; slots = omega arith; octets = omega arith; rank = omega arith }
+-- with lines of the table
+pub record Passing (t : List Channel) (mem lens lines : List ℕ) : Type 0 where
+  pub lawful : Lawful t mem lens
+  pub lined : fitLines (length t) lines ≡ true
+
+pub passing-is : (t : List Channel) (mem lens lines : List ℕ) → passes t mem lens lines ≡ true → Passing t mem lens lines
+unfolding passes
+passing-is t mem lens lines e = let p = both (lawful t mem lens) (fitLines (length t) lines) e in record { lawful = lawful-is t mem lens (p .0); lined = p .1 }
+
+pub is-passing : (t : List Channel) (mem lens lines : List ℕ) → Passing t mem lens lines → passes t mem lens lines ≡ true
+unfolding passes
+is-passing t mem lens lines h = ap₂ (λ (x y : Bool). x && y) (is-lawful t mem lens (h .lawful)) (h .lined)
+
+-- lines of a table of n records are lines of one of 16
+lines-fit : (n : ℕ) (lines : List ℕ) → fitLines n lines ≡ true → fitLines 16 lines ≡ true
+lines-fit n lines e = fit-test 16 lines (tested n lines e)
+
+starts : (look : Look) (lines : List ℕ) → fitLines 16 lines ≡ true → Going (begun look lines) 0
+starts look lines e = record { sound = e; few = omega arith; slots = omega arith; octets = omega arith; rank = omega arith }
 
 -- a survey that is sound has seen every record stand
-module _ (look : Look) (t : List Channel) (lens : List ℕ) where
-  pub seen-good : length t ≤ 16 → eachStands t lens ≡ true → surveyed t lens (begun look) ≡ finally (begun look) 0 t
-  seen-good few e = survey-good lens 0 (begun look) t (starts look) (omega (arith, few)) e
+module _ (look : Look) (t : List Channel) (lens lines : List ℕ) where
+  pub seen-good : fitLines 16 lines ≡ true → length t ≤ 16 → eachStands t lens ≡ true → surveyed t lens (begun look lines) ≡ finally (begun look lines) 0 t
+  seen-good lined few e = survey-good lens 0 (begun look lines) t (starts look lines lined) (omega (arith, few)) e
 
-  pub seen-sound : surveyed t lens (begun look) .sound ≡ true → (length t ≤ 16) × (eachStands t lens ≡ true)
+  -- what is unsound at first is so at last
+  seen-lined : surveyed t lens (begun look lines) .sound ≡ true → fitLines 16 lines ≡ true
+  seen-lined s = go (fitLines 16 lines) refl
+    where
+      go : (b : Bool) → fitLines 16 lines ≡ b → fitLines 16 lines ≡ true
+      go true p = p
+      go false p = absurd (true≢false (sym s ∙ ap (λ (w : Survey). w .sound) (stays-spoilt lens 0 (begun look lines) t p) ∙ p))
+
+  pub seen-sound : surveyed t lens (begun look lines) .sound ≡ true → (length t ≤ 16) × (eachStands t lens ≡ true)
   seen-sound s = go (leb (length t) 16) refl (eachStands t lens) refl
     where
       no-good : ((0 + length t ≤ 16) → eachStands t lens ≡ true → ⊥) → (length t ≤ 16) × (eachStands t lens ≡ true)
-      no-good f = absurd (false≢true (sym (survey-bad lens 0 (begun look) t (starts look) f) ∙ s))
+      no-good f = absurd (false≢true (sym (survey-bad lens 0 (begun look lines) t (starts look lines (seen-lined s)) f) ∙ s))
 
       go : (a : Bool) → leb (length t) 16 ≡ a → (b : Bool) → eachStands t lens ≡ b → (length t ≤ 16) × (eachStands t lens ≡ true)
       go true p true q = (leb-true (length t) 16 p, q)
       go true p false q = no-good (λ k e. true≢false (sym e ∙ q))
       go false p b q = no-good (λ k e. true≢false (sym (le-leb (length t) 16 (omega (arith, k))) ∙ p))
 
+  -- the lines that are kept
+  seen-lines : fitLines 16 lines ≡ true → begun look lines .lines ≡ lines
+  seen-lines e = chosen (fitLines 16 lines) lines noLines e
+
   -- the survey is sound exactly if the table passes the test for 13
-  pub sound-lawful : (mem : List ℕ) → isSound (surveyed t lens (begun look)) (length t) (length mem) (length lens) ≡ lawful t mem lens
+  pub sound-passes : (mem : List ℕ) → isSound (surveyed t lens (begun look lines)) (length t) (length mem) (length lens) ≡ passes t mem lens lines
   unfolding isSound
-  sound-lawful mem = go (isSound v (length t) (length mem) (length lens)) refl (lawful t mem lens) refl
+  sound-passes mem = go (isSound v (length t) (length mem) (length lens)) refl (passes t mem lens lines) refl
     where
       v : Survey
-      v = surveyed t lens (begun look)
+      v = surveyed t lens (begun look lines)
 
-      from-law : Lawful t mem lens → isSound v (length t) (length mem) (length lens) ≡ true
-      from-law h =
-          let e = seen-good (h .few) (h .stand) in
-          simp (e, le-leb 1 (length t) (h .some), eq-eqb (0 + allSlots t) (length lens) (zero-add (allSlots t) ∙ sym (h .slots)), eq-eqb (0 + allOctets t) (length mem) (zero-add (allOctets t) ∙ sym (h .octets)))
+      from-law : Passing t mem lens lines → isSound v (length t) (length mem) (length lens) ≡ true
+      from-law p =
+          let h = p .lawful in
+          let l = lines-fit (length t) lines (p .lined) in
+          let e = seen-good l (h .few) (h .stand) in
+          let kept : fitLines (length t) (v .lines) ≡ true = ap (λ (w : Survey). fitLines (length t) (w .lines)) e ∙ ap (λ (x : List ℕ). fitLines (length t) x) (seen-lines l) ∙ p .lined in
+          let sound : v .sound ≡ true = ap (λ (w : Survey). w .sound) e in
+          let slots : eqb (v .slots) (length lens) ≡ true = eq-eqb _ _ (ap (λ (w : Survey). w .slots) e ∙ zero-add (allSlots t) ∙ sym (h .slots)) in
+          let octets : eqb (v .octets) (length mem) ≡ true = eq-eqb _ _ (ap (λ (w : Survey). w .octets) e ∙ zero-add (allOctets t) ∙ sym (h .octets)) in
+          simp (le-leb 1 (length t) (h .some), sound, slots, octets, kept)
 
-      from-sound : isSound v (length t) (length mem) (length lens) ≡ true → Lawful t mem lens
+      from-sound : isSound v (length t) (length mem) (length lens) ≡ true → Passing t mem lens lines
       from-sound s =
-          let p3 = both _ _ s in
+          let p4 = both _ _ s in
+          let p3 = both _ _ (p4 .0) in
           let p2 = both _ _ (p3 .0) in
           let p1 = both _ _ (p2 .0) in
+          let l = seen-lined (p1 .1) in
           let q = seen-sound (p1 .1) in
-          let e = seen-good (q .0) (q .1) in
+          let e = seen-good l (q .0) (q .1) in
           record {
-            some = leb-true _ _ (p1 .0);
-            few = q .0;
-            slots = sym (eqb-true _ _ (p2 .1)) ∙ ap (λ (w : Survey). w .slots) e ∙ zero-add (allSlots t);
-            octets = sym (eqb-true _ _ (p3 .1)) ∙ ap (λ (w : Survey). w .octets) e ∙ zero-add (allOctets t);
-            stand = q .1;
+            lawful =
+                record {
+                  some = leb-true _ _ (p1 .0);
+                  few = q .0;
+                  slots = sym (eqb-true _ _ (p2 .1)) ∙ ap (λ (w : Survey). w .slots) e ∙ zero-add (allSlots t);
+                  octets = sym (eqb-true _ _ (p3 .1)) ∙ ap (λ (w : Survey). w .octets) e ∙ zero-add (allOctets t);
+                  stand = q .1;
+                };
+            lined = ap (λ (x : List ℕ). fitLines (length t) x) (sym (seen-lines l)) ∙ ap (λ (w : Survey). fitLines (length t) (w .lines)) (sym e) ∙ p4 .1;
           }
 
-      go : (a : Bool) → isSound v (length t) (length mem) (length lens) ≡ a → (b : Bool) → lawful t mem lens ≡ b
-          → isSound v (length t) (length mem) (length lens) ≡ lawful t mem lens
+      go : (a : Bool) → isSound v (length t) (length mem) (length lens) ≡ a → (b : Bool) → passes t mem lens lines ≡ b
+          → isSound v (length t) (length mem) (length lens) ≡ passes t mem lens lines
       go true p true q = p ∙ sym q
       go false p false q = p ∙ sym q
-      go true p false q = absurd (true≢false (sym (is-lawful t mem lens (from-sound p)) ∙ q))
-      go false p true q = absurd (true≢false (sym (from-law (lawful-is t mem lens q)) ∙ p))
+      go true p false q = absurd (true≢false (sym (is-passing t mem lens lines (from-sound p)) ∙ q))
+      go false p true q = absurd (true≢false (sym (from-law (passing-is t mem lens lines q)) ∙ p))
 
 -- no rank is over 3
 pub capped : (look : Look) (j : ℕ) (t : List Channel) → 3 ≤ chosenFrom look j t .rank → 3 ≡ chosenFrom look j t .rank
@@ -127,55 +171,69 @@ capped look j (c ∷ t) h = go (leb (graded look j c) (chosenFrom look (j + 1) t
         simp (e) (λ k. let q = next (omega (arith, k, l)) in omega (arith, k, l, q))
     go false e next = simp (e) next
 
+-- a call by what is decided and what the step makes, the index not told
+unfoldable pub servedWith : Bool → Decision → List Channel → List ℕ → List ℕ → List ℕ → List ℕ → Worked Stepped → Called Answer Channel
+servedWith true d t mem lens lines out w = leaves (w .made .answer) (set t (d .at) (w .made .channel)) (w .mem) (w .lens) lines (w .out)
+servedWith false d t mem lens lines out w = leaves (d .told .answer) t mem lens lines out
+
 -- ---- a table that passes it: what is found, and what the step asks
 
+-- the choice alone
+module _ (look : Look) (t : List Channel) where
+  at-far : choice look t .at ≡ far look 0 t
+  at-far = chosen-at look 0 t ∙ zero-add (far look 0 t)
+
 module _ (look : Look) (t : List Channel) (mem lens : List ℕ) (h : Lawful t mem lens) where
+  pub found-below : choice look t .rank < 3 → choice look t .at < length t
+  found-below f = rw (at-far look t) (chosen-suits look 0 t f .0)
+
+  pub found-suits : choice look t .rank < 3 → choice look t .rank ≡ graded look (choice look t .at) (recordAt t (choice look t .at))
+  found-suits f =
+      chosen-suits look 0 t f .1
+      ∙ ap₂ (λ (i k : ℕ). graded look i (getD t k blank)) (sym (chosen-at look 0 t)) (sym (at-far look t))
+
+module _ (look : Look) (t : List Channel) (mem lens lines : List ℕ) (p : Passing t mem lens lines) where
+  h : Lawful t mem lens
+  h = p .lawful
+
+  good : surveyed t lens (begun look lines) ≡ finally (begun look lines) 0 t
+  good = seen-good look t lens lines (lines-fit (length t) lines (p .lined)) (h .few) (h .stand)
+
   -- the survey
   abbrev pub whole : Survey
-  whole = surveyed t lens (begun look)
+  whole = surveyed t lens (begun look lines)
 
   abbrev pub spot : Spot
   spot = spotFrom look 0 0 0 t
 
   -- the best of all is the best from the first on, or none is
   pub whole-rank : whole .spot .rank ≡ choice look t .rank
-  whole-rank = ap (λ (w : Survey). w .spot .rank) (seen-good look t lens (h .few) (h .stand)) ∙ go (ltb (spot .rank) 3) refl
+  whole-rank = ap (λ (w : Survey). w .spot .rank) good ∙ go (ltb (spot .rank) 3) refl
     where
       top : spot .rank ≡ choice look t .rank
       top = spot-rank look 0 0 0 t
 
-      go : (b : Bool) → ltb (spot .rank) 3 ≡ b → better (begun look .spot) spot .rank ≡ choice look t .rank
+      go : (b : Bool) → ltb (spot .rank) 3 ≡ b → better (begun look lines .spot) spot .rank ≡ choice look t .rank
       go true e = simp (e) top
       go false e = simp (e) (capped look 0 t (omega (arith, ltb-false (spot .rank) 3 e, top)))
 
   pub found-spot : choice look t .rank < 3 → whole .spot ≡ spot
   found-spot f =
-      ap (λ (w : Survey). w .spot) (seen-good look t lens (h .few) (h .stand))
-      ∙ chosen (ltb (spot .rank) 3) spot (begun look .spot) (lt-ltb (spot .rank) 3 (omega (arith, f, spot-rank look 0 0 0 t)))
+      ap (λ (w : Survey). w .spot) good
+      ∙ chosen (ltb (spot .rank) 3) spot (begun look lines .spot) (lt-ltb (spot .rank) 3 (omega (arith, f, spot-rank look 0 0 0 t)))
 
   pub found-at : choice look t .rank < 3 → whole .spot .at ≡ choice look t .at
   found-at f = ap (λ (x : Spot). x .at) (found-spot f) ∙ spot-lies look 0 0 0 t .at ∙ sym (chosen-at look 0 t)
 
-  at-far : choice look t .at ≡ far look 0 t
-  at-far = chosen-at look 0 t ∙ zero-add (far look 0 t)
-
   pub found-slot : choice look t .rank < 3 → whole .spot .slot ≡ slotAt t (choice look t .at)
   found-slot f =
       ap (λ (x : Spot). x .slot) (found-spot f) ∙ spot-lies look 0 0 0 t .slot ∙ zero-add (allSlots (take (far look 0 t) t))
-      ∙ ap (λ (k : ℕ). allSlots (take k t)) (sym at-far)
+      ∙ ap (λ (k : ℕ). allSlots (take k t)) (sym (at-far look t))
 
   pub found-octet : choice look t .rank < 3 → whole .spot .octet ≡ octetAt t (choice look t .at)
   found-octet f =
       ap (λ (x : Spot). x .octet) (found-spot f) ∙ spot-lies look 0 0 0 t .octet ∙ zero-add (allOctets (take (far look 0 t) t))
-      ∙ ap (λ (k : ℕ). allOctets (take k t)) (sym at-far)
-
-  pub found-below : choice look t .rank < 3 → choice look t .at < length t
-  found-below f = rw at-far (chosen-suits look 0 t f .0)
-
-  pub found-suits : choice look t .rank < 3 → choice look t .rank ≡ graded look (choice look t .at) (recordAt t (choice look t .at))
-  found-suits f =
-      chosen-suits look 0 t f .1
-      ∙ ap₂ (λ (i k : ℕ). graded look i (getD t k blank)) (sym (chosen-at look 0 t)) (sym at-far)
+      ∙ ap (λ (k : ℕ). allOctets (take k t)) (sym (at-far look t))
 
   -- ---- the two cases of a table that passes the test
 
@@ -183,10 +241,10 @@ module _ (look : Look) (t : List Channel) (mem lens : List ℕ) (h : Lawful t me
   decision = decided whole (length t) (length mem) (length lens)
 
   sound : isSound whole (length t) (length mem) (length lens) ≡ true
-  sound = sound-lawful look t lens mem ∙ is-lawful t mem lens h
+  sound = sound-passes look t lens lines mem ∙ is-passing t mem lens lines p
 
   look-kept : whole .look ≡ look
-  look-kept = ap (λ (w : Survey). w .look) (seen-good look t lens (h .few) (h .stand))
+  look-kept = ap (λ (w : Survey). w .look) good
 
   pub is-served : choice look t .rank < 3 → decision ≡ served whole
   is-served f = decided-found whole (length t) (length mem) (length lens) sound (rw whole-rank f)
@@ -201,7 +259,7 @@ module _ (look : Look) (t : List Channel) (mem lens : List ℕ) (h : Lawful t me
   serves f =
       let at = choice look t .at in
       let c = recordAt t at in
-      let below = found-below f in
+      let below = found-below look t mem lens h f in
       let st = each-stands t lens (h .stand) at below in
       let slot = found-slot f in
       let octet = found-octet f in
@@ -221,30 +279,30 @@ module _ (look : Look) (t : List Channel) (mem lens : List ℕ) (h : Lawful t me
             };
         slots = in-lens;
         octets = in-mem;
-        suits = whole-rank ∙ found-suits f ∙ ap₂ (λ (l : Look) (i : ℕ). graded l i c) (sym look-kept) (sym (found-at f));
+        suits = whole-rank ∙ found-suits look t mem lens h f ∙ ap₂ (λ (l : Look) (i : ℕ). graded l i c) (sym look-kept) (sym (found-at f));
         found = rw whole-rank f;
       }
 
   -- the step's outcome, stored at an index, over the parts that begin at a slot and at an octet
-  abbrev laidAt : Step → List ℕ → ℕ → ℕ → ℕ → ℕ → Called Answer Channel
-  laidAt step out at slot octet rank =
+  abbrev laidAt : Step → List ℕ → List ℕ → ℕ → ℕ → ℕ → ℕ → Called Answer Channel
+  laidAt step lines out at slot octet rank =
       let w = step (recordAt t at) rank (partOf octet (areaOf (recordAt t at .limits)) mem) (partOf slot (recordAt t at .limits .slots) lens) out in
-      leaves (w .made .answer) (set t at (w .made .channel)) (laid mem octet (w .mem)) (laid lens slot (w .lens)) (w .out)
+      leaves (w .made .answer) (set t at (w .made .channel)) (laid mem octet (w .mem)) (laid lens slot (w .lens)) lines (w .out)
 
   pub in-place : (step : Step) (out : List ℕ) → choice look t .rank < 3
-      → servedBy roles (ltb (whole .spot .at) (length t)) (served whole) t mem lens out (stepping step (recordAt t (whole .spot .at)) (served whole) mem lens out)
-      ≡ stored t mem lens (choice look t .at)
+      → servedWith (ltb (whole .spot .at) (length t)) (served whole) t mem lens lines out (stepping step (recordAt t (whole .spot .at)) (served whole) mem lens out)
+      ≡ stored t mem lens lines (choice look t .at)
       (step (recordAt t (choice look t .at)) (choice look t .rank) (ownMem t (choice look t .at) mem) (ownLens t (choice look t .at) lens) out)
-  unfolding servedBy stored
+  unfolding servedWith stored
   in-place step out f =
       let at = found-at f in
       let x = choice look t .at in
-      ap (λ (b : Bool). servedBy roles b (served whole) t mem lens out (stepping step (recordAt t (whole .spot .at)) (served whole) mem lens out))
-      (lt-ltb (whole .spot .at) (length t) (rw at (found-below f)))
-      ∙ ap (λ (i : ℕ). laidAt step out i (whole .spot .slot) (whole .spot .octet) (whole .spot .rank)) at
-      ∙ ap (λ (i : ℕ). laidAt step out x i (whole .spot .octet) (whole .spot .rank)) (found-slot f)
-      ∙ ap (λ (i : ℕ). laidAt step out x (slotAt t x) i (whole .spot .rank)) (found-octet f)
-      ∙ ap (λ (i : ℕ). laidAt step out x (slotAt t x) (octetAt t x) i) whole-rank
+      ap (λ (b : Bool). servedWith b (served whole) t mem lens lines out (stepping step (recordAt t (whole .spot .at)) (served whole) mem lens out))
+      (lt-ltb (whole .spot .at) (length t) (rw at (found-below look t mem lens h f)))
+      ∙ ap (λ (i : ℕ). laidAt step lines out i (whole .spot .slot) (whole .spot .octet) (whole .spot .rank)) at
+      ∙ ap (λ (i : ℕ). laidAt step lines out x i (whole .spot .octet) (whole .spot .rank)) (found-slot f)
+      ∙ ap (λ (i : ℕ). laidAt step lines out x (slotAt t x) i (whole .spot .rank)) (found-octet f)
+      ∙ ap (λ (i : ℕ). laidAt step lines out x (slotAt t x) (octetAt t x) i) whole-rank
 
 -- what was looked for is told with the decision
 decided-look : (v : Survey) (n m l : ℕ) → decided v n m l .look ≡ v .look
@@ -258,98 +316,98 @@ decided-look v n m l = go (isSound v n m l) refl (ltb (v .spot .rank) 3) refl
 
 -- ---- any table
 
-module _ (look : Look) (t : List Channel) (mem lens : List ℕ) where
+module _ (look : Look) (t : List Channel) (mem lens lines : List ℕ) where
   abbrev pub decisionOf : Decision
-  decisionOf = decided (surveyed t lens (begun look)) (length t) (length mem) (length lens)
+  decisionOf = decided (surveyed t lens (begun look lines)) (length t) (length mem) (length lens)
 
-  is-unlawful : lawful t mem lens ≡ false → decisionOf ≡ refusedBy (surveyed t lens (begun look)) (length t) refusal.Settings
-  is-unlawful e = decided-bad (surveyed t lens (begun look)) (length t) (length mem) (length lens) (sound-lawful look t lens mem ∙ e)
+  is-unlawful : passes t mem lens lines ≡ false → decisionOf ≡ refusedBy (surveyed t lens (begun look lines)) (length t) refusal.Settings
+  is-unlawful e = decided-bad (surveyed t lens (begun look lines)) (length t) (length mem) (length lens) (sound-passes look t lens lines mem ∙ e)
 
   -- where the decision is an index of the table, the step may be called
   pub may-serve : decisionOf .at < length t → Served (recordAt t (decisionOf .at)) decisionOf mem lens
-  may-serve l = go (lawful t mem lens) refl (ltb (choice look t .rank) 3) refl
+  may-serve l = go (passes t mem lens lines) refl (ltb (choice look t .rank) 3) refl
     where
       not-n : (v : Survey) (why : Refusal) → decisionOf ≡ refusedBy v (length t) why → Served (recordAt t (decisionOf .at)) decisionOf mem lens
       not-n v why e = absurd (lt-irrefl (length t) (subst (λ (d : Decision). d .at < length t) e l))
 
-      go : (a : Bool) → lawful t mem lens ≡ a → (b : Bool) → ltb (choice look t .rank) 3 ≡ b → Served (recordAt t (decisionOf .at)) decisionOf mem lens
-      go false p b q = not-n (surveyed t lens (begun look)) refusal.Settings (is-unlawful p)
+      go : (a : Bool) → passes t mem lens lines ≡ a → (b : Bool) → ltb (choice look t .rank) 3 ≡ b → Served (recordAt t (decisionOf .at)) decisionOf mem lens
+      go false p b q = not-n (surveyed t lens (begun look lines)) refusal.Settings (is-unlawful p)
       go true p false q =
-          not-n (surveyed t lens (begun look)) (missing (look .sought)) (is-missing look t mem lens (lawful-is t mem lens p) (ltb-false (choice look t .rank) 3 q))
+          not-n (surveyed t lens (begun look lines)) (missing (look .sought)) (is-missing look t mem lens lines (passing-is t mem lens lines p) (ltb-false (choice look t .rank) 3 q))
       go true p true q =
-          let h = lawful-is t mem lens p in
+          let h = passing-is t mem lens lines p in
           let f = ltb-true (choice look t .rank) 3 q in
-          let e = is-served look t mem lens h f in
+          let e = is-served look t mem lens lines h f in
           subst (λ (d : Decision). Served (recordAt t (d .at)) d mem lens) (sym e)
-          (subst (λ (i : ℕ). Served (recordAt t i) (served (surveyed t lens (begun look))) mem lens) (sym (found-at look t mem lens h f)) (serves look t mem lens h f))
+          (subst (λ (i : ℕ). Served (recordAt t i) (served (surveyed t lens (begun look lines))) mem lens) (sym (found-at look t mem lens lines h f)) (serves look t mem lens lines h f))
 
   pub look-stays : decisionOf .at < length t → decisionOf .look ≡ look
-  look-stays l = go (lawful t mem lens) refl
+  look-stays l = go (passes t mem lens lines) refl
     where
-      go : (a : Bool) → lawful t mem lens ≡ a → decisionOf .look ≡ look
-      go true p = let h = lawful-is t mem lens p in decided-look (surveyed t lens (begun look)) (length t) (length mem) (length lens) ∙ ap (λ (w : Survey). w .look) (seen-good look t lens (h .few) (h .stand))
+      go : (a : Bool) → passes t mem lens lines ≡ a → decisionOf .look ≡ look
+      go true p = let h = passing-is t mem lens lines p in decided-look (surveyed t lens (begun look lines)) (length t) (length mem) (length lens) ∙ ap (λ (w : Survey). w .look) (good look t mem lens lines h)
       go false p = absurd (lt-irrefl (length t) (subst (λ (d : Decision). d .at < length t) (is-unlawful p) l))
 
   -- the call is what `serveOne` says
   pub agreed : (step : Step) (out : List ℕ)
-      → servedBy roles (ltb (decisionOf .at) (length t)) decisionOf t mem lens out (stepping step (recordAt t (decisionOf .at)) decisionOf mem lens out)
-      ≡ serveOne look step t mem lens out
-  unfolding servedBy serveOne stored
-  agreed step out = go (lawful t mem lens) refl (ltb (choice look t .rank) 3) refl
+      → servedWith (ltb (decisionOf .at) (length t)) decisionOf t mem lens lines out (stepping step (recordAt t (decisionOf .at)) decisionOf mem lens out)
+      ≡ serveOne look step t mem lens lines out
+  unfolding servedWith serveOne stored
+  agreed step out = go (passes t mem lens lines) refl (ltb (choice look t .rank) 3) refl
     where
       -- the call, by what is decided
       by : Decision → Called Answer Channel
-      by d = servedBy roles (ltb (d .at) (length t)) d t mem lens out (stepping step (recordAt t (d .at)) d mem lens out)
+      by d = servedWith (ltb (d .at) (length t)) d t mem lens lines out (stepping step (recordAt t (d .at)) d mem lens out)
 
-      refused : (v : Survey) (why : Refusal) → decisionOf ≡ refusedBy v (length t) why → by decisionOf ≡ leaves (Refused why) t mem lens out
+      refused : (v : Survey) (why : Refusal) → decisionOf ≡ refusedBy v (length t) why → by decisionOf ≡ leaves (Refused why) t mem lens lines out
       refused v why e =
           ap by e
-          ∙ ap (λ (b : Bool). servedBy roles b (refusedBy v (length t) why) t mem lens out (stepping step (recordAt t (length t)) (refusedBy v (length t) why) mem lens out))
+          ∙ ap (λ (b : Bool). servedWith b (refusedBy v (length t) why) t mem lens lines out (stepping step (recordAt t (length t)) (refusedBy v (length t) why) mem lens out))
           (le-ltb (length t) (length t) (omega arith))
 
-      go : (a : Bool) → lawful t mem lens ≡ a → (b : Bool) → ltb (choice look t .rank) 3 ≡ b → by decisionOf ≡ serveOne look step t mem lens out
-      go false p b q = refused (surveyed t lens (begun look)) refusal.Settings (is-unlawful p) ∙ simp (p)
+      go : (a : Bool) → passes t mem lens lines ≡ a → (b : Bool) → ltb (choice look t .rank) 3 ≡ b → by decisionOf ≡ serveOne look step t mem lens lines out
+      go false p b q = refused (surveyed t lens (begun look lines)) refusal.Settings (is-unlawful p) ∙ simp (p)
       go true p false q =
-          refused (surveyed t lens (begun look)) (missing (look .sought)) (is-missing look t mem lens (lawful-is t mem lens p) (ltb-false (choice look t .rank) 3 q))
+          refused (surveyed t lens (begun look lines)) (missing (look .sought)) (is-missing look t mem lens lines (passing-is t mem lens lines p) (ltb-false (choice look t .rank) 3 q))
           ∙ simp (p, q)
       go true p true q =
-          let h = lawful-is t mem lens p in
+          let h = passing-is t mem lens lines p in
           let f = ltb-true (choice look t .rank) 3 q in
-          ap by (is-served look t mem lens h f)
-          ∙ in-place look t mem lens h step out f
+          ap by (is-served look t mem lens lines h f)
+          ∙ in-place look t mem lens lines h step out f
           ∙ simp (p, q)
 
   -- the index that is told is that of the channel served
-  pub index-told : decisionOf .told .index ≡ indexServed look t mem lens
+  pub index-told : decisionOf .told .index ≡ indexServed look t mem lens lines
   unfolding indexServed
-  index-told = go (lawful t mem lens) refl (ltb (choice look t .rank) 3) refl
+  index-told = go (passes t mem lens lines) refl (ltb (choice look t .rank) 3) refl
     where
       told : {d : Decision} → decisionOf ≡ d → decisionOf .told .index ≡ d .told .index
       told e = ap (λ (d : Decision). d .told .index) e
 
-      go : (a : Bool) → lawful t mem lens ≡ a → (b : Bool) → ltb (choice look t .rank) 3 ≡ b → decisionOf .told .index ≡ indexServed look t mem lens
+      go : (a : Bool) → passes t mem lens lines ≡ a → (b : Bool) → ltb (choice look t .rank) 3 ≡ b → decisionOf .told .index ≡ indexServed look t mem lens lines
       go false p b q = told (is-unlawful p) ∙ simp (p)
       go true p false q =
-          told (is-missing look t mem lens (lawful-is t mem lens p) (ltb-false (choice look t .rank) 3 q))
+          told (is-missing look t mem lens lines (passing-is t mem lens lines p) (ltb-false (choice look t .rank) 3 q))
           ∙ simp (p, q)
       go true p true q =
-          let h = lawful-is t mem lens p in
+          let h = passing-is t mem lens lines p in
           let f = ltb-true (choice look t .rank) 3 q in
-          told (is-served look t mem lens h f) ∙ found-at look t mem lens h f ∙ simp (p, q)
+          told (is-served look t mem lens lines h f) ∙ found-at look t mem lens lines h f ∙ simp (p, q)
 
   -- the same call, with the index told
   pub agreed-told : (step : Step) (out : List ℕ)
-      → servedBy toldRoles (ltb (decisionOf .at) (length t)) decisionOf t mem lens out (placed decisionOf (stepping step (recordAt t (decisionOf .at)) decisionOf mem lens out))
-      ≡ saying (toldOf (indexServed look t mem lens)) (serveOne look step t mem lens out)
-  unfolding servedBy
+      → servedBy toldRoles (ltb (decisionOf .at) (length t)) decisionOf t mem lens lines out (placed decisionOf lines (stepping step (recordAt t (decisionOf .at)) decisionOf mem lens out))
+      ≡ saying (toldOf (indexServed look t mem lens lines)) (serveOne look step t mem lens lines out)
+  unfolding servedBy servedWith
   agreed-told step out =
       same (ltb (decisionOf .at) (length t))
       ∙ ap (saying (toldOf (decisionOf .told .index))) (agreed step out)
-      ∙ ap (λ (i : ℕ). saying (toldOf i) (serveOne look step t mem lens out)) index-told
+      ∙ ap (λ (i : ℕ). saying (toldOf i) (serveOne look step t mem lens lines out)) index-told
     where
       w : Worked Stepped
       w = stepping step (recordAt t (decisionOf .at)) decisionOf mem lens out
 
-      same : (b : Bool) → servedBy toldRoles b decisionOf t mem lens out (placed decisionOf w) ≡ saying (toldOf (decisionOf .told .index)) (servedBy roles b decisionOf t mem lens out w)
+      same : (b : Bool) → servedBy toldRoles b decisionOf t mem lens lines out (placed decisionOf lines w) ≡ saying (toldOf (decisionOf .told .index)) (servedWith b decisionOf t mem lens lines out w)
       same true = refl
       same false = refl

@@ -103,6 +103,7 @@ abbrev pub finally : Survey → ℕ → List Channel → Survey
 finally v j t =
     record {
       look = v .look;
+      lines = v .lines;
       sound = true;
       slots = v .slots + allSlots t;
       octets = v .octets + allOctets t;
@@ -117,10 +118,10 @@ stands-none lens = refl
 none : (v : Survey) (j : ℕ) → Going v j → v ≡ finally v j []
 unfolding allSlots allOctets spotFrom
 none v j g =
-    ap (λ (b : Bool). record { look = v .look; sound = b; slots = v .slots; octets = v .octets; spot = v .spot }) (g .sound)
-    ∙ ap (λ (s : ℕ). record { look = v .look; sound = true; slots = s; octets = v .octets; spot = v .spot }) (sym (add-zero (v .slots)))
-    ∙ ap (λ (o : ℕ). record { look = v .look; sound = true; slots = v .slots + 0; octets = o; spot = v .spot }) (sym (add-zero (v .octets)))
-    ∙ ap (λ (x : Spot). record { look = v .look; sound = true; slots = v .slots + 0; octets = v .octets + 0; spot = x })
+    ap (λ (b : Bool). record { look = v .look; lines = v .lines; sound = b; slots = v .slots; octets = v .octets; spot = v .spot }) (g .sound)
+    ∙ ap (λ (s : ℕ). record { look = v .look; lines = v .lines; sound = true; slots = s; octets = v .octets; spot = v .spot }) (sym (add-zero (v .slots)))
+    ∙ ap (λ (o : ℕ). record { look = v .look; lines = v .lines; sound = true; slots = v .slots + 0; octets = o; spot = v .spot }) (sym (add-zero (v .octets)))
+    ∙ ap (λ (x : Spot). record { look = v .look; lines = v .lines; sound = true; slots = v .slots + 0; octets = v .octets + 0; spot = x })
     (sym (passed-by (ltb 3 (v .spot .rank)) (spotFrom (v .look) j (v .slots) (v .octets) []) (v .spot) (le-ltb 3 (v .spot .rank) (g .rank))))
 
 -- the record counted, and those behind it: counted together
@@ -131,9 +132,9 @@ noted-finally v c j t =
     let rest : ℕ → Spot = λ i. spotFrom (v .look) i (v .slots + c .limits .slots) (v .octets + areaOf (c .limits)) t in
     let spots : better (better (v .spot) (spotHere v c j)) (rest (suc j)) ≡ better (v .spot) (spotFrom (v .look) j (v .slots) (v .octets) (c ∷ t)) =
     ap (λ (i : ℕ). better (better (v .spot) (spotHere v c j)) (rest i)) one ∙ weighed (v .spot) (spotHere v c j) (rest (j + 1)) in
-    ap (λ (s : ℕ). record { look = v .look; sound = true; slots = s; octets = v .octets + areaOf (c .limits) + allOctets t; spot = better (better (v .spot) (spotHere v c j)) (rest (suc j)) }) (add-assoc (v .slots) (c .limits .slots) (allSlots t))
-    ∙ ap (λ (o : ℕ). record { look = v .look; sound = true; slots = v .slots + (c .limits .slots + allSlots t); octets = o; spot = better (better (v .spot) (spotHere v c j)) (rest (suc j)) }) (add-assoc (v .octets) (areaOf (c .limits)) (allOctets t))
-    ∙ ap (λ (x : Spot). record { look = v .look; sound = true; slots = v .slots + (c .limits .slots + allSlots t); octets = v .octets + (areaOf (c .limits) + allOctets t); spot = x }) spots
+    ap (λ (s : ℕ). record { look = v .look; lines = v .lines; sound = true; slots = s; octets = v .octets + areaOf (c .limits) + allOctets t; spot = better (better (v .spot) (spotHere v c j)) (rest (suc j)) }) (add-assoc (v .slots) (c .limits .slots) (allSlots t))
+    ∙ ap (λ (o : ℕ). record { look = v .look; lines = v .lines; sound = true; slots = v .slots + (c .limits .slots + allSlots t); octets = o; spot = better (better (v .spot) (spotHere v c j)) (rest (suc j)) }) (add-assoc (v .octets) (areaOf (c .limits)) (allOctets t))
+    ∙ ap (λ (x : Spot). record { look = v .look; lines = v .lines; sound = true; slots = v .slots + (c .limits .slots + allSlots t); octets = v .octets + (areaOf (c .limits) + allOctets t); spot = x }) spots
 
 -- every record stands, and there are not too many
 pub survey-good : (lens : List ℕ) (j : ℕ) (v : Survey) (t : List Channel) → Going v j → j + length t ≤ 16

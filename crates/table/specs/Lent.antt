@@ -7,6 +7,7 @@ use lib.ListN.{length, take, drop}
 use Rattle.channel.specs.declared.record.Limits.{Limits}
 use Rattle.channel.specs.declared.record.Channel.{Channel}
 use Rattle.channel.specs.Tables.{mostRecords}
+use Rattle.lines.specs.Fit.{fitLines}
 use Rattle.channel.specs.Standing.{standing}
 
 -- ---- sizes
@@ -51,3 +52,7 @@ lawful t mem lens =
     && eqb (length lens) (allSlots t)
     && eqb (length mem) (allOctets t)
     && eachStands t lens
+
+-- and lines of such a table (document 02, A4)
+unfoldable pub passes : List Channel → List ℕ → List ℕ → List ℕ → Bool
+passes t mem lens lines = lawful t mem lens && fitLines (length t) lines

@@ -18,7 +18,7 @@ use Rattle.channel.specs.Prefixes.{noPrefix}
 use Rattle.table.specs.declared.looking.Look.{Look}
 use Rattle.table.specs.declared.deciding.Told.{Told}
 use Rattle.table.specs.Looking.{chosen, isFound, missing}
-use Rattle.table.specs.Lent.{areaOf, partOf, slotAt, octetAt, lawful}
+use Rattle.table.specs.Lent.{areaOf, partOf, slotAt, octetAt, passes}
 
 -- any settings, and a channel made of them: what `getD` gives past the end of a table, where nothing looks
 pub unset : Settings
@@ -46,31 +46,31 @@ ownLens t i lens = partOf (slotAt t i) (recordAt t i .limits .slots) lens
 abbrev pub Step : Type 0
 Step = Channel → ℕ → List ℕ → List ℕ → List ℕ → Worked Stepped
 
--- the table, the memory and the lengths once the channel at an index has been stepped
-unfoldable pub stored : List Channel → List ℕ → List ℕ → ℕ → Worked Stepped → Called Answer Channel
-stored t mem lens i w =
-    leaves (w .made .answer) (set t i (w .made .channel)) (laid mem (octetAt t i) (w .mem)) (laid lens (slotAt t i) (w .lens)) (w .out)
+-- the table, the memory, the lengths and the lines once the channel at an index has been stepped
+unfoldable pub stored : List Channel → List ℕ → List ℕ → List ℕ → ℕ → Worked Stepped → Called Answer Channel
+stored t mem lens lines i w =
+    leaves (w .made .answer) (set t i (w .made .channel)) (laid mem (octetAt t i) (w .mem)) (laid lens (slotAt t i) (w .lens)) lines (w .out)
 
-unfoldable pub serveOne : Look → Step → List Channel → List ℕ → List ℕ → List ℕ → Called Answer Channel
-serveOne look step t mem lens out =
-    if not (lawful t mem lens) then leaves (Refused refusal.Settings) t mem lens out
-    else if not (isFound (chosen look t)) then leaves (Refused (missing (look .sought))) t mem lens out
-    else stored t mem lens (chosen look t .at)
+unfoldable pub serveOne : Look → Step → List Channel → List ℕ → List ℕ → List ℕ → List ℕ → Called Answer Channel
+serveOne look step t mem lens lines out =
+    if not (passes t mem lens lines) then leaves (Refused refusal.Settings) t mem lens lines out
+    else if not (isFound (chosen look t)) then leaves (Refused (missing (look .sought))) t mem lens lines out
+    else stored t mem lens lines (chosen look t .at)
     (step (recordAt t (chosen look t .at)) (chosen look t .rank) (ownMem t (chosen look t .at) mem) (ownLens t (chosen look t .at) lens) out)
 
 -- the index of the channel that is served; as many as the table has records where none is
-unfoldable pub indexServed : Look → List Channel → List ℕ → List ℕ → ℕ
-indexServed look t mem lens =
-    if not (lawful t mem lens) then length t
+unfoldable pub indexServed : Look → List Channel → List ℕ → List ℕ → List ℕ → ℕ
+indexServed look t mem lens lines =
+    if not (passes t mem lens lines) then length t
     else if not (isFound (chosen look t)) then length t
     else chosen look t .at
 
 abbrev pub toldOf : ℕ → Answer → Told
 toldOf index answer = record { answer = answer; index = index }
 
--- of a call that is lent nothing that it could change but the table
+-- of a call that is lent nothing that it could change but the table and the lines
 abbrev pub tableOf : Called Answer Channel → Changed Answer Channel
-tableOf x = changes (x .answer) (x .table)
+tableOf x = changes (x .answer) (x .table) (x .lines)
 
 -- a step that changes the record alone
 abbrev pub alone : (Channel → Stepped) → Step

@@ -8,9 +8,10 @@ use lib.ListN.{length, take, drop}
 use Rattle.laws.specs.Choice.{if_then_else_}
 use Rattle.slots.specs.Slots.{Sized, laid}
 use Rattle.walks.specs.Fold.{foldFrom}
-use Rattle.walks.specs.Serving.{Roles, Worked, works}
+use Rattle.lines.specs.Lines.{noLines}
+use Rattle.lines.specs.Fit.{fitLines}
+use Rattle.walks.specs.Serving.{Roles, Worked, Performed, works, performs}
 use Rattle.channel.specs.declared.record.Channel.{Channel}
-use Rattle.channel.specs.declared.answer.Answer.{Answer}
 use Rattle.channel.specs.declared.answer.Answer.the-variants.{Refused}
 use Rattle.channel.specs.declared.answer.Refusal.{Refusal}
 use Rattle.channel.specs.declared.answer.Refusal.the-variants as refusal
@@ -29,11 +30,16 @@ use Rattle.table.specs.Serving.{Step, blank, toldOf}
 
 -- ---- record by record
 
-abbrev pub begun : Look → Survey
-begun look = record { look = look; sound = true; slots = 0; octets = 0; spot = record { at = 0; slot = 0; octet = 0; rank = 3 } }
+abbrev pub started : Look → List ℕ → Bool → Survey
+started look lines sound =
+    record { look = look; lines = lines; sound = sound; slots = 0; octets = 0; spot = record { at = 0; slot = 0; octet = 0; rank = 3 } }
+
+-- lines that are none make it unsound at once, and are not kept
+abbrev pub begun : Look → List ℕ → Survey
+begun look lines = started look (if fitLines 16 lines then lines else noLines) (fitLines 16 lines)
 
 abbrev pub unsound : Survey → Survey
-unsound v = record { look = v .look; sound = false; slots = v .slots; octets = v .octets; spot = v .spot }
+unsound v = record { look = v .look; lines = v .lines; sound = false; slots = v .slots; octets = v .octets; spot = v .spot }
 
 abbrev pub better : Spot → Spot → Spot
 better old new = if ltb (new .rank) (old .rank) then new else old
@@ -45,6 +51,7 @@ abbrev pub noted : Survey → Channel → ℕ → Survey
 noted v c j =
     record {
       look = v .look;
+      lines = v .lines;
       sound = true;
       slots = v .slots + c .limits .slots;
       octets = v .octets + areaOf (c .limits);
@@ -70,7 +77,7 @@ surveyed t lens v = foldFrom surveyOne lens 0 v t
 -- ---- what it decides, of a table of n records with m octets and l lengths
 
 unfoldable pub isSound : Survey → ℕ → ℕ → ℕ → Bool
-isSound v n m l = leb 1 n && v .sound && eqb (v .slots) l && eqb (v .octets) m
+isSound v n m l = leb 1 n && v .sound && eqb (v .slots) l && eqb (v .octets) m && fitLines n (v .lines)
 
 abbrev pub refusedBy : Survey → ℕ → Refusal → Decision
 refusedBy v n why = record { at = n; told = toldOf n (Refused why); look = v .look; spot = v .spot }
@@ -87,16 +94,14 @@ decided v n m l =
 abbrev pub judged : Survey → ℕ → ℕ → ℕ → Verdict
 judged v n m l = record { ok = isSound v n m l; told = toldOf n (Refused refusal.Settings) }
 
-abbrev pub roles : Roles Channel Answer Stepped Decision
-roles = record { at = λ d. d .at; unserved = λ d. d .told .answer; stored = λ s. s .channel; said = λ s. s .answer; blank = blank }
-
--- the same, with the index told
+-- of a decision and of what a step makes, the parts that a call reads
 abbrev pub toldRoles : Roles Channel Told Placed Decision
 toldRoles = record { at = λ d. d .at; unserved = λ d. d .told; stored = λ s. s .channel; said = λ s. s .told; blank = blank }
 
-abbrev pub placed : Decision → Worked Stepped → Worked Placed
-placed d w =
-    works (record { channel = w .made .channel; told = toldOf (d .told .index) (w .made .answer) }) (w .mem) (w .lens) (w .out)
+-- what the step of a call leaves: the channel as it is stored, the answer with its index, and the lines
+abbrev pub placed : Decision → List ℕ → Worked Stepped → Performed Placed
+placed d lines w =
+    performs (record { channel = w .made .channel; told = toldOf (d .told .index) (w .made .answer) }) (w .mem) (w .lens) lines (w .out)
 
 -- ---- the step of the channel that is served, over the whole of the lent slices
 

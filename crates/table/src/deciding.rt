@@ -7,6 +7,7 @@ use crate::surveying::Survey;
 use channel::Answer;
 use channel::Channel;
 use channel::Refusal;
+use lines::is_fit;
 ghost use mathlib.Core.Path.{_≡_};
 ghost use Rattle.table.specs.Looking.{missing};
 ghost use Rattle.table.specs.Surveying.{isSound, refusedBy, servedBy, decided, judged};
@@ -37,7 +38,7 @@ pub struct Verdict {
     pub told: Told,
 }
 
-// The table has 1 record at least, all stand, and the lent lengths and memory are theirs to the last.
+// The table has 1 record at least, all stand, the lent lengths and memory are theirs to the last, and the lines are of such a table.
 fn is_sound(v: Survey, n: usize, m: usize, l: usize) -> bool
     ensures { λ r. ⌜ r ≡ isSound v n m l ⌝ }
 {
@@ -50,7 +51,11 @@ fn is_sound(v: Survey, n: usize, m: usize, l: usize) -> bool
     if v.slots != l {
         return false;
     }
-    v.octets == m
+    if v.octets != m {
+        return false;
+    }
+    let lines = v.lines;
+    is_fit(&lines, n)
 }
 
 // The refusal where no record suits.

@@ -5,9 +5,11 @@ use crate::looking::grade;
 use channel::Channel;
 use channel::Limits;
 use condition::stands;
+use lines::is_fit;
+use lines::read;
 ghost use mathlib.Core.Path.{_≡_};
 ghost use Prim.Native.Nat.{_*_, _≤_};
-ghost use Rattle.table.specs.Surveying.{lookedAt, begun, unsound, better, noted, surveyOne};
+ghost use Rattle.table.specs.Surveying.{lookedAt, started, begun, unsound, better, noted, surveyOne};
 ghost use lib.ListN.{take, drop};
 ghost use Rattle.channel.specs.Standing.{standing};
 ghost use Rattle.channel.specs.Asked.{Ringed};
@@ -37,9 +39,10 @@ pub struct Spot {
     pub rank: usize,
 }
 
-// What the records so far have shown: what is looked for, whether all stand, how many slots and octets they have together, and the best.
+// What the records so far have shown: what is looked for, the lines, whether all stand, how many slots and octets they have together, and the best.
 pub struct Survey {
     pub look: Look,
+    pub lines: [u8; 51],
     pub sound: bool,
     pub slots: usize,
     pub octets: usize,
@@ -54,12 +57,13 @@ pub fn area(l: Limits) -> usize
     l.slots * l.payload
 }
 
-pub fn begin(look: Look) -> Survey
-    ensures { λ r. ⌜ r ≡ begun look ⌝ }
+fn start(look: Look, lines: [u8; 51], sound: bool) -> Survey
+    ensures { λ r. ⌜ r ≡ started look lines sound ⌝ }
 {
     Survey {
         look,
-        sound: true,
+        lines,
+        sound,
         slots: 0,
         octets: 0,
         spot: Spot {
@@ -71,14 +75,26 @@ pub fn begin(look: Look) -> Survey
     }
 }
 
+pub fn begin(look: Look, lines: &[u8]) -> Survey
+    ensures { λ r. ⌜ r ≡ begun look (now (lines .entry)) ⌝ }
+{
+    if !is_fit(lines, MOST_RECORDS) {
+        let none = [0u8; 51];
+        return start(look, none, false);
+    }
+    start(look, read(lines), true)
+}
+
 // A record lacks its condition, or there are too many: nothing after it counts.
 fn spoilt(v: Survey) -> Survey
     ensures { λ r. ⌜ r ≡ unsound v ⌝ }
 {
     let look = v.look;
     let spot = v.spot;
+    let lines = v.lines;
     Survey {
         look,
+        lines,
         sound: false,
         slots: v.slots,
         octets: v.octets,
@@ -121,8 +137,10 @@ fn note(v: Survey, c: Channel, j: usize) -> Survey
         rank,
     };
     let spot = choose(v.spot, here);
+    let lines = v.lines;
     Survey {
         look,
+        lines,
         sound: true,
         slots: v.slots + c.limits.slots,
         octets: v.octets + area(c.limits),

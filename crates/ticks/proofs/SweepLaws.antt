@@ -15,12 +15,12 @@ use Rattle.channel.specs.declared.answer.Refusal.the-variants as refusal
 use Rattle.channel.proofs.StandingLaws.{stands-is, ringed}
 use Rattle.table.specs.declared.looking.Sought.the-variants.{Nobody}
 use Rattle.table.specs.Looking.{seeking}
-use Rattle.table.specs.Lent.{lawful}
+use Rattle.table.specs.Lent.{passes}
 use Rattle.table.specs.declared.deciding.Told.{Told}
 use Rattle.table.specs.Serving.{blank, toldOf}
 use Rattle.table.specs.Surveying.{begun, surveyed, isSound}
 use Rattle.table.proofs.SurveyLaws.{each-stands}
-use Rattle.table.proofs.ServeLaws.{sound-lawful, lawful-is}
+use Rattle.table.proofs.ServeLaws.{sound-passes, passing-is}
 use Rattle.ticks.specs.declared.ticking.Round.{Round}
 use Rattle.ticks.specs.Ticking.{tickedBy, quiet, roundBy}
 use Rattle.ticks.proofs.TickLaws.{round-told, round-first, round-on}
@@ -64,30 +64,30 @@ swept-end (c ∷ t) i h = go (tickedBy c .inactive) refl (swept-end t (i + 1) (o
         ∙ ap (λ (n : ℕ). toldOf n (tickAnswer t)) (add-suc-one i (firstInactive t))
         ∙ sym (simp (e) refl)
 
-pub may-tick : (t : List Channel) (mem lens : List ℕ)
-    → isSound (surveyed t lens (begun (seeking (Nobody refusal.NoChannel)))) (length t) (length mem) (length lens) ≡ true → Every blank ticks t
-may-tick t mem lens e i l =
-    let h = lawful-is t mem lens (sym (sound-lawful (seeking (Nobody refusal.NoChannel)) t lens mem) ∙ e) in
+pub may-tick : (t : List Channel) (mem lens lines : List ℕ)
+    → isSound (surveyed t lens (begun (seeking (Nobody refusal.NoChannel)) lines)) (length t) (length mem) (length lens) ≡ true → Every blank ticks t
+may-tick t mem lens lines e i l =
+    let h = passing-is t mem lens lines (sym (sound-passes (seeking (Nobody refusal.NoChannel)) t lens lines mem) ∙ e) .lawful in
     ringed (getD t i blank) _ (stands-is (getD t i blank) _ (each-stands t lens (h .stand) i l))
 
 -- what is told of a table that does not pass the test
 abbrev refused : List Channel → Told
 refused t = toldOf (length t) (Refused refusal.Settings)
 
-pub tick-agreed : (t : List Channel) (mem lens : List ℕ)
-    → doneBy (refused t) (isSound (surveyed t lens (begun (seeking (Nobody refusal.NoChannel)))) (length t) (length mem) (length lens)) t
-    (changes (tickEnd (sweptRound t (quiet 0))) (sweptTable t (quiet 0)))
-    ≡ telling (toldOf (tickIndex t mem lens)) (ticked t mem lens)
+pub tick-agreed : (t : List Channel) (mem lens lines : List ℕ)
+    → doneBy (refused t) (isSound (surveyed t lens (begun (seeking (Nobody refusal.NoChannel)) lines)) (length t) (length mem) (length lens)) t lines
+    (changes (tickEnd (sweptRound t (quiet 0))) (sweptTable t (quiet 0)) lines)
+    ≡ telling (toldOf (tickIndex t mem lens lines)) (ticked t mem lens lines)
 unfolding doneBy ticked tickIndex
-tick-agreed t mem lens =
-    ap (λ (b : Bool). doneBy (refused t) b t (changes (tickEnd (sweptRound t (quiet 0))) (sweptTable t (quiet 0)))) (sound-lawful (seeking (Nobody refusal.NoChannel)) t lens mem)
-    ∙ go (lawful t mem lens) refl
+tick-agreed t mem lens lines =
+    ap (λ (b : Bool). doneBy (refused t) b t lines (changes (tickEnd (sweptRound t (quiet 0))) (sweptTable t (quiet 0)) lines)) (sound-passes (seeking (Nobody refusal.NoChannel)) t lens lines mem)
+    ∙ go (passes t mem lens lines) refl
   where
-    go : (b : Bool) → lawful t mem lens ≡ b
-        → doneBy (refused t) (lawful t mem lens) t (changes (tickEnd (sweptRound t (quiet 0))) (sweptTable t (quiet 0)))
-        ≡ telling (toldOf (tickIndex t mem lens)) (ticked t mem lens)
+    go : (b : Bool) → passes t mem lens lines ≡ b
+        → doneBy (refused t) (passes t mem lens lines) t lines (changes (tickEnd (sweptRound t (quiet 0))) (sweptTable t (quiet 0)) lines)
+        ≡ telling (toldOf (tickIndex t mem lens lines)) (ticked t mem lens lines)
     go true e =
-        let few = lawful-is t mem lens e .few in
+        let few = passing-is t mem lens lines e .lawful .few in
         let end = swept-end t 0 (omega (arith, few)) ∙ ap (λ (n : ℕ). toldOf n (tickAnswer t)) (zero-add (firstInactive t)) in
-        simp (e) (ap₂ (λ (x : Told) (l : List Channel). changes x l) end (swept-table t (quiet 0)))
+        simp (e) (ap₂ (λ (x : Told) (l : List Channel). changes x l lines) end (swept-table t (quiet 0)))
     go false e = simp (e)

@@ -12,7 +12,7 @@ use Rattle.channel.specs.declared.answer.Answer.the-variants.{Done, Inactive, R
 use Rattle.channel.specs.declared.answer.Refusal.the-variants as refusal
 use Rattle.channel.specs.Asked.{Ringed}
 use Rattle.table.specs.declared.deciding.Told.{Told}
-use Rattle.table.specs.Lent.{lawful}
+use Rattle.table.specs.Lent.{passes}
 use Rattle.table.specs.Serving.{recordAt, toldOf}
 use Rattle.ticks.specs.declared.ticking.Round.{Round}
 use Rattle.ticks.specs.Ticking.{tickedBy, turnedBy}
@@ -34,14 +34,14 @@ firstInactive (c ∷ t) = if tickedBy c .inactive then 0 else suc (firstInactive
 abbrev pub tickAnswer : List Channel → Answer
 tickAnswer t = if anyInactive t then Inactive (recordAt (map tickOf t) (firstInactive t) .phase .reason) else Done 0 0
 
-unfoldable pub ticked : List Channel → List ℕ → List ℕ → Changed Answer Channel
-ticked t mem lens =
-    if lawful t mem lens then changes (tickAnswer t) (map tickOf t)
-    else changes (Refused refusal.Settings) t
+unfoldable pub ticked : List Channel → List ℕ → List ℕ → List ℕ → Changed Answer Channel
+ticked t mem lens lines =
+    if passes t mem lens lines then changes (tickAnswer t) (map tickOf t) lines
+    else changes (Refused refusal.Settings) t lines
 
 -- the index that is told with the answer
-unfoldable pub tickIndex : List Channel → List ℕ → List ℕ → ℕ
-tickIndex t mem lens = if lawful t mem lens then firstInactive t else length t
+unfoldable pub tickIndex : List Channel → List ℕ → List ℕ → List ℕ → ℕ
+tickIndex t mem lens lines = if passes t mem lens lines then firstInactive t else length t
 
 -- ---- as the sweep goes: what a channel must have, what is carried along, and what it tells at the end
 

@@ -104,13 +104,13 @@ fn tick_next(c: Channel, r: Round) -> Turned
 }
 
 // A tick is for no channel.
-fn tick_begin() -> Survey
-    ensures { λ r. ⌜ r ≡ begun (seeking (sought.Nobody refusal.NoChannel)) ⌝ }
+fn tick_begin(lines: &[u8]) -> Survey
+    ensures { λ r. ⌜ r ≡ begun (seeking (sought.Nobody refusal.NoChannel)) (now (lines .entry)) ⌝ }
 {
-    begin(seek(Sought::Nobody(Refusal::NoChannel)))
+    begin(seek(Sought::Nobody(Refusal::NoChannel)), lines)
 }
 
-fn tick_start() -> Round
+fn tick_start(lines: &[u8]) -> Round
     ensures { λ r. ⌜ r ≡ quiet 0 ⌝ }
 {
     Round {
@@ -121,8 +121,8 @@ fn tick_start() -> Round
 }
 
 // 9 if some channel went inactive, with the reason and the index of the first.
-fn tick_end(r: Round) -> Told
-    ensures { λ s. ⌜ s ≡ tickEnd r ⌝ }
+fn tick_end(r: Round, lines: &mut [u8]) -> Told
+    ensures { λ s. ⌜ (s ≡ tickEnd r) × (now (lines .exit) ≡ now (lines .entry)) ⌝ }
 {
     if r.any {
         return Told {
@@ -155,16 +155,16 @@ fn tick_all(t: &mut [Channel], start: Round) -> Round
 }
 
 // All are ticked, also where one goes inactive.
-pub fn tick(t: &mut [Channel], mem: &[u8], lens: &[u16]) -> Told
-    ensures { λ r. ⌜ changes r (now (t .exit)) ≡ telling (toldOf (tickIndex (now (t .entry)) (now (mem .entry)) (now (lens .entry)))) (ticked (now (t .entry)) (now (mem .entry)) (now (lens .entry))) ⌝ }
+pub fn tick(t: &mut [Channel], mem: &[u8], lens: &[u16], lines: &mut [u8]) -> Told
+    ensures { λ r. ⌜ changes r (now (t .exit)) (now (lines .exit)) ≡ telling (toldOf (tickIndex (now (t .entry)) (now (mem .entry)) (now (lens .entry)) (now (lines .entry)))) (ticked (now (t .entry)) (now (mem .entry)) (now (lens .entry)) (now (lines .entry))) ⌝ }
 {
-    let a = tick_begin();
+    let a = tick_begin(lines);
     let v = survey(t, lens, a);
     let d = judge(v, t.len(), mem.len(), lens.len());
     if d.ok {
-        let k = tick_start();
+        let k = tick_start(lines);
         let z = tick_all(t, k);
-        let r = tick_end(z);
+        let r = tick_end(z, lines);
         r
     } else {
         d.told

@@ -37,13 +37,14 @@ pub fn ask(
     body: &[u8],
     mem: &mut [u8],
     lens: &mut [u16],
+    lines: &mut [u8],
     out: &mut [u8],
 ) -> Kept {
     let node = Node {
         address: OWN,
         protocol: PROTOCOL,
     };
-    step(table, mem, lens, node, kind, body, out)
+    step(table, mem, lens, lines, node, kind, body, out)
 }
 
 // What is written is not looked at.
@@ -53,9 +54,10 @@ pub fn does(
     body: &[u8],
     mem: &mut [u8],
     lens: &mut [u16],
+    lines: &mut [u8],
 ) -> [Channel; 2] {
     let mut out = [0u8; 64];
-    let kept = ask(table, kind, body, mem, lens, &mut out);
+    let kept = ask(table, kind, body, mem, lens, lines, &mut out);
     kept.table
 }
 

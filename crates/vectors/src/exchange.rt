@@ -34,36 +34,37 @@ struct Link {
 fn exchange(lost: u8, unheard: u8) {
     let mut mem = [0u8; 256];
     let mut lens = [0u16; 16];
+    let mut lines = [0u8; 51];
     let table = facing(4, 8);
     let link = Link {
         table,
         lost,
         unheard,
     };
-    play(link, &mut mem, &mut lens);
+    play(link, &mut mem, &mut lens, &mut lines);
 }
 
 // The channel is opened, and three units are given and go over; in as many ticks as the timeout, what is not acknowledged is ready again,
 // and goes over; the units are taken, and the channel is closed.
-fn play(link: Link, mem: &mut [u8], lens: &mut [u16]) {
+fn play(link: Link, mem: &mut [u8], lens: &mut [u16], lines: &mut [u8]) {
     let mut l = link;
     let mut turn: u8 = 0;
     while turn < 18 {
-        let after = act(l, turn, mem, lens);
+        let after = act(l, turn, mem, lens, lines);
         l = after;
         turn += 1;
     }
 }
 
-fn act(link: Link, turn: u8, mem: &mut [u8], lens: &mut [u16]) -> Link {
+fn act(link: Link, turn: u8, mem: &mut [u8], lens: &mut [u16], lines: &mut [u8]) -> Link {
     let table = link.table;
     match turn {
-        0 => with_table(link, opened(table, mem, lens)),
-        2..=4 => with_table(link, given(table, turn, mem, lens)),
-        8..=11 => with_table(link, does(table, TICK, b"", mem, lens)),
-        13..=15 => with_table(link, take_one(table, mem, lens)),
-        16 => with_table(link, does(table, CLOSE, b"\0", mem, lens)),
-        _ => round(link, mem, lens),
+        0 => with_table(link, opened(table, mem, lens, lines)),
+        2..=4 => with_table(link, given(table, turn, mem, lens, lines)),
+        8..=11 => with_table(link, does(table, TICK, b"", mem, lens, lines)),
+        13..=15 => with_table(link, take_one(table, mem, lens, lines)),
+        16 => with_table(link, does(table, CLOSE, b"\0", mem, lens, lines)),
+        _ => round(link, mem, lens, lines),
     }
 }
 
@@ -75,20 +76,31 @@ fn with_table(link: Link, table: [Channel; 2]) -> Link {
     }
 }
 
-fn opened(table: [Channel; 2], mem: &mut [u8], lens: &mut [u16]) -> [Channel; 2] {
-    let receiver = does(table, OPEN, b"\x01", mem, lens);
-    does(receiver, OPEN, b"\0", mem, lens)
+fn opened(table: [Channel; 2], mem: &mut [u8], lens: &mut [u16], lines: &mut [u8]) -> [Channel; 2] {
+    let receiver = does(table, OPEN, b"\x01", mem, lens, lines);
+    does(receiver, OPEN, b"\0", mem, lens, lines)
 }
 
 // The unit "fan 1" at turn 2, "fan 2" at the next, and so on.
-fn given(table: [Channel; 2], turn: u8, mem: &mut [u8], lens: &mut [u16]) -> [Channel; 2] {
+fn given(
+    table: [Channel; 2],
+    turn: u8,
+    mem: &mut [u8],
+    lens: &mut [u16],
+    lines: &mut [u8],
+) -> [Channel; 2] {
     let body = [0, b'f', b'a', b'n', b' ', b'0' + turn % 10 - 1];
-    does(table, TRANSFER, &body, mem, lens)
+    does(table, TRANSFER, &body, mem, lens, lines)
 }
 
-fn take_one(table: [Channel; 2], mem: &mut [u8], lens: &mut [u16]) -> [Channel; 2] {
+fn take_one(
+    table: [Channel; 2],
+    mem: &mut [u8],
+    lens: &mut [u16],
+    lines: &mut [u8],
+) -> [Channel; 2] {
     let mut out = [0u8; 64];
-    let kept = ask(table, TAKE, b"\x01", mem, lens, &mut out);
+    let kept = ask(table, TAKE, b"\x01", mem, lens, lines, &mut out);
     let told = kept.told;
     let answer = told.answer;
     say(b"  taken: ");
@@ -104,19 +116,33 @@ fn say_first(octets: &[u8], n: usize) {
 }
 
 // A packet of the sender, with its reply.
-fn round(link: Link, mem: &mut [u8], lens: &mut [u16]) -> Link {
+fn round(link: Link, mem: &mut [u8], lens: &mut [u16], lines: &mut [u8]) -> Link {
     let mut out = [0u8; 64];
     let table = link.table;
-    let kept = ask(table, NEXT, b"", mem, lens, &mut out);
+    let kept = ask(table, NEXT, b"", mem, lens, lines, &mut out);
     let told = kept.told;
     let answer = told.answer;
     let sent = kept.table;
     let after = with_table(link, sent);
-    over(after, &out, channel::answer::length(answer), mem, lens)
+    over(
+        after,
+        &out,
+        channel::answer::length(answer),
+        mem,
+        lens,
+        lines,
+    )
 }
 
 // The packet, of n octets where there is one, goes over, unless the link loses it.
-fn over(link: Link, out: &[u8], n: usize, mem: &mut [u8], lens: &mut [u16]) -> Link {
+fn over(
+    link: Link,
+    out: &[u8],
+    n: usize,
+    mem: &mut [u8],
+    lens: &mut [u16],
+    lines: &mut [u8],
+) -> Link {
     if n == 0 {
         return link;
     }
@@ -133,23 +159,23 @@ fn over(link: Link, out: &[u8], n: usize, mem: &mut [u8], lens: &mut [u16]) -> L
     if out.len() < n {
         return link;
     }
-    arrives(link, &out[..n], mem, lens)
+    arrives(link, &out[..n], mem, lens, lines)
 }
 
-fn arrives(link: Link, octets: &[u8], mem: &mut [u8], lens: &mut [u16]) -> Link {
+fn arrives(link: Link, octets: &[u8], mem: &mut [u8], lens: &mut [u16], lines: &mut [u8]) -> Link {
     let mut reply = [0u8; 12];
     let table = link.table;
-    let kept = ask(table, ARRIVAL, octets, mem, lens, &mut reply);
+    let kept = ask(table, ARRIVAL, octets, mem, lens, lines, &mut reply);
     let told = kept.told;
     let answer = told.answer;
     let arrived = kept.table;
     say(b" answered ");
     say_answer(answer);
-    back(with_table(link, arrived), &reply, mem, lens)
+    back(with_table(link, arrived), &reply, mem, lens, lines)
 }
 
 // The reply comes back, unless the link loses it.
-fn back(link: Link, reply: &[u8], mem: &mut [u8], lens: &mut [u16]) -> Link {
+fn back(link: Link, reply: &[u8], mem: &mut [u8], lens: &mut [u16], lines: &mut [u8]) -> Link {
     say_packet(b", <- ", reply);
     let table = link.table;
     if is_number(reply, link.unheard) {
@@ -160,12 +186,18 @@ fn back(link: Link, reply: &[u8], mem: &mut [u8], lens: &mut [u16]) -> Link {
             unheard: 0,
         };
     }
-    with_table(link, heard(table, reply, mem, lens))
+    with_table(link, heard(table, reply, mem, lens, lines))
 }
 
-fn heard(table: [Channel; 2], reply: &[u8], mem: &mut [u8], lens: &mut [u16]) -> [Channel; 2] {
+fn heard(
+    table: [Channel; 2],
+    reply: &[u8],
+    mem: &mut [u8],
+    lens: &mut [u16],
+    lines: &mut [u8],
+) -> [Channel; 2] {
     let mut out = [0u8; 12];
-    let kept = ask(table, ARRIVAL, reply, mem, lens, &mut out);
+    let kept = ask(table, ARRIVAL, reply, mem, lens, lines, &mut out);
     let told = kept.told;
     let answer = told.answer;
     say(b" answered ");

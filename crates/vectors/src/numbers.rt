@@ -42,12 +42,21 @@ pub fn say_numbers() {
 fn say_transfer(body: &[u8]) {
     let mut mem = [0u8; 256];
     let mut lens = [0u16; 16];
+    let mut lines = [0u8; 51];
     let mut out = [0u8; 64];
     let closed = facing(4, 8);
-    let enabled = does(closed, OPEN, b"\0", &mut mem, &mut lens);
-    let sent = does(enabled, NEXT, b"", &mut mem, &mut lens);
-    let opened = arrives(sent, CONTROL_ACK, 0, &mut mem, &mut lens);
-    let kept = ask(opened, TRANSFER, body, &mut mem, &mut lens, &mut out);
+    let enabled = does(closed, OPEN, b"\0", &mut mem, &mut lens, &mut lines);
+    let sent = does(enabled, NEXT, b"", &mut mem, &mut lens, &mut lines);
+    let opened = arrives(sent, CONTROL_ACK, 0, &mut mem, &mut lens, &mut lines);
+    let kept = ask(
+        opened,
+        TRANSFER,
+        body,
+        &mut mem,
+        &mut lens,
+        &mut lines,
+        &mut out,
+    );
     let told = kept.told;
     let answer = told.answer;
     say_answer(answer);
@@ -57,25 +66,40 @@ fn say_transfer(body: &[u8]) {
 fn say_repeated(window: usize, start: u8) {
     let mut mem = [0u8; 4096];
     let mut lens = [0u16; 256];
+    let mut lines = [0u8; 51];
     let mut out = [0u8; 64];
-    let moved = moved_to(window, start, &mut mem, &mut lens);
+    let moved = moved_to(window, start, &mut mem, &mut lens, &mut lines);
     let again = empty_packet(DATA, 1);
-    let kept = ask(moved, ARRIVAL, &again, &mut mem, &mut lens, &mut out);
+    let kept = ask(
+        moved,
+        ARRIVAL,
+        &again,
+        &mut mem,
+        &mut lens,
+        &mut lines,
+        &mut out,
+    );
     let told = kept.told;
     let answer = told.answer;
     say_answer(answer);
 }
 
 // A receiver that was sent units of one empty segment, and has given each away.
-fn moved_to(window: usize, start: u8, mem: &mut [u8], lens: &mut [u16]) -> [Channel; 2] {
+fn moved_to(
+    window: usize,
+    start: u8,
+    mem: &mut [u8],
+    lens: &mut [u16],
+    lines: &mut [u8],
+) -> [Channel; 2] {
     let closed = facing(window, 128);
-    let enabled = does(closed, OPEN, b"\x01", mem, lens);
-    let opened = arrives(enabled, OPENS, 0, mem, lens);
+    let enabled = does(closed, OPEN, b"\x01", mem, lens, lines);
+    let opened = arrives(enabled, OPENS, 0, mem, lens, lines);
     let mut table = opened;
     let mut number: u8 = 1;
     while number < start {
-        let arrived = arrives(table, DATA, number, mem, lens);
-        let taken = does(arrived, TAKE, b"\x01", mem, lens);
+        let arrived = arrives(table, DATA, number, mem, lens, lines);
+        let taken = does(arrived, TAKE, b"\x01", mem, lens, lines);
         table = taken;
         number += 1;
     }
@@ -88,9 +112,10 @@ fn arrives(
     number: u8,
     mem: &mut [u8],
     lens: &mut [u16],
+    lines: &mut [u8],
 ) -> [Channel; 2] {
     let octets = empty_packet(kind, number);
-    does(table, ARRIVAL, &octets, mem, lens)
+    does(table, ARRIVAL, &octets, mem, lens, lines)
 }
 
 // A packet without payload, from the other end.

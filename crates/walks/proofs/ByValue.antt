@@ -1,5 +1,5 @@
 -- A function that takes plain data alone, each by value, and gives plain data back: what it says, its contract, and its call as one step of a
--- walk. Of the functions that the walks call, such are begin, decide, judge, start, conclude, and a step that takes no slice.
+-- walk. Of the functions that the walks call, such are decide, judge, and a step that takes no slice.
 --     Values Ks     the arguments, whose kinds are Ks: a tuple that ends in `tt`
 --     ByValue       what such a function takes and gives, whether it has a `requires` and what that asks, and what it ensures
 --     always        the same of one without a `requires`

@@ -6,5 +6,6 @@ pub mod Lend
 pub mod Guard
 pub mod ByValue
 pub mod Surveyed
+pub mod Lines
 pub mod Call
 pub mod Serving

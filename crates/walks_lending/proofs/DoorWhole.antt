@@ -1,9 +1,9 @@
 -- ONE WALK FOR EVERY FUNCTION THAT CALLS A DOOR (`Door.antt`) WITH OCTETS TO READ AND A BUFFER TO FILL. A function of this form, whatever the door
 -- `perform`, the covered functions `ask` and `turn`, and the plain types:
---     pub fn asking(t: &mut [Channel], mem: &mut [u8], lens: &mut [u16], i: P, x: &[u8], out: &mut [u8]) -> Said
+--     pub fn asking(t: &mut [Channel], mem: &mut [u8], lens: &mut [u16], lines: &mut [u8], i: P, x: &[u8], out: &mut [u8]) -> Said
 --     {
 --         let n = ask(i);
---         let a = perform(t, mem, lens, n, x, out);
+--         let a = perform(t, mem, lens, lines, n, x, out);
 --         let r = turn(a);
 --         r
 --     }
@@ -29,67 +29,71 @@ module _ (D : Door) (KP : Kind) where
   abbrev C : RattleType
   C = of (D .channel)
 
-  -- what this function ensures: by its parameters, the result, and the table, mem, lens, out then
+  -- what this function ensures: by its parameters, the result, and the table, mem, lens, lines, out then
   abbrev pub Wanted : Type 1
-  Wanted = List (C .Denot) → List ℕ → List ℕ → of KP .Denot → List ℕ → List ℕ → of (D .result) .Denot → List (C .Denot) → List ℕ → List ℕ → List ℕ → Type 0
+  Wanted = List (C .Denot) → List ℕ → List ℕ → List ℕ → of KP .Denot → List ℕ → List ℕ → of (D .result) .Denot → List (C .Denot) → List ℕ → List ℕ → List ℕ → List ℕ → Type 0
 
   -- ---- the MIR
   module _ (fa fp ft : Name) where
     abbrev pub function : Fn
     function = record {
-      lifetimes = 5;
+      lifetimes = 6;
       outlives = [];
-      params = 6;
-      locals = local (D .result .ty) valueLocal ∷ local (sliceTy (tyRef (named 0) mut (pointee (C .written)))) valueLocal ∷ local (sliceTy (tyRef (named 1) mut (tyInt w8))) valueLocal ∷ local (sliceTy (tyRef (named 2) mut (tyInt w16))) valueLocal ∷ local (KP .ty) valueLocal ∷ local (sliceTy (tyRef (named 3) imm (tyInt w8))) valueLocal ∷ local (sliceTy (tyRef (named 4) mut (tyInt w8))) valueLocal ∷ local (D .request .ty) valueLocal ∷ local (D .answer .ty) valueLocal ∷ local (D .result .ty) valueLocal ∷ local (tyRef erased mut (pointee (C .written))) valueLocal ∷ local (sliceTy (tyRef erased mut (pointee (C .written)))) valueLocal ∷ local (tyRef erased mut (tyInt w8)) valueLocal ∷ local (sliceTy (tyRef erased mut (tyInt w8))) valueLocal ∷ local (tyRef erased mut (tyInt w16)) valueLocal ∷ local (sliceTy (tyRef erased mut (tyInt w16))) valueLocal ∷ local (tyRef erased mut (tyInt w8)) valueLocal ∷ local (sliceTy (tyRef erased mut (tyInt w8))) valueLocal ∷ [];
-      body = seq (call fa ((copy (place 4 [])) ∷ []) (place 7 []))
-          (seq (assign (place 10 []) (addrOf (place 1 (field 0 ∷ deref (D .channel .ty) ∷ []))))
-          (seq (assign (place 11 []) (aggregate ((copy (place 10 [])) ∷ (copy (place 1 (field 1 ∷ []))) ∷ [])))
-          (seq (assign (place 12 []) (addrOf (place 2 (field 0 ∷ deref (tyInt w8) ∷ []))))
-          (seq (assign (place 13 []) (aggregate ((copy (place 12 [])) ∷ (copy (place 2 (field 1 ∷ []))) ∷ [])))
-          (seq (assign (place 14 []) (addrOf (place 3 (field 0 ∷ deref (tyInt w16) ∷ []))))
-          (seq (assign (place 15 []) (aggregate ((copy (place 14 [])) ∷ (copy (place 3 (field 1 ∷ []))) ∷ [])))
-          (seq (assign (place 16 []) (addrOf (place 6 (field 0 ∷ deref (tyInt w8) ∷ []))))
-          (seq (assign (place 17 []) (aggregate ((copy (place 16 [])) ∷ (copy (place 6 (field 1 ∷ []))) ∷ [])))
-          (seq (call fp ((copy (place 11 [])) ∷ (copy (place 13 [])) ∷ (copy (place 15 [])) ∷ (copy (place 7 [])) ∷ (copy (place 5 [])) ∷ (copy (place 17 [])) ∷ []) (place 8 []))
-          (seq (call ft ((copy (place 8 [])) ∷ []) (place 9 []))
-          (seq (assign (place 0 []) (rvOpd (copy (place 9 []))))
-          return)))))))))));
+      params = 7;
+      locals = local (D .result .ty) valueLocal ∷ local (sliceTy (tyRef (named 0) mut (pointee (C .written)))) valueLocal ∷ local (sliceTy (tyRef (named 1) mut (tyInt w8))) valueLocal ∷ local (sliceTy (tyRef (named 2) mut (tyInt w16))) valueLocal ∷ local (sliceTy (tyRef (named 3) mut (tyInt w8))) valueLocal ∷ local (KP .ty) valueLocal ∷ local (sliceTy (tyRef (named 4) imm (tyInt w8))) valueLocal ∷ local (sliceTy (tyRef (named 5) mut (tyInt w8))) valueLocal ∷ local (D .request .ty) valueLocal ∷ local (D .answer .ty) valueLocal ∷ local (D .result .ty) valueLocal ∷ local (tyRef erased mut (pointee (C .written))) valueLocal ∷ local (sliceTy (tyRef erased mut (pointee (C .written)))) valueLocal ∷ local (tyRef erased mut (tyInt w8)) valueLocal ∷ local (sliceTy (tyRef erased mut (tyInt w8))) valueLocal ∷ local (tyRef erased mut (tyInt w16)) valueLocal ∷ local (sliceTy (tyRef erased mut (tyInt w16))) valueLocal ∷ local (tyRef erased mut (tyInt w8)) valueLocal ∷ local (sliceTy (tyRef erased mut (tyInt w8))) valueLocal ∷ local (tyRef erased mut (tyInt w8)) valueLocal ∷ local (sliceTy (tyRef erased mut (tyInt w8))) valueLocal ∷ [];
+      body = seq (call fa ((copy (place 5 [])) ∷ []) (place 8 []))
+          (seq (assign (place 11 []) (addrOf (place 1 (field 0 ∷ deref (D .channel .ty) ∷ []))))
+          (seq (assign (place 12 []) (aggregate ((copy (place 11 [])) ∷ (copy (place 1 (field 1 ∷ []))) ∷ [])))
+          (seq (assign (place 13 []) (addrOf (place 2 (field 0 ∷ deref (tyInt w8) ∷ []))))
+          (seq (assign (place 14 []) (aggregate ((copy (place 13 [])) ∷ (copy (place 2 (field 1 ∷ []))) ∷ [])))
+          (seq (assign (place 15 []) (addrOf (place 3 (field 0 ∷ deref (tyInt w16) ∷ []))))
+          (seq (assign (place 16 []) (aggregate ((copy (place 15 [])) ∷ (copy (place 3 (field 1 ∷ []))) ∷ [])))
+          (seq (assign (place 17 []) (addrOf (place 4 (field 0 ∷ deref (tyInt w8) ∷ []))))
+          (seq (assign (place 18 []) (aggregate ((copy (place 17 [])) ∷ (copy (place 4 (field 1 ∷ []))) ∷ [])))
+          (seq (assign (place 19 []) (addrOf (place 7 (field 0 ∷ deref (tyInt w8) ∷ []))))
+          (seq (assign (place 20 []) (aggregate ((copy (place 19 [])) ∷ (copy (place 7 (field 1 ∷ []))) ∷ [])))
+          (seq (call fp ((copy (place 12 [])) ∷ (copy (place 14 [])) ∷ (copy (place 16 [])) ∷ (copy (place 18 [])) ∷ (copy (place 8 [])) ∷ (copy (place 6 [])) ∷ (copy (place 20 [])) ∷ []) (place 9 []))
+          (seq (call ft ((copy (place 9 [])) ∷ []) (place 10 []))
+          (seq (assign (place 0 []) (rvOpd (copy (place 10 []))))
+          return)))))))))))));
     }
 
   -- ---- what is called, and what is ensured
-  abbrev ps : List (Part 5)
-  ps = by-value KP ∷ shr-slice 3 tt u8 ∷ mut-slice 4 tt u8 ∷ []
+  abbrev ps : List (Part 6)
+  ps = by-value KP ∷ shr-slice 4 tt u8 ∷ mut-slice 5 tt u8 ∷ []
 
   module _ (X : Wanted) where
     abbrev over : Relates (first D ps) (of (D .result))
-    over κs a r e = X (now (a .0)) (now (a .1 .0)) (now (a .1 .1 .0)) (a .1 .1 .1 .0) (now (a .1 .1 .1 .1 .0)) (now (a .1 .1 .1 .1 .1 .0)) r (now (e .0)) (now (e .1 .0)) (now (e .1 .1 .0)) (now (e .1 .1 .1 .1 .1 .0))
+    over κs a r e = X (now (a .0)) (now (a .1 .0)) (now (a .1 .1 .0)) (now (a .1 .1 .1 .0)) (a .1 .1 .1 .1 .0) (now (a .1 .1 .1 .1 .1 .0)) (now (a .1 .1 .1 .1 .1 .1 .0)) r (now (e .0)) (now (e .1 .0)) (now (e .1 .1 .0)) (now (e .1 .1 .1 .0)) (now (e .1 .1 .1 .1 .1 .1 .0))
 
     -- ---- the walk
     module _ (asked : of KP .Denot → of (D .request) .Denot)
-        (so : (ys : List (C .Denot)) (m ln : List ℕ) (i : of KP .Denot) (pk ot : List ℕ) (r : of (D .answer) .Denot) (zs : List (C .Denot)) (ms ls os : List ℕ) → D .says ys m ln (asked i) pk ot r zs ms ls os → X ys m ln i pk ot (D .turned r) zs ms ls os)
+        (so : (ys : List (C .Denot)) (m ln li : List ℕ) (i : of KP .Denot) (pk ot : List ℕ) (r : of (D .answer) .Denot) (zs : List (C .Denot)) (ms ls is os : List ℕ) → D .says ys m ln li (asked i) pk ot r zs ms ls is os → X ys m ln li i pk ot (D .turned r) zs ms ls is os)
         (fa fp ft : Name) {M : Type 1} (𝓤 : URA M) (H : Heap 𝓤) (A : Atoms 𝓤) (W : Given 𝓤 H A) (𝓣 : Tables 𝓤 H) (k-ask : Triple 𝓤 (𝓣 .C fa) (Ask D 𝓤 H A (KP ∷ []) (λ v. asked (v .0)))) (k-perform : Triple 𝓤 (𝓣 .C fp) (Perform D 𝓤 H A)) (k-turn : Triple 𝓤 (𝓣 .C ft) (Turn (through D ps over) 𝓤 H A)) where
       pub door-whole-meets : Meets 𝓤 H A (lent (first D ps) (of (D .result)) .signature) (WpFn 𝓤 H (𝓣 .C) (𝓣 .Λ) (function fa fp ft)) (closing 𝓤 H A (lent (first D ps) (of (D .result))) (ensuring (first D ps) 𝓤 (of (D .result)) over))
       door-whole-meets = lent-meets (through D ps over) 𝓤 H A W 𝓣 (function fa fp ft) (λ κs qs a are.
           qed W (Passed (through D ps over) 𝓤 H A κs qs a ∷ []) ∵ enter ! (𝓣 .C) (𝓣 .Λ) (function fa fp ft) (values (first D ps) κs a) _ $
-          alloc1 ! (λ l₀. alloc1 ! (λ l₁. alloc1 ! (λ l₂. alloc1 ! (λ l₃. alloc1 ! (λ l₄. alloc1 ! (λ l₅. alloc1 ! (λ l₆. alloc1 ! (λ l₇. alloc1 ! (λ l₈. alloc1 ! (λ l₉. alloc1 ! (λ l₁₀. alloc1 ! (λ l₁₁. alloc1 ! (λ l₁₂. alloc1 ! (λ l₁₃. alloc1 ! (λ l₁₄. alloc1 ! (λ l₁₅. alloc1 ! (λ l₁₆. alloc1 ! (λ l₁₇. alloc0 ! $ params1 ! $
-          pass1 ! (init ! 32 refl (tt, (tt, (record { fits = are .0 .0 .1 .0 }, tt)))) $ pass1 ! (init ! 30 refl (tt, (tt, (record { fits = are .1 .0 .0 .1 .0 }, tt)))) $ pass1 ! (init ! 28 refl (tt, (tt, (record { fits = are .1 .1 .0 .0 .1 .0 }, tt)))) $ pass1 ! (init ! 26 refl (KP .elem .typed 𝓤 H A W (a .1 .1 .1 .0) (are .1 .1 .1 .0) .0)) $ pass1 ! (init ! 24 refl (tt, (tt, (record { fits = are .1 .1 .1 .1 .0 .0 .1 .0 }, tt)))) $ pass1 ! (init ! 22 refl (tt, (tt, (record { fits = are .1 .1 .1 .1 .1 .0 .0 .1 .0 }, tt)))) $ pass0 ! $
+          alloc1 ! (λ l₀. alloc1 ! (λ l₁. alloc1 ! (λ l₂. alloc1 ! (λ l₃. alloc1 ! (λ l₄. alloc1 ! (λ l₅. alloc1 ! (λ l₆. alloc1 ! (λ l₇. alloc1 ! (λ l₈. alloc1 ! (λ l₉. alloc1 ! (λ l₁₀. alloc1 ! (λ l₁₁. alloc1 ! (λ l₁₂. alloc1 ! (λ l₁₃. alloc1 ! (λ l₁₄. alloc1 ! (λ l₁₅. alloc1 ! (λ l₁₆. alloc1 ! (λ l₁₇. alloc1 ! (λ l₁₈. alloc1 ! (λ l₁₉. alloc1 ! (λ l₂₀. alloc0 ! $ params1 ! $
+          pass1 ! (init ! 38 refl (tt, (tt, (record { fits = are .0 .0 .1 .0 }, tt)))) $ pass1 ! (init ! 36 refl (tt, (tt, (record { fits = are .1 .0 .0 .1 .0 }, tt)))) $ pass1 ! (init ! 34 refl (tt, (tt, (record { fits = are .1 .1 .0 .0 .1 .0 }, tt)))) $ pass1 ! (init ! 32 refl (tt, (tt, (record { fits = are .1 .1 .1 .0 .0 .1 .0 }, tt)))) $ pass1 ! (init ! 30 refl (KP .elem .typed 𝓤 H A W (a .1 .1 .1 .1 .0) (are .1 .1 .1 .1 .0) .0)) $ pass1 ! (init ! 28 refl (tt, (tt, (record { fits = are .1 .1 .1 .1 .1 .0 .0 .1 .0 }, tt)))) $ pass1 ! (init ! 26 refl (tt, (tt, (record { fits = are .1 .1 .1 .1 .1 .1 .0 .0 .1 .0 }, tt)))) $ pass0 ! $
           -- [what is passed; then the locals, the last first]
-          move ! (36 ∷ []) $
-          asks D ! 𝓣 (KP ∷ []) (λ v. asked (v .0)) k-ask (a .1 .1 .1 .0, tt) (are .1 .1 .1 .0, tt) (λ y. (and-then ! (loc ! 28 refl) (no-more !))) (λ iq. land ! (from ! (stop !)) (init ! 21 refl (D .request .elem .typed 𝓤 H A W _ iq .0)) $
-          sets ! 15 refl (addr ! (from ! (fld ! refl (hop ! (look-in ! 33 (sub ! 0 refl (whole !))) (stop !))))) (tt, tt) $
-          sets ! 13 refl (agg ! (and-then ! (loc ! 15 refl) (and-then ! (fld-at ! 33 1 refl refl refl) (no-more !)))) (tt, (tt, (record { fits = are .0 .0 .1 .0 }, tt))) $
-          sets ! 11 refl (addr ! (from ! (fld ! refl (hop ! (look-in ! 31 (sub ! 0 refl (whole !))) (stop !))))) (tt, tt) $
-          sets ! 9 refl (agg ! (and-then ! (loc ! 11 refl) (and-then ! (fld-at ! 31 1 refl refl refl) (no-more !)))) (tt, (tt, (record { fits = are .1 .0 .0 .1 .0 }, tt))) $
-          sets ! 7 refl (addr ! (from ! (fld ! refl (hop ! (look-in ! 29 (sub ! 0 refl (whole !))) (stop !))))) (tt, tt) $
-          sets ! 5 refl (agg ! (and-then ! (loc ! 7 refl) (and-then ! (fld-at ! 29 1 refl refl refl) (no-more !)))) (tt, (tt, (record { fits = are .1 .1 .0 .0 .1 .0 }, tt))) $
-          sets ! 3 refl (addr ! (from ! (fld ! refl (hop ! (look-in ! 23 (sub ! 0 refl (whole !))) (stop !))))) (tt, tt) $
-          sets ! 1 refl (agg ! (and-then ! (loc ! 3 refl) (and-then ! (fld-at ! 23 1 refl refl refl) (no-more !)))) (tt, (tt, (record { fits = are .1 .1 .1 .1 .1 .0 .0 .1 .0 }, tt))) $
-          apart D ps over κs qs a ! $ use1 W (‵ (flft (κs .1 .1 .1 .0) (qs .1 .1 .1 .0)) ⊛ ‵ (flft (κs .1 .1 .1 .1 .0) (qs .1 .1 .1 .1 .0)) ⊛ ‵ ftrue) (id⊢ 𝓤 _) $ split ! $ move ! (1 ∷ []) $ split ! $ move ! (3 ∷ []) $ fsplit ! $ drop ! $ fsplit ! $ move ! (1 ∷ []) $ fsplit ! $ move ! (1 ∷ 4 ∷ []) $ drop ! $ drop ! $ move ! (1 ∷ 3 ∷ 0 ∷ 2 ∷ []) $
-          performs D ps over κs qs a ! 𝓣 k-perform (asked (a .1 .1 .1 .0)) iq (a .1 .1 .1 .1 .0) (a .1 .1 .1 .1 .1 .0) (λ y. (and-then ! (loc ! 13 refl) (and-then ! (loc ! 9 refl) (and-then ! (loc ! 5 refl) (and-then ! (loc ! 21 refl) (and-then ! (loc ! 25 refl) (and-then ! (loc ! 1 refl) (no-more !)))))))) (λ r ir zs ms ls os h.
-          nothing ! $ move ! (2 ∷ 0 ∷ []) $ join ! $ move ! (1 ∷ 0 ∷ []) $ join ! $ use1 W (raw (toks 𝓤 A 2 (κs .1 .1 .1) (qs .1 .1 .1))) (id⊢ 𝓤 _) $ nothing ! $ move ! (2 ∷ 0 ∷ []) $ fjoin ! $ nothing ! $ fjoin ! $ nothing ! $ fjoin ! $ move ! (1 ∷ []) $
-          gathers D ps over κs qs a ! r zs ms ls (tt, (tt, (os, tt))) (so (now (a .0)) (now (a .1 .0)) (now (a .1 .1 .0)) (a .1 .1 .1 .0) (now (a .1 .1 .1 .1 .0)) (now (a .1 .1 .1 .1 .1 .0)) r zs ms ls os h) $
-          land ! (from ! (stop !)) (init ! 19 refl (D .answer .elem .typed 𝓤 H A W r ir .0)) $
-          turns (through D ps over) ! 𝓣 k-turn r ir (and-then ! (loc ! 20 refl) (no-more !)) (λ ib. land ! (from ! (stop !)) (init ! 17 refl (D .result .elem .typed 𝓤 H A W (D .turned r) ib .0)) $
-          sets ! 35 refl (of-opd ! (loc ! 17 refl)) (D .result .elem .typed 𝓤 H A W (D .turned r) ib .0) $
-          returns ! (look ! 35 refl) $ frees1 ! 35 refl refl $ frees1 ! 33 refl refl $ frees1 ! 31 refl refl $ frees1 ! 29 refl refl $ frees1 ! 27 refl refl $ frees1 ! 25 refl refl $ frees1 ! 23 refl refl $ frees1 ! 21 refl refl $ frees1 ! 19 refl refl $ frees1 ! 17 refl refl $ frees1 ! 15 refl refl $ frees1 ! 13 refl refl $ frees1 ! 11 refl refl $ frees1 ! 9 refl refl $ frees1 ! 7 refl refl $ frees1 ! 5 refl refl $ frees1 ! 3 refl refl $ frees1 ! 1 refl refl $ free0 ! $
-          by ! (ends (through D ps over) 𝓤 H A W κs qs a r ib)))))))))))))))))))))))
+          move ! (42 ∷ []) $
+          asks D ! 𝓣 (KP ∷ []) (λ v. asked (v .0)) k-ask (a .1 .1 .1 .1 .0, tt) (are .1 .1 .1 .1 .0, tt) (λ y. (and-then ! (loc ! 32 refl) (no-more !))) (λ iq. land ! (from ! (stop !)) (init ! 25 refl (D .request .elem .typed 𝓤 H A W _ iq .0)) $
+          sets ! 19 refl (addr ! (from ! (fld ! refl (hop ! (look-in ! 39 (sub ! 0 refl (whole !))) (stop !))))) (tt, tt) $
+          sets ! 17 refl (agg ! (and-then ! (loc ! 19 refl) (and-then ! (fld-at ! 39 1 refl refl refl) (no-more !)))) (tt, (tt, (record { fits = are .0 .0 .1 .0 }, tt))) $
+          sets ! 15 refl (addr ! (from ! (fld ! refl (hop ! (look-in ! 37 (sub ! 0 refl (whole !))) (stop !))))) (tt, tt) $
+          sets ! 13 refl (agg ! (and-then ! (loc ! 15 refl) (and-then ! (fld-at ! 37 1 refl refl refl) (no-more !)))) (tt, (tt, (record { fits = are .1 .0 .0 .1 .0 }, tt))) $
+          sets ! 11 refl (addr ! (from ! (fld ! refl (hop ! (look-in ! 35 (sub ! 0 refl (whole !))) (stop !))))) (tt, tt) $
+          sets ! 9 refl (agg ! (and-then ! (loc ! 11 refl) (and-then ! (fld-at ! 35 1 refl refl refl) (no-more !)))) (tt, (tt, (record { fits = are .1 .1 .0 .0 .1 .0 }, tt))) $
+          sets ! 7 refl (addr ! (from ! (fld ! refl (hop ! (look-in ! 33 (sub ! 0 refl (whole !))) (stop !))))) (tt, tt) $
+          sets ! 5 refl (agg ! (and-then ! (loc ! 7 refl) (and-then ! (fld-at ! 33 1 refl refl refl) (no-more !)))) (tt, (tt, (record { fits = are .1 .1 .1 .0 .0 .1 .0 }, tt))) $
+          sets ! 3 refl (addr ! (from ! (fld ! refl (hop ! (look-in ! 27 (sub ! 0 refl (whole !))) (stop !))))) (tt, tt) $
+          sets ! 1 refl (agg ! (and-then ! (loc ! 3 refl) (and-then ! (fld-at ! 27 1 refl refl refl) (no-more !)))) (tt, (tt, (record { fits = are .1 .1 .1 .1 .1 .1 .0 .0 .1 .0 }, tt))) $
+          apart D ps over κs qs a ! $ use1 W (‵ (flft (κs .1 .1 .1 .1 .0) (qs .1 .1 .1 .1 .0)) ⊛ ‵ (flft (κs .1 .1 .1 .1 .1 .0) (qs .1 .1 .1 .1 .1 .0)) ⊛ ‵ ftrue) (id⊢ 𝓤 _) $ split ! $ move ! (1 ∷ []) $ split ! $ move ! (3 ∷ []) $ fsplit ! $ drop ! $ fsplit ! $ move ! (1 ∷ []) $ fsplit ! $ move ! (1 ∷ 4 ∷ []) $ drop ! $ drop ! $ move ! (1 ∷ 3 ∷ 0 ∷ 2 ∷ []) $
+          performs D ps over κs qs a ! 𝓣 k-perform (asked (a .1 .1 .1 .1 .0)) iq (a .1 .1 .1 .1 .1 .0) (a .1 .1 .1 .1 .1 .1 .0) (λ y. (and-then ! (loc ! 17 refl) (and-then ! (loc ! 13 refl) (and-then ! (loc ! 9 refl) (and-then ! (loc ! 5 refl) (and-then ! (loc ! 25 refl) (and-then ! (loc ! 29 refl) (and-then ! (loc ! 1 refl) (no-more !))))))))) (λ r ir zs ms ls is os h.
+          nothing ! $ move ! (2 ∷ 0 ∷ []) $ join ! $ move ! (1 ∷ 0 ∷ []) $ join ! $ use1 W (raw (toks 𝓤 A 2 (κs .1 .1 .1 .1) (qs .1 .1 .1 .1))) (id⊢ 𝓤 _) $ nothing ! $ move ! (2 ∷ 0 ∷ []) $ fjoin ! $ nothing ! $ fjoin ! $ nothing ! $ fjoin ! $ move ! (1 ∷ []) $
+          gathers D ps over κs qs a ! r zs ms ls is (tt, (tt, (os, tt))) (so (now (a .0)) (now (a .1 .0)) (now (a .1 .1 .0)) (now (a .1 .1 .1 .0)) (a .1 .1 .1 .1 .0) (now (a .1 .1 .1 .1 .1 .0)) (now (a .1 .1 .1 .1 .1 .1 .0)) r zs ms ls is os h) $
+          land ! (from ! (stop !)) (init ! 23 refl (D .answer .elem .typed 𝓤 H A W r ir .0)) $
+          turns (through D ps over) ! 𝓣 k-turn r ir (and-then ! (loc ! 24 refl) (no-more !)) (λ ib. land ! (from ! (stop !)) (init ! 21 refl (D .result .elem .typed 𝓤 H A W (D .turned r) ib .0)) $
+          sets ! 41 refl (of-opd ! (loc ! 21 refl)) (D .result .elem .typed 𝓤 H A W (D .turned r) ib .0) $
+          returns ! (look ! 41 refl) $ frees1 ! 41 refl refl $ frees1 ! 39 refl refl $ frees1 ! 37 refl refl $ frees1 ! 35 refl refl $ frees1 ! 33 refl refl $ frees1 ! 31 refl refl $ frees1 ! 29 refl refl $ frees1 ! 27 refl refl $ frees1 ! 25 refl refl $ frees1 ! 23 refl refl $ frees1 ! 21 refl refl $ frees1 ! 19 refl refl $ frees1 ! 17 refl refl $ frees1 ! 15 refl refl $ frees1 ! 13 refl refl $ frees1 ! 11 refl refl $ frees1 ! 9 refl refl $ frees1 ! 7 refl refl $ frees1 ! 5 refl refl $ frees1 ! 3 refl refl $ frees1 ! 1 refl refl $ free0 ! $
+          by ! (ends (through D ps over) 𝓤 H A W κs qs a r ib))))))))))))))))))))))))))

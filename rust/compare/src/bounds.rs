@@ -238,7 +238,8 @@ fn check_unsayable(noise: &mut Noise, tally: &mut Tally) {
             let mut asked = [to_proved(&settings[0])];
             change(&mut asked[0], number);
             let (memory, lengths) = (&twin.memory, &twin.lengths);
-            let said = proved::calls::settings(&mut twin.table, memory, lengths, &asked);
+            let said =
+                proved::calls::settings(&mut twin.table, memory, lengths, &mut twin.lines, &asked);
             tally.alone += 1;
             tally.answer("settings", said.number);
             tally.case("settings: what the peer cannot say");

@@ -7,8 +7,8 @@ use proved::calls;
 use proved::record::{direction, Addresses, Channel, Limits, Node};
 use proved::Said;
 
-/// A call and what it is given beside the table, the memory, the lengths and
-/// the buffer.
+/// A call and what it is given beside the table, the memory, the lengths, the
+/// lines and the buffer.
 #[derive(Clone, Copy, Debug)]
 pub enum Call<'a> {
     /// Settings for the whole table.
@@ -43,6 +43,8 @@ pub struct Lent<'a> {
     pub memory: &'a mut [u8],
     /// The slots' lengths.
     pub lengths: &'a mut [u16],
+    /// The lines.
+    pub lines: &'a mut [u8],
     /// The buffer, for calls that write a packet or a unit.
     pub out: &'a mut [u8],
 }
@@ -71,24 +73,29 @@ impl Call<'_> {
             table,
             memory,
             lengths,
+            lines,
             out,
         } = lent;
         match *self {
             Call::Settings(settings) => {
                 let settings: Vec<_> = settings.iter().map(to_proved).collect();
-                calls::settings(table, memory, lengths, &settings)
+                calls::settings(table, memory, lengths, lines, &settings)
             }
-            Call::Open(index) => calls::open(table, memory, lengths, index),
-            Call::Close(index) => calls::close(table, memory, lengths, index),
-            Call::Transfer(index, unit) => calls::transfer(table, memory, lengths, index, unit),
+            Call::Open(index) => calls::open(table, memory, lengths, lines, index),
+            Call::Close(index) => calls::close(table, memory, lengths, lines, index),
+            Call::Transfer(index, unit) => {
+                calls::transfer(table, memory, lengths, lines, index, unit)
+            }
             Call::WouldTransfer(index, count) => {
-                calls::would_transfer(table, memory, lengths, index, count)
+                calls::would_transfer(table, memory, lengths, lines, index, count)
             }
-            Call::Take(index) => calls::take(table, memory, lengths, index, out),
-            Call::Reclaim(index) => calls::reclaim(table, memory, lengths, index, out),
-            Call::NextPacket => calls::next_packet(table, memory, lengths, node, out),
-            Call::Arrival(packet) => calls::arrival(table, memory, lengths, node, packet, out),
-            Call::Tick => calls::tick(table, memory, lengths),
+            Call::Take(index) => calls::take(table, memory, lengths, lines, index, out),
+            Call::Reclaim(index) => calls::reclaim(table, memory, lengths, lines, index, out),
+            Call::NextPacket => calls::next_packet(table, memory, lengths, lines, node, out),
+            Call::Arrival(packet) => {
+                calls::arrival(table, memory, lengths, lines, node, packet, out)
+            }
+            Call::Tick => calls::tick(table, memory, lengths, lines),
         }
     }
 

@@ -1,7 +1,25 @@
-//! The test for 13, written from docs/CONDITION.md alone: what a table that
-//! was overwritten must be answered.
+//! The test for 13, written from docs/CONDITION.md, and of the lines from
+//! document 02, A4: what a table that was overwritten must be answered.
 
-use proved::record::{direction, lone, state, Channel, Limits, Prefix};
+use proved::record::{direction, lone, state, Channel, Limits, Prefix, LINES};
+
+/// Whether these octets can be the lines of so many records.
+pub fn are_lines(lines: &[u8], records: usize) -> bool {
+    lines.len() == LINES && lines.chunks(LINES / 3).all(|line| is_line(line, records))
+}
+
+/// How many stand in it, then they, each once, then zeros.
+fn is_line(line: &[u8], records: usize) -> bool {
+    let count = usize::from(line[0]);
+    if count > 16 {
+        return false;
+    }
+    let (standing, past) = line[1..].split_at(count);
+    let mut places = standing.iter().enumerate();
+    let sound = places
+        .all(|(place, index)| usize::from(*index) < records && !standing[..place].contains(index));
+    sound && past.iter().all(|octet| *octet == 0)
+}
 
 /// Whether a table passes with so many octets and these lengths.
 pub fn is_lawful(table: &[Channel], octets: usize, lengths: &[u16]) -> bool {

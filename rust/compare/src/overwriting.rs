@@ -1,12 +1,12 @@
-//! Records overwritten by the caller. The peer keeps no such record, so the
-//! answer is held against docs/CONDITION.md: 13 exactly if a record lacks its
-//! condition, and then nothing has changed.
+//! Records and lines overwritten by the caller. The peer keeps no such record,
+//! so the answer is held against docs/CONDITION.md: 13 exactly if a record lacks
+//! its condition or the lines are not sound, and then nothing has changed.
 
 use link::Noise;
-use proved::record::Channel;
+use proved::record::{Channel, LINES};
 
 use crate::call::{unlawful, Call};
-use crate::condition::is_lawful;
+use crate::condition::{are_lines, is_lawful};
 use crate::strays::from_other_end;
 use crate::tally::Tally;
 use crate::twin::Twin;
@@ -45,6 +45,9 @@ const FIELDS: [Field; 28] = [
     |record, number| record.timers.left[(number >> 16) as usize % 128] = number as u16,
 ];
 
+/// Octets of one line.
+const LINE: usize = LINES / 3;
+
 /// Numbers at the edges of what the fields may hold.
 const EDGES: [u64; 20] = [
     0,
@@ -78,6 +81,7 @@ pub fn overwrite_and_call(twin: &mut Twin, noise: &mut Noise, tally: &mut Tally)
         twin.table.clone(),
         twin.memory.clone(),
         twin.lengths.clone(),
+        twin.lines.clone(),
     );
     for _ in 0..1 + noise.below(2) {
         overwrite(twin, noise);
@@ -100,7 +104,7 @@ pub fn overwrite_and_call(twin: &mut Twin, noise: &mut Noise, tally: &mut Tally)
         _ => Call::Tick,
     };
     check(twin, call, tally);
-    (twin.table, twin.memory, twin.lengths) = kept;
+    (twin.table, twin.memory, twin.lengths, twin.lines) = kept;
 }
 
 fn overwrite(twin: &mut Twin, noise: &mut Noise) {
@@ -111,19 +115,52 @@ fn overwrite(twin: &mut Twin, noise: &mut Noise) {
     if noise.one_in(8) {
         let slot = noise.below(twin.lengths.len());
         twin.lengths[slot] = number as u16;
+    } else if noise.one_in(8) {
+        overwrite_line(twin, number, noise);
     } else {
         let record = noise.below(twin.table.len());
         noise.one_of(&FIELDS)(&mut twin.table[record], number);
     }
 }
 
+/// One stands in a line, or, as often, any octet of it is another: what stands
+/// there may then be no channel, or past those who stand.
+fn overwrite_line(twin: &mut Twin, number: u64, noise: &mut Noise) {
+    let line = noise.below(3) * LINE;
+    if noise.one_in(2) {
+        twin.lines[line] = 1;
+        twin.lines[line + 1] = number as u8;
+    } else {
+        twin.lines[line + noise.below(LINE)] = number as u8;
+    }
+}
+
+/// The lines as they must be after a call that was not refused: settings empty
+/// them, and so far no other call changes them.
+fn check_lines(twin: &Twin, call: &Call, before: &[u8], tally: &mut Tally) {
+    if let Call::Settings(_) = call {
+        assert_eq!(twin.lines, [0; LINES], "settings empty the lines");
+        return;
+    }
+    assert_eq!(twin.lines, before, "{call:?} changed the lines");
+    if before.iter().any(|octet| *octet != 0) {
+        tally.case("13: overwritten lines are sound, and stay");
+    }
+}
+
+fn is_sound(twin: &Twin) -> bool {
+    are_lines(&twin.lines, twin.table.len())
+        && is_lawful(&twin.table, twin.memory.len(), &twin.lengths)
+}
+
 /// Makes a call of the proved library alone over what is lent as it is.
 fn check(twin: &mut Twin, call: Call, tally: &mut Tally) {
-    let lawful = is_lawful(&twin.table, twin.memory.len(), &twin.lengths);
+    let lawful = is_sound(twin);
     let before = (
         twin.table.clone(),
         twin.memory.clone(),
         twin.lengths.clone(),
+        twin.lines.clone(),
     );
     let mut out = [0xA5; 64];
     let said = call.of_proved(twin.lent(&mut out));
@@ -139,13 +176,16 @@ fn check(twin: &mut Twin, call: Call, tally: &mut Tally) {
         assert_ne!(said.number, 13, "{call:?}");
         tally.case("13: an overwritten record has its condition, and keeps it");
     } else {
-        tally.case("13: an overwritten record lacks its condition");
+        tally.case(match are_lines(&before.3, before.0.len()) {
+            true => "13: an overwritten record lacks its condition",
+            false => "13: overwritten lines are not sound",
+        });
         assert_eq!(said, unlawful(twin.table.len()), "{call:?}");
         assert!(twin.table == before.0, "a refusal changed a record");
-        assert!(twin.memory == before.1 && twin.lengths == before.2);
+        assert!(twin.memory == before.1 && twin.lengths == before.2 && twin.lines == before.3);
         assert_eq!(out, [0xA5; 64]);
         return;
     }
-    let after = is_lawful(&twin.table, twin.memory.len(), &twin.lengths);
-    assert!(after, "{call:?} did not keep the condition");
+    check_lines(twin, &call, &before.3, tally);
+    assert!(is_sound(twin), "{call:?} did not keep the condition");
 }

@@ -1,7 +1,8 @@
-//! Memory and lengths of another size, and tables of 0 or 17 records: every
-//! call but settings is answered 13, and nothing has changed. The peer keeps
-//! its storage to itself, so that this is asked of the proved library alone;
-//! settings over such storage are asked of both, in `bounds`.
+//! Memory, lengths and lines of another size, lines in which nobody can stand so,
+//! and tables of 0 or 17 records: every call but settings is answered 13, and
+//! nothing has changed. The peer keeps its storage to itself, so that this is
+//! asked of the proved library alone; settings over such storage are asked of
+//! both, in `bounds`.
 
 use crate::call::{unlawful, Call, Lent};
 use crate::tally::Tally;
@@ -9,44 +10,68 @@ use crate::twin::Twin;
 use link::Noise;
 use proved::record::Channel;
 
+/// All that is lent of a node.
+#[derive(Clone, PartialEq)]
+pub struct Whole {
+    table: Vec<Channel>,
+    memory: Vec<u8>,
+    lengths: Vec<u16>,
+    lines: Vec<u8>,
+}
+
 /// What is lent wrongly, and its name.
-pub type Wrong = (
-    &'static str,
-    fn(&mut Vec<Channel>, &mut Vec<u8>, &mut Vec<u16>),
-);
+pub type Wrong = (&'static str, fn(&mut Whole));
 
 /// Everything that can be lent wrongly.
-pub const WRONGS: [Wrong; 7] = [
-    ("13: an octet of memory less", |_, memory, _| {
-        memory.pop();
+pub const WRONGS: [Wrong; 13] = [
+    ("13: an octet of memory less", |lent| {
+        lent.memory.pop();
     }),
-    ("13: an octet of memory more", |_, memory, _| memory.push(1)),
-    ("13: no memory", |_, memory, _| memory.clear()),
-    ("13: a length less", |_, _, lengths| {
-        lengths.pop();
+    ("13: an octet of memory more", |lent| lent.memory.push(1)),
+    ("13: no memory", |lent| lent.memory.clear()),
+    ("13: a length less", |lent| {
+        lent.lengths.pop();
     }),
-    ("13: a length more", |_, _, lengths| lengths.push(1)),
-    ("13: no record", |table, memory, lengths| {
-        table.clear();
-        memory.clear();
-        lengths.clear();
+    ("13: a length more", |lent| lent.lengths.push(1)),
+    ("13: an octet of lines less", |lent| {
+        lent.lines.pop();
     }),
-    ("13: 17 records that stand", |table, memory, lengths| {
-        let record = table[0];
+    ("13: an octet of lines more", |lent| lent.lines.push(0)),
+    ("13: more stand in a line than it holds", |lent| {
+        lent.lines[0] = 17;
+    }),
+    ("13: an index in a line that no record has", |lent| {
+        lent.lines[17..19].copy_from_slice(&[1, lent.table.len() as u8]);
+    }),
+    ("13: an index twice in a line", |lent| lent.lines[34] = 2),
+    ("13: an octet past those who stand in a line", |lent| {
+        lent.lines[50] = 1;
+    }),
+    ("13: no record", |lent| {
+        lent.table.clear();
+        lent.memory.clear();
+        lent.lengths.clear();
+    }),
+    ("13: 17 records that stand", |lent| {
+        let record = lent.table[0];
         let slots = record.limits.slots;
-        *table = vec![record; 17];
-        *lengths = lengths[..slots].repeat(17);
-        *memory = vec![9; 17 * slots * record.limits.payload];
+        lent.table = vec![record; 17];
+        lent.lengths = lent.lengths[..slots].repeat(17);
+        lent.memory = vec![9; 17 * slots * record.limits.payload];
     }),
 ];
 
 /// Lends something of another size to any call.
 pub fn lend_wrongly(twin: &Twin, packet: &[u8], noise: &mut Noise, tally: &mut Tally) {
     let (name, wrong) = noise.one_of(&WRONGS);
-    let mut table = twin.table.clone();
-    let (mut memory, mut lengths) = (twin.memory.clone(), twin.lengths.clone());
-    wrong(&mut table, &mut memory, &mut lengths);
-    let before = (table.clone(), memory.clone(), lengths.clone());
+    let mut lent = Whole {
+        table: twin.table.clone(),
+        memory: twin.memory.clone(),
+        lengths: twin.lengths.clone(),
+        lines: twin.lines.clone(),
+    };
+    wrong(&mut lent);
+    let before = lent.clone();
     let index = noise.below(twin.table.len() + 1);
     let unit = [7; 3];
     let call = match noise.below(9) {
@@ -63,9 +88,10 @@ pub fn lend_wrongly(twin: &Twin, packet: &[u8], noise: &mut Noise, tally: &mut T
     let mut out = [0xA5; 64];
     let said = call.of_proved(Lent {
         node: twin.node,
-        table: &mut table,
-        memory: &mut memory,
-        lengths: &mut lengths,
+        table: &mut lent.table,
+        memory: &mut lent.memory,
+        lengths: &mut lent.lengths,
+        lines: &mut lent.lines,
         out: &mut out,
     });
     tally.alone += 1;
@@ -74,7 +100,7 @@ pub fn lend_wrongly(twin: &Twin, packet: &[u8], noise: &mut Noise, tally: &mut T
     if matches!(call, Call::Arrival(_)) {
         tally.answer("not read", said.number);
     }
-    assert_eq!(said, unlawful(table.len()), "{name}: {call:?}");
-    assert!((table, memory, lengths) == before, "{name}: {call:?}");
+    assert_eq!(said, unlawful(lent.table.len()), "{name}: {call:?}");
+    assert!(lent == before, "{name}: {call:?}");
     assert_eq!(out, [0xA5; 64], "{name}: {call:?}");
 }

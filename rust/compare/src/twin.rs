@@ -6,7 +6,7 @@ use peer::answer::Answer;
 use peer::packet::{kind, Fields};
 use peer::settings::{storage, Direction, NodeSettings, Settings};
 use peer::state::State;
-use proved::record::{Channel, Node};
+use proved::record::{Channel, Node, LINES};
 use proved::Said;
 
 use crate::call::{to_proved, Call, Lent};
@@ -28,10 +28,13 @@ pub struct Twin {
     pub memory: Vec<u8>,
     /// The lengths lent to it.
     pub lengths: Vec<u16>,
+    /// The lines lent to it.
+    pub lines: Vec<u8>,
     /// The node's own address and protocol ID.
     pub node: Node,
     proved_settings: Vec<proved::record::Settings>,
     before: Vec<Channel>,
+    lines_before: Vec<u8>,
     by_proved: Vec<u8>,
     by_peer: Vec<u8>,
 }
@@ -64,6 +67,8 @@ impl Twin {
             table,
             memory,
             lengths,
+            lines: vec![0xA5; LINES],
+            lines_before: vec![0xA5; LINES],
             node,
             proved_settings: Vec::new(),
             by_proved: Vec::new(),
@@ -113,6 +118,7 @@ impl Twin {
             table: &mut self.table,
             memory: &mut self.memory,
             lengths: &mut self.lengths,
+            lines: &mut self.lines,
             out,
         }
     }
@@ -120,6 +126,7 @@ impl Twin {
     /// Makes a call of both with a buffer of this size, and compares.
     pub fn call(&mut self, call: Call, room: usize, tally: &mut Tally) -> Outcome {
         self.before.copy_from_slice(&self.table);
+        self.lines_before.copy_from_slice(&self.lines);
         let quiet = tally.calls as u8;
         let mut by_proved = renewed(&mut self.by_proved, room, quiet);
         let mut by_peer = renewed(&mut self.by_peer, room, quiet);
@@ -147,6 +154,7 @@ impl Twin {
         assert_eq!(said.index, served, "the index");
         assert!(self.lengths == self.peer.lengths(), "the lengths differ");
         assert!(self.memory == self.peer.memory(), "the memory differs");
+        self.compare_lines(call, said);
         let records = 0..self.table.len();
         let changed = records.filter(|&index| self.table[index] != self.before[index]);
         let changed: Vec<usize> = changed.collect();
@@ -163,6 +171,16 @@ impl Twin {
         };
         assert_eq!(said.reason, u32::from(reason), "the reason");
         self.compare_records();
+    }
+
+    /// Settings empty the lines. So far no other call changes them; the peer has
+    /// none.
+    fn compare_lines(&self, call: &Call, said: Said) {
+        let expected = match (said.number, call) {
+            (0, Call::Settings(_)) => &[0; LINES][..],
+            _ => &self.lines_before,
+        };
+        assert!(self.lines == expected, "the lines changed");
     }
 
     /// Every record, if there are settings: before them no record has a

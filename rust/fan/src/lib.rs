@@ -13,7 +13,7 @@ pub use options::{Options, USAGE};
 
 use crate::link::Link;
 use hall::Hall;
-use proved::record::{direction, PROTOCOL};
+use proved::record::{direction, LINES, PROTOCOL};
 use proved::{storage, Addresses, Channel, Limits, Node, NodeTable, Settings};
 
 const HOST: u8 = 64;
@@ -52,8 +52,16 @@ pub fn story(options: Options) -> (String, bool) {
     let (octets, slots) = storage(&of_host);
     let (mut t0, mut m0, mut l0) = ([Channel::blank()], vec![0; octets], vec![0; slots]);
     let (mut t1, mut m1, mut l1) = ([Channel::blank()], vec![0; octets], vec![0; slots]);
-    let host = NodeTable::settings(node(HOST), &mut t0, &mut m0, &mut l0, &of_host);
-    let station = NodeTable::settings(node(STATION), &mut t1, &mut m1, &mut l1, &of_station);
+    let [mut lines0, mut lines1] = [[0; LINES]; 2];
+    let host = NodeTable::settings(node(HOST), &mut t0, &mut m0, &mut l0, &mut lines0, &of_host);
+    let station = NodeTable::settings(
+        node(STATION),
+        &mut t1,
+        &mut m1,
+        &mut l1,
+        &mut lines1,
+        &of_station,
+    );
     let mut hall = Hall {
         options,
         host: host.expect("the host's settings are good"),

@@ -2,7 +2,7 @@
 //! publishes a unit, the station takes it, and the host is told that it is
 //! confirmed. What is a link between two machines elsewhere is here a buffer.
 
-use proved::record::{direction, PROTOCOL};
+use proved::record::{direction, LINES, PROTOCOL};
 use proved::{storage, Addresses, Answer, Channel, Limits, Node, NodeTable, Outcome};
 use proved::{Refusal, Settings};
 
@@ -88,11 +88,12 @@ fn main() -> Result<(), Outcome> {
     let mut tables = [[Channel::blank()]; 2];
     let mut memories = [vec![0; octets], vec![0; octets]];
     let mut slots = [vec![0; lengths], vec![0; lengths]];
+    let [mut lines0, mut lines1] = [[0; LINES]; 2];
     let [t0, t1] = &mut tables;
     let [m0, m1] = &mut memories;
     let [l0, l1] = &mut slots;
-    let host = NodeTable::settings(node(HOST), t0, m0, l0, &of_host);
-    let station = NodeTable::settings(node(STATION), t1, m1, l1, &of_station);
+    let host = NodeTable::settings(node(HOST), t0, m0, l0, &mut lines0, &of_host);
+    let station = NodeTable::settings(node(STATION), t1, m1, l1, &mut lines1, &of_station);
     let mut host = host.map_err(Outcome::Refused)?;
     play(&mut host, &mut station.map_err(Outcome::Refused)?)
 }

@@ -105,6 +105,8 @@ extern "C" {
         octets: usize,
         lengths: *const u16,
         slots: usize,
+        lines: *mut u8,
+        line_octets: usize,
         settings: *const Settings,
         count: usize,
     ) -> Said;
@@ -115,6 +117,8 @@ extern "C" {
         octets: usize,
         lengths: *mut u16,
         slots: usize,
+        lines: *mut u8,
+        line_octets: usize,
         index: usize,
     ) -> Said;
     pub fn peat_close(
@@ -124,6 +128,8 @@ extern "C" {
         octets: usize,
         lengths: *mut u16,
         slots: usize,
+        lines: *mut u8,
+        line_octets: usize,
         index: usize,
     ) -> Said;
     pub fn peat_transfer(
@@ -133,6 +139,8 @@ extern "C" {
         octets: usize,
         lengths: *mut u16,
         slots: usize,
+        lines: *mut u8,
+        line_octets: usize,
         index: usize,
         unit: *const u8,
         count: usize,
@@ -144,6 +152,8 @@ extern "C" {
         octets: usize,
         lengths: *mut u16,
         slots: usize,
+        lines: *mut u8,
+        line_octets: usize,
         index: usize,
         count: usize,
     ) -> Said;
@@ -154,6 +164,8 @@ extern "C" {
         octets: usize,
         lengths: *mut u16,
         slots: usize,
+        lines: *mut u8,
+        line_octets: usize,
         index: usize,
         out: *mut u8,
         count: usize,
@@ -165,6 +177,8 @@ extern "C" {
         octets: usize,
         lengths: *mut u16,
         slots: usize,
+        lines: *mut u8,
+        line_octets: usize,
         index: usize,
         out: *mut u8,
         count: usize,
@@ -176,6 +190,8 @@ extern "C" {
         octets: usize,
         lengths: *mut u16,
         slots: usize,
+        lines: *mut u8,
+        line_octets: usize,
         node: Node,
         out: *mut u8,
         count: usize,
@@ -187,6 +203,8 @@ extern "C" {
         octets: usize,
         lengths: *mut u16,
         slots: usize,
+        lines: *mut u8,
+        line_octets: usize,
         node: Node,
         packet: *const u8,
         packet_count: usize,
@@ -200,5 +218,7 @@ extern "C" {
         octets: usize,
         lengths: *const u16,
         slots: usize,
+        lines: *mut u8,
+        line_octets: usize,
     ) -> Said;
 }

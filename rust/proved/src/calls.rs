@@ -1,9 +1,10 @@
 //! Every call of the node over lent slices, with its answer as numbers, in the
 //! order of arguments of `crates/host`. docs/PROMISES.md says for each what it
 //! answers and what it leaves in every slice. No call has a condition: records
-//! that were spoilt, and slices of another size, are refused with 13. Calls that
-//! serve one channel are lent memory and lengths to write, as one function serves
-//! them all; only a transfer and an arrival change an octet or a length there.
+//! or lines that were spoilt, and slices of another size, are refused with 13. Calls
+//! that serve one channel are lent memory and lengths to write, as one function
+//! serves them all; only a transfer and an arrival change an octet or a length
+//! there. So far settings alone change the lines.
 //!
 //! Every `unsafe` here is sound for one reason: each pointer goes with the count
 //! of its own slice, a slice that is only read is lent as shared, and those that
@@ -14,11 +15,12 @@ use crate::c::{self, Said};
 use crate::record::{Channel, Node, Settings};
 
 /// Makes a table afresh, each record of its settings, CLOSED and empty: 0 or
-/// 13. The memory and the lengths are only measured.
+/// 13. The memory and the lengths are only measured; with 0 the lines are empty.
 pub fn settings(
     table: &mut [Channel],
     memory: &[u8],
     lengths: &[u16],
+    lines: &mut [u8],
     settings: &[Settings],
 ) -> Said {
     // SAFETY: as above.
@@ -30,6 +32,8 @@ pub fn settings(
             memory.len(),
             lengths.as_ptr(),
             lengths.len(),
+            lines.as_mut_ptr(),
+            lines.len(),
             settings.as_ptr(),
             settings.len(),
         )
@@ -37,7 +41,13 @@ pub fn settings(
 }
 
 /// An Open directive: 0, 5, 10, 13 or 14.
-pub fn open(table: &mut [Channel], memory: &mut [u8], lengths: &mut [u16], index: usize) -> Said {
+pub fn open(
+    table: &mut [Channel],
+    memory: &mut [u8],
+    lengths: &mut [u16],
+    lines: &mut [u8],
+    index: usize,
+) -> Said {
     // SAFETY: as above.
     unsafe {
         c::peat_open(
@@ -47,13 +57,21 @@ pub fn open(table: &mut [Channel], memory: &mut [u8], lengths: &mut [u16], index
             memory.len(),
             lengths.as_mut_ptr(),
             lengths.len(),
+            lines.as_mut_ptr(),
+            lines.len(),
             index,
         )
     }
 }
 
 /// A Close directive: 0, 5, 13 or 14.
-pub fn close(table: &mut [Channel], memory: &mut [u8], lengths: &mut [u16], index: usize) -> Said {
+pub fn close(
+    table: &mut [Channel],
+    memory: &mut [u8],
+    lengths: &mut [u16],
+    lines: &mut [u8],
+    index: usize,
+) -> Said {
     // SAFETY: as above.
     unsafe {
         c::peat_close(
@@ -63,6 +81,8 @@ pub fn close(table: &mut [Channel], memory: &mut [u8], lengths: &mut [u16], inde
             memory.len(),
             lengths.as_mut_ptr(),
             lengths.len(),
+            lines.as_mut_ptr(),
+            lines.len(),
             index,
         )
     }
@@ -73,6 +93,7 @@ pub fn transfer(
     table: &mut [Channel],
     memory: &mut [u8],
     lengths: &mut [u16],
+    lines: &mut [u8],
     index: usize,
     unit: &[u8],
 ) -> Said {
@@ -85,6 +106,8 @@ pub fn transfer(
             memory.len(),
             lengths.as_mut_ptr(),
             lengths.len(),
+            lines.as_mut_ptr(),
+            lines.len(),
             index,
             unit.as_ptr(),
             unit.len(),
@@ -98,6 +121,7 @@ pub fn would_transfer(
     table: &mut [Channel],
     memory: &mut [u8],
     lengths: &mut [u16],
+    lines: &mut [u8],
     index: usize,
     count: usize,
 ) -> Said {
@@ -110,6 +134,8 @@ pub fn would_transfer(
             memory.len(),
             lengths.as_mut_ptr(),
             lengths.len(),
+            lines.as_mut_ptr(),
+            lines.len(),
             index,
             count,
         )
@@ -121,6 +147,7 @@ pub fn take(
     table: &mut [Channel],
     memory: &mut [u8],
     lengths: &mut [u16],
+    lines: &mut [u8],
     index: usize,
     out: &mut [u8],
 ) -> Said {
@@ -133,6 +160,8 @@ pub fn take(
             memory.len(),
             lengths.as_mut_ptr(),
             lengths.len(),
+            lines.as_mut_ptr(),
+            lines.len(),
             index,
             out.as_mut_ptr(),
             out.len(),
@@ -145,6 +174,7 @@ pub fn reclaim(
     table: &mut [Channel],
     memory: &mut [u8],
     lengths: &mut [u16],
+    lines: &mut [u8],
     index: usize,
     out: &mut [u8],
 ) -> Said {
@@ -157,6 +187,8 @@ pub fn reclaim(
             memory.len(),
             lengths.as_mut_ptr(),
             lengths.len(),
+            lines.as_mut_ptr(),
+            lines.len(),
             index,
             out.as_mut_ptr(),
             out.len(),
@@ -169,6 +201,7 @@ pub fn next_packet(
     table: &mut [Channel],
     memory: &mut [u8],
     lengths: &mut [u16],
+    lines: &mut [u8],
     node: Node,
     out: &mut [u8],
 ) -> Said {
@@ -181,6 +214,8 @@ pub fn next_packet(
             memory.len(),
             lengths.as_mut_ptr(),
             lengths.len(),
+            lines.as_mut_ptr(),
+            lines.len(),
             node,
             out.as_mut_ptr(),
             out.len(),
@@ -194,6 +229,7 @@ pub fn arrival(
     table: &mut [Channel],
     memory: &mut [u8],
     lengths: &mut [u16],
+    lines: &mut [u8],
     node: Node,
     packet: &[u8],
     reply: &mut [u8],
@@ -207,6 +243,8 @@ pub fn arrival(
             memory.len(),
             lengths.as_mut_ptr(),
             lengths.len(),
+            lines.as_mut_ptr(),
+            lines.len(),
             node,
             packet.as_ptr(),
             packet.len(),
@@ -217,7 +255,7 @@ pub fn arrival(
 }
 
 /// One tick of every timer: 0, 9 or 13.
-pub fn tick(table: &mut [Channel], memory: &[u8], lengths: &[u16]) -> Said {
+pub fn tick(table: &mut [Channel], memory: &[u8], lengths: &[u16], lines: &mut [u8]) -> Said {
     // SAFETY: as above.
     unsafe {
         c::peat_tick(
@@ -227,6 +265,8 @@ pub fn tick(table: &mut [Channel], memory: &[u8], lengths: &[u16]) -> Said {
             memory.len(),
             lengths.as_ptr(),
             lengths.len(),
+            lines.as_mut_ptr(),
+            lines.len(),
         )
     }
 }

@@ -7,17 +7,18 @@ use crate::calls;
 use crate::record::{Channel, Node, Settings};
 use crate::words::{Reason, State};
 
-/// A node over its lent table, memory and lengths.
+/// A node over its lent table, memory, lengths and lines.
 ///
 /// Every call keeps the standing condition of each record (docs/CONDITION.md), and
-/// settings establish it; as only the calls here can change a record, none of
-/// them ever answers [`Refusal::Settings`].
+/// settings establish it; as only the calls here can change a record or the lines,
+/// none of them ever answers [`Refusal::Settings`].
 #[derive(Debug)]
 pub struct NodeTable<'a> {
     node: Node,
     table: &'a mut [Channel],
     memory: &'a mut [u8],
     lengths: &'a mut [u16],
+    lines: &'a mut [u8],
 }
 
 /// The octets of memory, and the lengths, that a table with these settings needs.
@@ -34,15 +35,17 @@ pub fn storage(settings: &[Settings]) -> (usize, usize) {
 
 impl<'a> NodeTable<'a> {
     /// A node whose channels are all CLOSED and empty. The memory and the lengths
-    /// have the sizes that [`storage`] tells; what they hold does not matter.
+    /// have the sizes that [`storage`] tells, and the lines are
+    /// [`LINES`](crate::record::LINES) octets; what they hold does not matter.
     pub fn settings(
         node: Node,
         table: &'a mut [Channel],
         memory: &'a mut [u8],
         lengths: &'a mut [u16],
+        lines: &'a mut [u8],
         settings: &[Settings],
     ) -> Result<Self, Refusal> {
-        let said = calls::settings(table, memory, lengths, settings);
+        let said = calls::settings(table, memory, lengths, lines, settings);
         match Answer::of(said, table.len()).outcome {
             Outcome::Refused(refusal) => Err(refusal),
             _ => Ok(NodeTable {
@@ -50,6 +53,7 @@ impl<'a> NodeTable<'a> {
                 table,
                 memory,
                 lengths,
+                lines,
             }),
         }
     }
@@ -75,19 +79,26 @@ impl<'a> NodeTable<'a> {
 
     /// An Open directive.
     pub fn open(&mut self, index: usize) -> Answer {
-        let said = calls::open(self.table, self.memory, self.lengths, index);
+        let said = calls::open(self.table, self.memory, self.lengths, self.lines, index);
         self.answer(said)
     }
 
     /// A Close directive.
     pub fn close(&mut self, index: usize) -> Answer {
-        let said = calls::close(self.table, self.memory, self.lengths, index);
+        let said = calls::close(self.table, self.memory, self.lengths, self.lines, index);
         self.answer(said)
     }
 
     /// A unit for a sender to hold and send.
     pub fn transfer(&mut self, index: usize, unit: &[u8]) -> Answer {
-        let said = calls::transfer(self.table, self.memory, self.lengths, index, unit);
+        let said = calls::transfer(
+            self.table,
+            self.memory,
+            self.lengths,
+            self.lines,
+            index,
+            unit,
+        );
         self.answer(said)
     }
 
@@ -95,25 +106,46 @@ impl<'a> NodeTable<'a> {
     /// whatever the answer.
     pub fn would_transfer(&mut self, index: usize, count: usize) -> Answer {
         let (table, memory) = (&mut *self.table, &mut *self.memory);
-        let said = calls::would_transfer(table, memory, self.lengths, index, count);
+        let said = calls::would_transfer(table, memory, self.lengths, self.lines, index, count);
         self.answer(said)
     }
 
     /// The oldest complete unit of a receiver, at the front of `out`.
     pub fn take(&mut self, index: usize, out: &mut [u8]) -> Answer {
-        let said = calls::take(self.table, self.memory, self.lengths, index, out);
+        let said = calls::take(
+            self.table,
+            self.memory,
+            self.lengths,
+            self.lines,
+            index,
+            out,
+        );
         self.answer(said)
     }
 
     /// The oldest unconfirmed unit of a sender in CLOSED, at the front of `out`.
     pub fn reclaim(&mut self, index: usize, out: &mut [u8]) -> Answer {
-        let said = calls::reclaim(self.table, self.memory, self.lengths, index, out);
+        let said = calls::reclaim(
+            self.table,
+            self.memory,
+            self.lengths,
+            self.lines,
+            index,
+            out,
+        );
         self.answer(said)
     }
 
     /// The packet that goes out next, at the front of `out`.
     pub fn next_packet(&mut self, out: &mut [u8]) -> Answer {
-        let said = calls::next_packet(self.table, self.memory, self.lengths, self.node, out);
+        let said = calls::next_packet(
+            self.table,
+            self.memory,
+            self.lengths,
+            self.lines,
+            self.node,
+            out,
+        );
         self.answer(said)
     }
 
@@ -122,13 +154,21 @@ impl<'a> NodeTable<'a> {
     /// N.
     pub fn arrival(&mut self, packet: &[u8], reply: &mut [u8]) -> Answer {
         let (table, memory) = (&mut *self.table, &mut *self.memory);
-        let said = calls::arrival(table, memory, self.lengths, self.node, packet, reply);
+        let said = calls::arrival(
+            table,
+            memory,
+            self.lengths,
+            self.lines,
+            self.node,
+            packet,
+            reply,
+        );
         self.answer(said)
     }
 
     /// One tick of every timer.
     pub fn tick(&mut self) -> Answer {
-        let said = calls::tick(self.table, self.memory, self.lengths);
+        let said = calls::tick(self.table, self.memory, self.lengths, self.lines);
         self.answer(said)
     }
 

@@ -9,6 +9,9 @@ pub const PREFIX: usize = 15;
 /// Most records in a table.
 pub const RECORDS: usize = 16;
 
+/// Octets of the lines, 17 for each of three ranks (document 02, A4).
+pub const LINES: usize = 51;
+
 /// The protocol ID of SpaceWire-R (000, 4.2.3.3): what a node has unless it is
 /// set otherwise.
 pub const PROTOCOL: u8 = 5;

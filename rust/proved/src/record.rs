@@ -2,7 +2,7 @@
 //! and arrays of numbers only, so that every bit pattern is a value, and a
 //! record that was spoilt is refused with 13 and never undefined.
 
-pub use crate::numbers::{direction, lone, reason, state, PREFIX, PROTOCOL, RECORDS, SLOTS};
+pub use crate::numbers::{direction, lone, reason, state, LINES, PREFIX, PROTOCOL, RECORDS, SLOTS};
 
 /// `PeatNode`: the node's own settings.
 #[repr(C)]

@@ -98,19 +98,19 @@ fn closed_by_its_ack() {
 
 #[test]
 fn empty_slices_are_refused() {
-    let (t, mem, lens) = (&mut [][..], &mut [][..], &mut [][..]);
+    let (t, mem, lens, lines) = (&mut [][..], &mut [][..], &mut [][..], &mut [][..]);
     // As many as there are records is 0 here.
     let none = refused(13);
-    assert_eq!(calls::settings(t, mem, lens, &[]), none);
-    assert_eq!(calls::open(t, mem, lens, 0), none);
-    assert_eq!(calls::close(t, mem, lens, 0), none);
-    assert_eq!(calls::transfer(t, mem, lens, 0, &[]), none);
-    assert_eq!(calls::would_transfer(t, mem, lens, 0, 0), none);
-    assert_eq!(calls::take(t, mem, lens, 0, &mut []), none);
-    assert_eq!(calls::reclaim(t, mem, lens, 0, &mut []), none);
-    let next = calls::next_packet(t, mem, lens, HOST, &mut []);
+    assert_eq!(calls::settings(t, mem, lens, lines, &[]), none);
+    assert_eq!(calls::open(t, mem, lens, lines, 0), none);
+    assert_eq!(calls::close(t, mem, lens, lines, 0), none);
+    assert_eq!(calls::transfer(t, mem, lens, lines, 0, &[]), none);
+    assert_eq!(calls::would_transfer(t, mem, lens, lines, 0, 0), none);
+    assert_eq!(calls::take(t, mem, lens, lines, 0, &mut []), none);
+    assert_eq!(calls::reclaim(t, mem, lens, lines, 0, &mut []), none);
+    let next = calls::next_packet(t, mem, lens, lines, HOST, &mut []);
     assert_eq!(next, none);
-    let came = calls::arrival(t, mem, lens, HOST, &[], &mut []);
+    let came = calls::arrival(t, mem, lens, lines, HOST, &[], &mut []);
     assert_eq!(came, none);
-    assert_eq!(calls::tick(t, mem, lens), none);
+    assert_eq!(calls::tick(t, mem, lens, lines), none);
 }

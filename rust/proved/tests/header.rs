@@ -1,6 +1,6 @@
 //! The numbers of the C header are those of this crate, and none is left out.
 
-use proved::record::{direction, lone, reason, state, PREFIX, PROTOCOL, RECORDS, SLOTS};
+use proved::record::{direction, lone, reason, state, LINES, PREFIX, PROTOCOL, RECORDS, SLOTS};
 use proved::{Outcome, Reason, Refusal};
 
 const HEADER: &str = include_str!("../../../include/peatwimple_records.h");
@@ -56,7 +56,12 @@ fn of_records() -> Vec<(&'static str, usize)> {
         ("PROTOCOL", PROTOCOL),
     ];
     let octets = octets.map(|(name, number)| (name, usize::from(number)));
-    let counts = [("RECORDS", RECORDS), ("SLOTS", SLOTS), ("PREFIX", PREFIX)];
+    let counts = [
+        ("RECORDS", RECORDS),
+        ("LINES", LINES),
+        ("SLOTS", SLOTS),
+        ("PREFIX", PREFIX),
+    ];
     [&octets[..], &counts].concat()
 }
 

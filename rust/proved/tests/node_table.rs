@@ -3,7 +3,7 @@
 mod ends;
 
 use ends::{HOST, LIMITS, STATION};
-use proved::record::direction;
+use proved::record::{direction, LINES};
 use proved::{storage, Addresses, Answer, Channel, NodeTable, Outcome};
 use proved::{Reason, Refusal, Said, Settings, State};
 
@@ -24,7 +24,15 @@ fn with_node(play: impl FnOnce(&mut NodeTable)) {
     let (octets, lengths) = storage(&settings());
     let mut table = [Channel::blank(); 2];
     let (mut memory, mut lengths) = (vec![0xAA; octets], vec![0xBBBB; lengths]);
-    let made = NodeTable::settings(HOST, &mut table, &mut memory, &mut lengths, &settings());
+    let mut lines = [0xCC; LINES];
+    let made = NodeTable::settings(
+        HOST,
+        &mut table,
+        &mut memory,
+        &mut lengths,
+        &mut lines,
+        &settings(),
+    );
     play(&mut made.expect("these settings are good"));
 }
 
@@ -97,12 +105,36 @@ fn a_channel_goes_inactive() {
 fn bad_settings_make_no_node() {
     let mut table = [Channel::blank(); 2];
     let (octets, lengths) = storage(&settings());
-    let (mut memory, mut slots) = (vec![0; octets], vec![0; lengths]);
+    let (mut memory, mut slots, mut lines) = (vec![0; octets], vec![0; lengths], [0; LINES]);
     let twice = [settings()[0]; 2];
-    let made = NodeTable::settings(STATION, &mut table, &mut memory, &mut slots, &twice);
+    let made = NodeTable::settings(
+        STATION,
+        &mut table,
+        &mut memory,
+        &mut slots,
+        &mut lines,
+        &twice,
+    );
     assert_eq!(made.err(), Some(Refusal::Settings));
     let less = &mut memory[1..];
-    let made = NodeTable::settings(STATION, &mut table, less, &mut slots, &settings());
+    let made = NodeTable::settings(
+        STATION,
+        &mut table,
+        less,
+        &mut slots,
+        &mut lines,
+        &settings(),
+    );
+    assert_eq!(made.err(), Some(Refusal::Settings));
+    let less = &mut lines[1..];
+    let made = NodeTable::settings(
+        STATION,
+        &mut table,
+        &mut memory,
+        &mut slots,
+        less,
+        &settings(),
+    );
     assert_eq!(made.err(), Some(Refusal::Settings));
 }
 

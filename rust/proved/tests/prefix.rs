@@ -4,7 +4,7 @@
 mod ends;
 
 use ends::{done, refused, unserved, End, HOST, LIMITS, STATION};
-use proved::record::{direction, PREFIX};
+use proved::record::{direction, LINES, PREFIX};
 use proved::{calls, read_packet, storage, write_packet};
 use proved::{Addresses, Channel, Fields, Node, Prefix, Said, Settings};
 
@@ -70,6 +70,7 @@ fn arrival_in(end: &mut End, packet: &[u8], room: usize) -> Said {
         table,
         memory,
         &mut end.lengths,
+        &mut end.lines,
         end.node,
         packet,
         &mut reply,
@@ -97,7 +98,8 @@ fn written(fields: Fields, prefix: &[u8], payload: &[u8]) -> Vec<u8> {
 fn settings_of(asked: &[Settings]) -> u32 {
     let mut table = vec![Channel::blank(); asked.len()];
     let (octets, lengths) = storage(asked);
-    calls::settings(&mut table, &vec![0; octets], &vec![0; lengths], asked).number
+    let (memory, lengths, mut lines) = (vec![0; octets], vec![0; lengths], [0; LINES]);
+    calls::settings(&mut table, &memory, &lengths, &mut lines, asked).number
 }
 
 #[test]
@@ -190,7 +192,7 @@ fn room_for_a_packet() {
     for room in [0, 12, 15, 19] {
         let (table, memory) = (&mut host.table, &mut host.memory);
         let out = &mut out[..room];
-        let said = calls::next_packet(table, memory, &mut host.lengths, HOST, out);
+        let said = calls::next_packet(table, memory, &mut host.lengths, &mut host.lines, HOST, out);
         assert_eq!(said, small(20));
     }
     assert_eq!(out, [0xEE; 20]);

@@ -10,7 +10,7 @@
 mod ends;
 
 use ends::{both_open, done, refused, unserved, End, HOST, LIMITS, STATION};
-use proved::record::{direction, lone, reason, state, PREFIX, SLOTS};
+use proved::record::{direction, lone, reason, state, LINES, PREFIX, SLOTS};
 use proved::{calls, Channel, Limits, Said, Settings};
 
 const INACTIVE: Said = Said {
@@ -138,7 +138,7 @@ fn settings_are_read_field_by_field() {
             ..Settings::default()
         }];
         change(&mut settings[0]);
-        calls::settings(&mut table, &[0; 128], &[0; 8], &settings).number
+        calls::settings(&mut table, &[0; 128], &[0; 8], &mut [0; LINES], &settings).number
     };
     assert_eq!(say(|_| ()), 0);
     assert_eq!(say(|of| of.addresses.direction = 2), 13);

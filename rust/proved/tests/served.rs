@@ -4,7 +4,7 @@
 mod ends;
 
 use ends::{HOST, LIMITS};
-use proved::record::direction;
+use proved::record::{direction, LINES};
 use proved::{storage, Addresses, Answer, Channel, NodeTable, Outcome};
 use proved::{Reason, Refusal, Settings};
 
@@ -34,7 +34,15 @@ fn with_open(play: impl FnOnce(&mut NodeTable)) {
     let (octets, lengths) = storage(&settings);
     let mut table = [Channel::blank(); 6];
     let (mut memory, mut lengths) = (vec![0; octets], vec![0; lengths]);
-    let made = NodeTable::settings(HOST, &mut table, &mut memory, &mut lengths, &settings);
+    let mut lines = [0; LINES];
+    let made = NodeTable::settings(
+        HOST,
+        &mut table,
+        &mut memory,
+        &mut lengths,
+        &mut lines,
+        &settings,
+    );
     let mut node = made.expect("these settings are good");
     for index in 0..6 {
         assert_eq!(node.open(index).index, Some(index));

@@ -5,7 +5,7 @@
 mod ends;
 
 use ends::{both_open, done, refused, End, LIMITS, STATION};
-use proved::record::{direction, SLOTS};
+use proved::record::{direction, LINES, SLOTS};
 use proved::{calls, Addresses, Channel, Limits, Settings};
 
 const WIDEST: Limits = Limits {
@@ -26,7 +26,14 @@ fn settings_with(window: usize) -> u32 {
     let limits = Limits { window, ..WIDEST };
     let mut table = [Channel::blank()];
     let asked = [Settings { addresses, limits }];
-    calls::settings(&mut table, &[0; SLOTS], &[0; SLOTS], &asked).number
+    calls::settings(
+        &mut table,
+        &[0; SLOTS],
+        &[0; SLOTS],
+        &mut [0; LINES],
+        &asked,
+    )
+    .number
 }
 
 #[test]

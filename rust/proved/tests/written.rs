@@ -11,7 +11,7 @@
 mod ends;
 
 use ends::{both_open, done, End, HOST, LIMITS, STATION};
-use proved::record::{direction, lone, state, PREFIX, SLOTS};
+use proved::record::{direction, lone, state, LINES, PREFIX, SLOTS};
 use proved::{calls, Addresses, Channel, Limits, Lone, Phase, Prefix, Settings, Timers, Window};
 
 const SPOILT_LIMITS: Limits = Limits {
@@ -103,7 +103,7 @@ fn settings_write_every_field() {
     });
     let mut table = [SPOILT; 2];
     let (memory, lengths) = ([0; 8 * 16 + 3 * 9], [0; 8 + 3]);
-    let said = calls::settings(&mut table, &memory, &lengths, &settings);
+    let said = calls::settings(&mut table, &memory, &lengths, &mut [0; LINES], &settings);
     assert_eq!((said.number, said.index), (0, 2));
     assert_eq!(table, settings.map(made));
 }

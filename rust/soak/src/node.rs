@@ -2,7 +2,7 @@
 //! copy would give away tells what the node holds.
 
 use link::Noise;
-use proved::record::{state, Channel, Node as Own, Settings, PREFIX};
+use proved::record::{state, Channel, Node as Own, Settings, LINES, PREFIX};
 use proved::{calls, Fields, Said};
 
 /// Any packet and any unit of these channels fits into this buffer.
@@ -15,6 +15,7 @@ pub struct Node {
     table: Vec<Channel>,
     memory: Vec<u8>,
     lengths: Vec<u16>,
+    lines: [u8; LINES],
 }
 
 impl Node {
@@ -32,8 +33,15 @@ impl Node {
             table: vec![Channel::blank(); settings.len()],
             memory: noise.octets(octets),
             lengths: (0..slots).map(|_| noise.number() as u16).collect(),
+            lines: [0xA5; LINES],
         };
-        let said = calls::settings(&mut node.table, &node.memory, &node.lengths, settings);
+        let said = calls::settings(
+            &mut node.table,
+            &node.memory,
+            &node.lengths,
+            &mut node.lines,
+            settings,
+        );
         assert_eq!(said.number, 0);
         node
     }
@@ -45,12 +53,24 @@ impl Node {
 
     /// An Open directive.
     pub fn open(&mut self, index: usize) -> Said {
-        calls::open(&mut self.table, &mut self.memory, &mut self.lengths, index)
+        calls::open(
+            &mut self.table,
+            &mut self.memory,
+            &mut self.lengths,
+            &mut self.lines,
+            index,
+        )
     }
 
     /// A Close directive.
     pub fn close(&mut self, index: usize) -> Said {
-        calls::close(&mut self.table, &mut self.memory, &mut self.lengths, index)
+        calls::close(
+            &mut self.table,
+            &mut self.memory,
+            &mut self.lengths,
+            &mut self.lines,
+            index,
+        )
     }
 
     /// A unit to be sent.
@@ -59,9 +79,10 @@ impl Node {
             table,
             memory,
             lengths,
+            lines,
             ..
         } = self;
-        calls::transfer(table, memory, lengths, index, unit)
+        calls::transfer(table, memory, lengths, lines, index, unit)
     }
 
     /// The oldest complete unit, if there is one.
@@ -70,9 +91,10 @@ impl Node {
             table,
             memory,
             lengths,
+            lines,
             ..
         } = self;
-        written(|out| calls::take(table, memory, lengths, index, out))
+        written(|out| calls::take(table, memory, lengths, lines, index, out))
     }
 
     /// The oldest unit held, if there is one.
@@ -81,9 +103,10 @@ impl Node {
             table,
             memory,
             lengths,
+            lines,
             ..
         } = self;
-        written(|out| calls::reclaim(table, memory, lengths, index, out))
+        written(|out| calls::reclaim(table, memory, lengths, lines, index, out))
     }
 
     /// The next packet, if there is one.
@@ -93,8 +116,9 @@ impl Node {
             table,
             memory,
             lengths,
+            lines,
         } = self;
-        written(|out| calls::next_packet(table, memory, lengths, *own, out))
+        written(|out| calls::next_packet(table, memory, lengths, lines, *own, out))
     }
 
     /// A packet arrives; gives the answer and the reply.
@@ -104,15 +128,21 @@ impl Node {
             table,
             memory,
             lengths,
+            lines,
         } = self;
         let mut reply = [0; 12 + PREFIX];
-        let said = calls::arrival(table, memory, lengths, *own, packet, &mut reply);
+        let said = calls::arrival(table, memory, lengths, lines, *own, packet, &mut reply);
         (said, reply[..said.written()].to_vec())
     }
 
     /// A tick.
     pub fn tick(&mut self) -> Said {
-        calls::tick(&mut self.table, &self.memory, &self.lengths)
+        calls::tick(
+            &mut self.table,
+            &self.memory,
+            &self.lengths,
+            &mut self.lines,
+        )
     }
 
     /// The complete units that wait at a receive end, as a copy gives them.

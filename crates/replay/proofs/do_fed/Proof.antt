@@ -9,13 +9,13 @@ use Rattle.replay.proofs.do_fed.Lts as lts
 use Rattle.replay.proofs.do_record.Reads as do-record-reads
 
 sub-do-record : tie.Need-sub-do-record
-sub-do-record c = let p = c .before .before .before .before .before .pre (c .if1 .taken) in omega arith
+sub-do-record c = let p = c .before .before .before .before .before .before .pre (c .if1 .taken) in omega arith
 
 part-do-record-start : tie.Need-part-do-record-start
-part-do-record-start c = let p = c .before .before .before .before .before .pre (c .if1 .taken) in omega arith
+part-do-record-start c = let p = c .before .before .before .before .before .before .pre (c .if1 .taken) in omega arith
 
 part-do-record-end : tie.Need-part-do-record-end
-part-do-record-end c = let p = c .before .before .before .before .before .pre (c .if1 .taken) in omega arith
+part-do-record-end c = let p = c .before .before .before .before .before .before .pre (c .if1 .taken) in omega arith
 
 do-record-requires : tie.Need-do-record-requires
 do-record-requires c κs = search needs
@@ -25,6 +25,9 @@ same-length c = search needs
 
 same-length-2 : tie.Need-same-length-2
 same-length-2 c = search needs
+
+same-length-3 : tie.Need-same-length-3
+same-length-3 c = search needs
 
 returns : tie.Need-returns
 returns c = search needs
@@ -42,5 +45,6 @@ do-fed-spec =
     do-record-requires
     same-length
     same-length-2
+    same-length-3
     returns
     returns-2)

@@ -13,29 +13,35 @@ use Rattle.engine.proofs.reading.feed.Reads as feed-reads
 use Rattle.replay.proofs.do_fed.Reads as do-fed-reads
 
 abbrev Inv-loop : tie.InvT-loop
-Inv-loop piece mem₀ lens₀ buffer₀ r₀ at₀ mem lens buffer r at = (at ≤ length piece) × (65539 ≤ length buffer) × (length mem ≡ length mem₀) × (length lens ≡ length lens₀) × (length buffer ≡ length buffer₀)
+Inv-loop piece mem₀ lens₀ lines₀ buffer₀ r₀ at₀ mem lens lines buffer r at =
+    (at ≤ length piece)
+    × (65539 ≤ length buffer)
+    × (length mem ≡ length mem₀)
+    × (length lens ≡ length lens₀)
+    × (length lines ≡ length lines₀)
+    × (length buffer ≡ length buffer₀)
 
 abbrev μ-loop : tie.MeasureT-loop
-μ-loop piece mem₀ lens₀ buffer₀ r₀ at₀ mem lens buffer r at = length piece - at
+μ-loop piece mem₀ lens₀ lines₀ buffer₀ r₀ at₀ mem lens lines buffer r at = length piece - at
 
 loop-holds : tie.Need-loop-holds Inv-loop μ-loop
-loop-holds c = (omega arith, omega arith, refl, refl, refl)
+loop-holds c = (omega arith, omega arith, refl, refl, refl, refl)
 
 feed-requires : tie.Need-feed-requires Inv-loop μ-loop
 feed-requires c κs = search needs
 
 do-fed-requires : tie.Need-do-fed-requires Inv-loop μ-loop
-do-fed-requires c κs = c .before .before .before .before .before .feed .ensures .0 (c .before .before .before .before .before .before .before .before .loop .inv .1) .body-lies
+do-fed-requires c κs = c .before .before .before .before .before .before .feed .ensures .0 (c .before .before .before .before .before .before .before .before .before .loop .inv .1) .body-lies
 
 loop-less : tie.Need-loop-less Inv-loop μ-loop
 loop-less c =
-    let on = c .before .before .before .before .before .before .before .before .before .before .feed .ensures .0 (c .before .before .before .before .before .before .before .before .before .before .before .before .before .loop .inv .1) .goes-on (c .before .before .before .before .before .before .before .before .before .before .before .before .loop-test .taken) in
+    let on = c .before .before .before .before .before .before .before .before .before .before .before .before .before .feed .ensures .0 (c .before .before .before .before .before .before .before .before .before .before .before .before .before .before .before .before .loop .inv .1) .goes-on (c .before .before .before .before .before .before .before .before .before .before .before .before .before .before .before .loop-test .taken) in
     omega arith
 
 loop-again : tie.Need-loop-again Inv-loop μ-loop
 loop-again c =
-    let on = c .before .before .before .before .before .before .before .before .before .before .feed .ensures .0 (c .before .before .before .before .before .before .before .before .before .before .before .before .before .loop .inv .1) .goes-on (c .before .before .before .before .before .before .before .before .before .before .before .before .loop-test .taken) in
-    (on .1, omega arith, search needs, search needs, search needs)
+    let on = c .before .before .before .before .before .before .before .before .before .before .before .before .before .feed .ensures .0 (c .before .before .before .before .before .before .before .before .before .before .before .before .before .before .before .before .loop .inv .1) .goes-on (c .before .before .before .before .before .before .before .before .before .before .before .before .before .before .before .loop-test .taken) in
+    (on .1, omega arith, search needs, search needs, search needs, search needs)
 
 same-length : tie.Need-same-length Inv-loop μ-loop
 same-length c = search needs
@@ -45,6 +51,9 @@ same-length-2 c = search needs
 
 same-length-3 : tie.Need-same-length-3 Inv-loop μ-loop
 same-length-3 c = search needs
+
+same-length-4 : tie.Need-same-length-4 Inv-loop μ-loop
+same-length-4 c = search needs
 
 returns : tie.Need-returns Inv-loop μ-loop
 returns c = search needs
@@ -63,4 +72,5 @@ do-piece-spec =
     same-length
     same-length-2
     same-length-3
+    same-length-4
     returns)

@@ -4,7 +4,7 @@ use super::*;
 use proved::Said;
 
 /// Every case that a run must have had, beside those with a list of their own.
-pub const CASES: [&str; 21] = [
+pub const CASES: [&str; 23] = [
     "inactive: retries",
     "inactive: late Open",
     "inactive: Control number",
@@ -25,6 +25,8 @@ pub const CASES: [&str; 21] = [
     "room: exactly 12 octets for a reply",
     "13: an overwritten record lacks its condition",
     "13: an overwritten record has its condition, and keeps it",
+    "13: overwritten lines are not sound",
+    "13: overwritten lines are sound, and stay",
     "13: settings over an overwritten table are accepted",
 ];
 

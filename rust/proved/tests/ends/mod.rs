@@ -1,7 +1,7 @@
 //! A node of one channel with what it lends, for the tests beside this.
 #![allow(dead_code)] // each test uses a part of it
 
-use proved::record::{direction, state};
+use proved::record::{direction, state, LINES};
 use proved::{calls, storage, Addresses, Channel, Limits, Node, Said, Settings};
 
 pub const HOST: Node = Node {
@@ -30,6 +30,7 @@ pub struct End {
     pub table: [Channel; 1],
     pub memory: Vec<u8>,
     pub lengths: Vec<u16>,
+    pub lines: Vec<u8>,
 }
 
 impl End {
@@ -52,8 +53,15 @@ impl End {
             table: [Channel::blank()],
             memory: vec![0; octets],
             lengths: vec![0; lengths],
+            lines: vec![255; LINES],
         };
-        let said = calls::settings(&mut end.table, &end.memory, &end.lengths, &[settings]);
+        let said = calls::settings(
+            &mut end.table,
+            &end.memory,
+            &end.lengths,
+            &mut end.lines,
+            &[settings],
+        );
         assert_eq!(said, unserved(0));
         end
     }
@@ -70,43 +78,60 @@ impl End {
     }
 
     pub fn open(&mut self) -> Said {
-        calls::open(&mut self.table, &mut self.memory, &mut self.lengths, 0)
+        calls::open(
+            &mut self.table,
+            &mut self.memory,
+            &mut self.lengths,
+            &mut self.lines,
+            0,
+        )
     }
 
     pub fn close(&mut self) -> Said {
-        calls::close(&mut self.table, &mut self.memory, &mut self.lengths, 0)
+        calls::close(
+            &mut self.table,
+            &mut self.memory,
+            &mut self.lengths,
+            &mut self.lines,
+            0,
+        )
     }
 
     pub fn tick(&mut self) -> Said {
-        calls::tick(&mut self.table, &self.memory, &self.lengths)
+        calls::tick(
+            &mut self.table,
+            &self.memory,
+            &self.lengths,
+            &mut self.lines,
+        )
     }
 
     pub fn transfer(&mut self, unit: &[u8]) -> Said {
-        let (memory, lengths) = (&mut self.memory, &mut self.lengths);
-        calls::transfer(&mut self.table, memory, lengths, 0, unit)
+        let (memory, lengths, lines) = (&mut self.memory, &mut self.lengths, &mut self.lines);
+        calls::transfer(&mut self.table, memory, lengths, lines, 0, unit)
     }
 
     /// The answer, and the unit.
     pub fn take(&mut self) -> (Said, Vec<u8>) {
         let mut out = [UNTOUCHED; 64];
-        let (memory, lengths) = (&mut self.memory, &mut self.lengths);
-        let said = calls::take(&mut self.table, memory, lengths, 0, &mut out);
+        let (memory, lengths, lines) = (&mut self.memory, &mut self.lengths, &mut self.lines);
+        let said = calls::take(&mut self.table, memory, lengths, lines, 0, &mut out);
         (said, written(&out, said))
     }
 
     /// The answer, and the unit.
     pub fn reclaim(&mut self) -> (Said, Vec<u8>) {
         let mut out = [UNTOUCHED; 64];
-        let (memory, lengths) = (&mut self.memory, &mut self.lengths);
-        let said = calls::reclaim(&mut self.table, memory, lengths, 0, &mut out);
+        let (memory, lengths, lines) = (&mut self.memory, &mut self.lengths, &mut self.lines);
+        let said = calls::reclaim(&mut self.table, memory, lengths, lines, 0, &mut out);
         (said, written(&out, said))
     }
 
     /// The answer, and the packet that goes out next.
     pub fn next(&mut self) -> (Said, Vec<u8>) {
         let mut out = [UNTOUCHED; 64];
-        let (memory, lengths) = (&mut self.memory, &mut self.lengths);
-        let said = calls::next_packet(&mut self.table, memory, lengths, self.node, &mut out);
+        let (memory, lengths, lines) = (&mut self.memory, &mut self.lengths, &mut self.lines);
+        let said = calls::next_packet(&mut self.table, memory, lengths, lines, self.node, &mut out);
         (said, written(&out, said))
     }
 
@@ -121,8 +146,8 @@ impl End {
     pub fn arrival(&mut self, packet: &[u8]) -> (Said, Vec<u8>) {
         let mut reply = [UNTOUCHED; 30];
         let (table, memory) = (&mut self.table, &mut self.memory);
-        let lengths = &mut self.lengths;
-        let said = calls::arrival(table, memory, lengths, self.node, packet, &mut reply);
+        let (lengths, lines) = (&mut self.lengths, &mut self.lines);
+        let said = calls::arrival(table, memory, lengths, lines, self.node, packet, &mut reply);
         (said, written(&reply, said))
     }
 }

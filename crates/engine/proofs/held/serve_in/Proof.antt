@@ -19,6 +19,6 @@ unfolding code.routine tablesOf
 serve-in-spec 𝓤 H 𝓜 𝓖 𝓡 =
     entered 𝓤 H (tripleOf 𝓤 H (𝓖 .A) this.signature (this.spec 𝓤 H (𝓖 .A) (𝓜 .mem) (𝓡 .run)))
     (tables 𝓤 H 𝓜 𝓡 code.env .C) (tables 𝓤 H 𝓜 𝓡 code.env .Λ) #engine·held·serve-in code.function (code.unfolded 𝓤 H 𝓜 𝓡)
-    (held-call-meets held request (λ ys m l n x o r zs m′ l′ o′. leaves r zs m′ l′ o′ ≡ serving ys m l n x o)
+    (held-call-meets held request (λ ys m l li n x o r zs m′ l′ li′ o′. leaves r zs m′ l′ li′ o′ ≡ serving ys m l li n x o)
     perform-def.name 𝓤 H (𝓖 .A) (givenOf 𝓤 H 𝓜 𝓖) (tablesOf 𝓤 H 𝓜 (tables 𝓤 H 𝓜 𝓡 code.env))
     (cited 𝓤 H (tripleOf 𝓤 H (𝓖 .A) perform.signature (perform.spec 𝓤 H (𝓖 .A) (𝓜 .mem) (𝓡 .run))) 𝓜 𝓡 code.env perform-def.name perform-def.routine code.calls-node·door·serve (perform-thm.met 𝓤 H 𝓜 𝓖 𝓡)))

@@ -19,6 +19,6 @@ unfolding code.routine tablesOf
 tick-in-spec 𝓤 H 𝓜 𝓖 𝓡 =
     entered 𝓤 H (tripleOf 𝓤 H (𝓖 .A) this.signature (this.spec 𝓤 H (𝓖 .A) (𝓜 .mem) (𝓡 .run)))
     (tables 𝓤 H 𝓜 𝓡 code.env .C) (tables 𝓤 H 𝓜 𝓡 code.env .Λ) #engine·held·tick-in code.function (code.unfolded 𝓤 H 𝓜 𝓡)
-    (held-sweeping-meets held (λ ys m l r zs. changes r zs ≡ telling (toldOf (tickIndex ys m l)) (ticked ys m l))
+    (held-sweeping-meets held (λ ys m l li r zs li′. changes r zs li′ ≡ telling (toldOf (tickIndex ys m l li)) (ticked ys m l li))
     tick-def.name 𝓤 H (𝓖 .A) (givenOf 𝓤 H 𝓜 𝓖) (tablesOf 𝓤 H 𝓜 (tables 𝓤 H 𝓜 𝓡 code.env))
     (cited 𝓤 H (tripleOf 𝓤 H (𝓖 .A) tick.signature (tick.spec 𝓤 H (𝓖 .A) (𝓜 .mem) (𝓡 .run))) 𝓜 𝓡 code.env tick-def.name tick-def.routine code.calls-ticks·ticking·tick (tick-thm.met 𝓤 H 𝓜 𝓖 𝓡)))

@@ -29,8 +29,13 @@ same-length c = search needs
 same-length-2 : tie.Need-same-length-2
 same-length-2 c = search needs
 
+same-length-3 : tie.Need-same-length-3
+same-length-3 c = search needs
+
 returns : tie.Need-returns
-returns c = let a = c .before .before .before .before .before .before .before .before .args in replays-tick (a .t) (a .mem .now) (a .lens .now) (a .node) (a .kind) (a .body .now) (a .out .now) _ _ (c .before .before .before .if1 .taken) (c .tick-in .ensures)
+returns c =
+    let a = c .before .before .before .before .before .before .before .before .before .before .before .before .args in
+    replays-tick (a .t) (a .mem .now) (a .lens .now) (a .lines .now) (a .node) (a .kind) (a .body .now) (a .out .now) _ _ _ (c .before .before .before .before .before .before .if1 .taken) (c .before .before .tick-in .ensures)
 
 request-of-requires : tie.Need-request-of-requires
 request-of-requires c κs = search needs
@@ -39,10 +44,10 @@ octets-from-requires : tie.Need-octets-from-requires
 octets-from-requires c κs = search needs
 
 sub-serve-in : tie.Need-sub-serve-in
-sub-serve-in c = let a = c .before .before .before .before .before .before .before .before .before .args in omega (arith, from-inside (a .kind) (a .body .now), c .before .before .octets-from .ensures)
+sub-serve-in c = let a = c .before .before .before .before .before .before .before .before .before .before .before .args in omega (arith, from-inside (a .kind) (a .body .now), c .before .before .before .octets-from .ensures)
 
 part-serve-in-start : tie.Need-part-serve-in-start
-part-serve-in-start c = let a = c .before .before .before .before .before .before .before .before .before .args in omega (arith, from-inside (a .kind) (a .body .now), c .before .before .octets-from .ensures)
+part-serve-in-start c = let a = c .before .before .before .before .before .before .before .before .before .before .before .args in omega (arith, from-inside (a .kind) (a .body .now), c .before .before .before .octets-from .ensures)
 
 part-serve-in-end : tie.Need-part-serve-in-end
 part-serve-in-end c = search needs
@@ -50,17 +55,26 @@ part-serve-in-end c = search needs
 serve-in-requires : tie.Need-serve-in-requires
 serve-in-requires c κs = search needs
 
-same-length-3 : tie.Need-same-length-3
-same-length-3 c = search needs
-
 same-length-4 : tie.Need-same-length-4
 same-length-4 c = search needs
 
 same-length-5 : tie.Need-same-length-5
 same-length-5 c = search needs
 
+same-length-6 : tie.Need-same-length-6
+same-length-6 c = search needs
+
+same-length-7 : tie.Need-same-length-7
+same-length-7 c = search needs
+
 returns-2 : tie.Need-returns-2
-returns-2 c = let a = c .before .before .before .before .before .before .before .before .before .before .before .before .before .before .before .before .before .before .args in let u : take (length (a .body .now) - c .before .before .before .before .before .before .before .before .before .before .before .octets-from .result) (drop (c .before .before .before .before .before .before .before .before .before .before .before .octets-from .result) (a .body .now)) ≡ drop (octetsFrom (a .kind) (a .body .now)) (a .body .now) = tail-part (c .before .before .before .before .before .before .before .before .before .before .before .octets-from .result) (a .body .now) ∙ ap (λ (k : ℕ). drop k (a .body .now)) (c .before .before .before .before .before .before .before .before .before .before .before .octets-from .ensures) in c .before .before .before .before .before .before .serve-in .ensures ∙ ap₂ (λ (q : Request) (x : List ℕ). serving (a .t) (a .mem .now) (a .lens .now) q x (a .out .now)) (c .before .before .before .before .before .before .before .before .before .before .before .before .request-of .ensures) u ∙ replays-other (a .t) (a .mem .now) (a .lens .now) (a .node) (a .kind) (a .body .now) (a .out .now) (c .before .before .before .before .before .before .before .before .before .before .before .before .before .if1 .left)
+returns-2 c =
+    let a = c .before .before .before .before .before .before .before .before .before .before .before .before .before .before .before .before .before .before .before .before .before .before .args in
+    let o = c .before .before .before .before .before .before .before .before .before .before .before .before .before .before .octets-from in
+    let u : take (length (a .body .now) - o .result) (drop (o .result) (a .body .now)) ≡ drop (octetsFrom (a .kind) (a .body .now)) (a .body .now) = tail-part (o .result) (a .body .now) ∙ ap (λ (k : ℕ). drop k (a .body .now)) (o .ensures) in
+    c .before .before .before .before .before .before .before .before .serve-in .ensures
+    ∙ ap₂ (λ (q : Request) (x : List ℕ). serving (a .t) (a .mem .now) (a .lens .now) (a .lines .now) q x (a .out .now)) (c .before .before .before .before .before .before .before .before .before .before .before .before .before .before .before .request-of .ensures) u
+    ∙ replays-other (a .t) (a .mem .now) (a .lens .now) (a .lines .now) (a .node) (a .kind) (a .body .now) (a .out .now) (c .before .before .before .before .before .before .before .before .before .before .before .before .before .before .before .before .if1 .left)
 
 pub step-spec : {M : Type 1} → statement M
 step-spec =
@@ -69,6 +83,7 @@ step-spec =
     tick-in-requires
     same-length
     same-length-2
+    same-length-3
     returns
     request-of-requires
     octets-from-requires
@@ -76,7 +91,8 @@ step-spec =
     part-serve-in-start
     part-serve-in-end
     serve-in-requires
-    same-length-3
     same-length-4
     same-length-5
+    same-length-6
+    same-length-7
     returns-2)

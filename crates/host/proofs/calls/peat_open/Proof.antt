@@ -32,8 +32,8 @@ unfolding code.routine tablesOf
 peat-open-spec 𝓤 H 𝓜 𝓖 𝓡 =
     entered 𝓤 H (tripleOf 𝓤 H (𝓖 .A) this.signature (this.spec 𝓤 H (𝓖 .A) (𝓜 .mem) (𝓡 .run)))
     (tables 𝓤 H 𝓜 𝓡 code.env .C) (tables 𝓤 H 𝓜 𝓡 code.env .Λ) #host·calls·peat-open code.function (code.unfolded 𝓤 H 𝓜 𝓡)
-    (door-one-meets door index (λ ys m l i r zs m′ l′. (changes r zs ≡ toldAt (servedIndex ys m l (Open i) [] []) (openCall ys m l i)) × (m′ ≡ m) × (l′ ≡ l)) Open
-    (λ ys m l i r zs m′ l′ e. (ap (λ (w : Called Told Channel). changes (saidOf (w .answer)) (w .table)) e, ap (λ (w : Called Told Channel). w .mem) e ∙ open-stays ys m l [] [] i .0, ap (λ (w : Called Told Channel). w .lens) e ∙ open-stays ys m l [] [] i .1))
+    (door-one-meets door index (λ ys m l li i r zs m′ l′ li′. (changes r zs li′ ≡ toldAt (servedIndex ys m l li (Open i) [] []) (openCall ys m l li i)) × (m′ ≡ m) × (l′ ≡ l)) Open
+    (λ ys m l li i r zs m′ l′ li′ e. (ap (λ (w : Called Told Channel). changes (saidOf (w .answer)) (w .table) (w .lines)) e, ap (λ (w : Called Told Channel). w .mem) e ∙ open-stays ys m l li [] [] i .0, ap (λ (w : Called Told Channel). w .lens) e ∙ open-stays ys m l li [] [] i .1))
     ask-def.name serve-def.name said-of-def.name 𝓤 H (𝓖 .A) (givenOf 𝓤 H 𝓜 𝓖) (tablesOf 𝓤 H 𝓜 (tables 𝓤 H 𝓜 𝓡 code.env))
     (cited 𝓤 H (tripleOf 𝓤 H (𝓖 .A) ask.signature (ask.spec 𝓤 H (𝓖 .A) (𝓜 .mem) (𝓡 .run))) 𝓜 𝓡 code.env ask-def.name ask-def.routine code.calls-host·asking·open-asked (ask-thm.met 𝓤 H 𝓜 𝓖 𝓡))
     (cited 𝓤 H (tripleOf 𝓤 H (𝓖 .A) serve.signature (serve.spec 𝓤 H (𝓖 .A) (𝓜 .mem) (𝓡 .run))) 𝓜 𝓡 code.env serve-def.name serve-def.routine code.calls-node·door·serve (serve-thm.met 𝓤 H 𝓜 𝓖 𝓡))

@@ -26,8 +26,8 @@ unfolding code.routine tablesOf
 peat-settings-spec 𝓤 H 𝓜 𝓖 𝓡 =
     entered 𝓤 H (tripleOf 𝓤 H (𝓖 .A) this.signature (this.spec 𝓤 H (𝓖 .A) (𝓜 .mem) (𝓡 .run)))
     (tables 𝓤 H 𝓜 𝓡 code.env .C) (tables 𝓤 H 𝓜 𝓡 code.env .Λ) #host·calls·peat-settings code.function (code.unfolded 𝓤 H 𝓜 𝓡)
-    (lent-making-meets channel told said settings saidOf (λ ys m l s r zs. changes r zs ≡ telling (toldOf (length ys)) (configured ys m l s))
-    (λ ys m l s r zs. changes r zs ≡ toldAt (length ys) (configured ys m l s)) (λ ys m l s a zs e. ap (telling saidOf) e)
+    (lent-making-meets channel told said settings saidOf (λ ys m l li s r zs li′. changes r zs li′ ≡ telling (toldOf (length ys)) (configured ys m l li s))
+    (λ ys m l li s r zs li′. changes r zs li′ ≡ toldAt (length ys) (configured ys m l li s)) (λ ys m l li s a zs li′ e. ap (telling saidOf) e)
     perform-def.name said-of-def.name 𝓤 H (𝓖 .A) (givenOf 𝓤 H 𝓜 𝓖) (tablesOf 𝓤 H 𝓜 (tables 𝓤 H 𝓜 𝓡 code.env))
     (cited 𝓤 H (tripleOf 𝓤 H (𝓖 .A) perform.signature (perform.spec 𝓤 H (𝓖 .A) (𝓜 .mem) (𝓡 .run))) 𝓜 𝓡 code.env perform-def.name perform-def.routine code.calls-settings·configuring·settings (perform-thm.met 𝓤 H 𝓜 𝓖 𝓡))
     (cited 𝓤 H (tripleOf 𝓤 H (𝓖 .A) said-of.signature (said-of.spec 𝓤 H (𝓖 .A) (𝓜 .mem) (𝓡 .run))) 𝓜 𝓡 code.env said-of-def.name said-of-def.routine code.calls-host·answers·said-of (said-of-thm.met 𝓤 H 𝓜 𝓖 𝓡)))

@@ -25,8 +25,8 @@ unfolding code.routine tablesOf
 peat-tick-spec 𝓤 H 𝓜 𝓖 𝓡 =
     entered 𝓤 H (tripleOf 𝓤 H (𝓖 .A) this.signature (this.spec 𝓤 H (𝓖 .A) (𝓜 .mem) (𝓡 .run)))
     (tables 𝓤 H 𝓜 𝓡 code.env .C) (tables 𝓤 H 𝓜 𝓡 code.env .Λ) #host·calls·peat-tick code.function (code.unfolded 𝓤 H 𝓜 𝓡)
-    (lent-sweeping-meets channel told said saidOf (λ ys m l r zs. changes r zs ≡ telling (toldOf (tickIndex ys m l)) (ticked ys m l))
-    (λ ys m l r zs. changes r zs ≡ toldAt (tickIndex ys m l) (ticked ys m l)) (λ ys m l a zs e. ap (telling saidOf) e)
+    (lent-sweeping-meets channel told said saidOf (λ ys m l li r zs li′. changes r zs li′ ≡ telling (toldOf (tickIndex ys m l li)) (ticked ys m l li))
+    (λ ys m l li r zs li′. changes r zs li′ ≡ toldAt (tickIndex ys m l li) (ticked ys m l li)) (λ ys m l li a zs li′ e. ap (telling saidOf) e)
     perform-def.name said-of-def.name 𝓤 H (𝓖 .A) (givenOf 𝓤 H 𝓜 𝓖) (tablesOf 𝓤 H 𝓜 (tables 𝓤 H 𝓜 𝓡 code.env))
     (cited 𝓤 H (tripleOf 𝓤 H (𝓖 .A) perform.signature (perform.spec 𝓤 H (𝓖 .A) (𝓜 .mem) (𝓡 .run))) 𝓜 𝓡 code.env perform-def.name perform-def.routine code.calls-ticks·ticking·tick (perform-thm.met 𝓤 H 𝓜 𝓖 𝓡))
     (cited 𝓤 H (tripleOf 𝓤 H (𝓖 .A) said-of.signature (said-of.spec 𝓤 H (𝓖 .A) (𝓜 .mem) (𝓡 .run))) 𝓜 𝓡 code.env said-of-def.name said-of-def.routine code.calls-host·answers·said-of (said-of-thm.met 𝓤 H 𝓜 𝓖 𝓡)))

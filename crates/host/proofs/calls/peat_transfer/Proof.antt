@@ -27,8 +27,8 @@ unfolding code.routine tablesOf
 peat-transfer-spec 𝓤 H 𝓜 𝓖 𝓡 =
     entered 𝓤 H (tripleOf 𝓤 H (𝓖 .A) this.signature (this.spec 𝓤 H (𝓖 .A) (𝓜 .mem) (𝓡 .run)))
     (tables 𝓤 H 𝓜 𝓡 code.env .C) (tables 𝓤 H 𝓜 𝓡 code.env .Λ) #host·calls·peat-transfer code.function (code.unfolded 𝓤 H 𝓜 𝓡)
-    (door-taking-meets door index (λ ys m l i x r zs m′ l′. leaves r zs m′ l′ [] ≡ saidAt (servedIndex ys m l (Transfer i) x []) (transferCall ys m l i x)) Transfer
-    (λ ys m l i x r zs m′ l′ e. ap (saying saidOf) e)
+    (door-taking-meets door index (λ ys m l li i x r zs m′ l′ li′. leaves r zs m′ l′ li′ [] ≡ saidAt (servedIndex ys m l li (Transfer i) x []) (transferCall ys m l li i x)) Transfer
+    (λ ys m l li i x r zs m′ l′ li′ e. ap (saying saidOf) e)
     ask-def.name serve-def.name said-of-def.name 𝓤 H (𝓖 .A) (givenOf 𝓤 H 𝓜 𝓖) (tablesOf 𝓤 H 𝓜 (tables 𝓤 H 𝓜 𝓡 code.env))
     (cited 𝓤 H (tripleOf 𝓤 H (𝓖 .A) ask.signature (ask.spec 𝓤 H (𝓖 .A) (𝓜 .mem) (𝓡 .run))) 𝓜 𝓡 code.env ask-def.name ask-def.routine code.calls-host·asking·transfer-asked (ask-thm.met 𝓤 H 𝓜 𝓖 𝓡))
     (cited 𝓤 H (tripleOf 𝓤 H (𝓖 .A) serve.signature (serve.spec 𝓤 H (𝓖 .A) (𝓜 .mem) (𝓡 .run))) 𝓜 𝓡 code.env serve-def.name serve-def.routine code.calls-node·door·serve (serve-thm.met 𝓤 H 𝓜 𝓖 𝓡))

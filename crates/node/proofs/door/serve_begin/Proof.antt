@@ -18,7 +18,7 @@ begin-requires : tie.Need-begin-requires
 begin-requires c κs = search needs
 
 returns : tie.Need-returns
-returns c = c .begin .ensures ∙ ap (λ (l : Look). begun l) (c .before .look-in .ensures)
+returns c = c .begin .ensures ∙ ap (λ (l : Look). begun l (c .before .before .before .before .args .lines .now)) (c .before .look-in .ensures)
 
 pub serve-begin-spec : {M : Type 1} → statement M
 serve-begin-spec = tie.close (tie.spec look-in-requires begin-requires returns)

@@ -1,4 +1,4 @@
--- `node::door::serve_step` meets its contract: the step, with the index told.
+-- `node::door::serve_step` meets its contract: the step, with the index told; the lines are left alone.
 -- Assumes nothing.
 use mathlib.Core.Path.{ap}
 use Rattle.table.specs.Surveying.{placed}
@@ -22,7 +22,9 @@ same-length-3 : tie.Need-same-length-3
 same-length-3 c = search needs
 
 returns : tie.Need-returns
-returns c = ap (placed (c .before .before .before .before .before .before .before .before .before .before .before .before .before .before .before .args .d)) (c .before .before .before .before .before .before .before .step-for .ensures)
+returns c =
+    let a = c .before .before .before .before .before .before .before .before .before .before .before .before .before .before .before .before .args in
+    ap (placed (a .d) (a .lines .now)) (c .before .before .before .before .before .before .before .step-for .ensures)
 
 pub serve-step-spec : {M : Type 1} → statement M
 serve-step-spec = tie.close (tie.spec step-for-requires same-length same-length-2 same-length-3 returns)

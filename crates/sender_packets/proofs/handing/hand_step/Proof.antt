@@ -11,7 +11,7 @@ use Rattle.sender.specs.Directives.{placeAt}
 use Rattle.sender_packets.specs.HandingOut.{againAt, dataFields, sentStep, sentOut, handStep, handOut}
 use Rattle.channel.proofs.StandingLaws.{ringed, own-fits}
 use Rattle.sender_packets.proofs.LyingLaws.{segment-sized}
-use Rattle.sender_packets.proofs.HandLaws.{rank-1-is, rank-2-is, hand-control, hand-again, hand-new, out-control, out-again, out-new}
+use Rattle.sender_packets.proofs.HandLaws.{ready-as, ready-1-is, ready-2-is, hand-control, hand-again, hand-new, out-control, out-again, out-new}
 use borrow.Author.Needs.{needs}
 use Rattle.sender_packets.proofs.handing.hand_step.Statement.{statement}
 use Rattle.sender_packets.proofs.handing.hand_step.Tie as tie
@@ -45,13 +45,13 @@ again-out-requires : tie.Need-again-out-requires
 again-out-requires c κs =
     let k = c .before .before .before .before .before .before .args .c in
     let r = ringed k (c .before .before .before .before .before .before .args .lens .now) (c .before .before .before .before .before .before .pre .0 .standing) in
-    (r, c .again-at .ensures, omega (arith, c .again-at .ensures, rank-1-is k (sym (c .before .before .before .before .before .before .pre .1 .is) ∙ c .before .if2 .taken)))
+    (r, c .again-at .ensures, omega (arith, c .again-at .ensures, ready-1-is k (ready-as k (c .before .if2 .taken) (c .before .before .before .before .before .before .pre .1 .is))))
 
 hand-data-requires : tie.Need-hand-data-requires
 hand-data-requires c κs =
     let k = c .before .before .before .before .before .before .before .before .args .c in
     let r = ringed k (c .before .before .before .before .before .before .before .before .args .lens .now) (c .before .before .before .before .before .before .before .before .pre .0 .standing) in
-    (c .before .before .before .before .before .before .before .before .pre .0, omega (arith, c .before .before .again-at .ensures, r .flight, rank-1-is k (sym (c .before .before .before .before .before .before .before .before .pre .1 .is) ∙ c .before .before .before .if2 .taken)))
+    (c .before .before .before .before .before .before .before .before .pre .0, omega (arith, c .before .before .again-at .ensures, r .flight, ready-1-is k (ready-as k (c .before .before .before .if2 .taken) (c .before .before .before .before .before .before .before .before .pre .1 .is))))
 
 same-length-2 : tie.Need-same-length-2
 same-length-2 c = search needs
@@ -62,7 +62,7 @@ returns-2 c =
     let k = a .c in
     let e = sym (c .before .before .before .before .before .before .if2 .taken) in
     let r = ringed k (a .lens .now) (c .before .before .before .before .before .before .before .before .before .before .before .pre .0 .standing) in
-    let less : againAt k < k .window .ahead = omega (arith, r .flight, rank-1-is k (sym (c .before .before .before .before .before .before .before .before .before .before .before .pre .1 .is) ∙ c .before .before .before .before .before .before .if2 .taken)) in (
+    let less : againAt k < k .window .ahead = omega (arith, r .flight, ready-1-is k (ready-as k (c .before .before .before .before .before .before .if2 .taken) (c .before .before .before .before .before .before .before .before .before .before .before .pre .1 .is))) in (
       c .before .before .hand-data .ensures .0
           ∙ ap₂ (λ (x : Channel) (i : ℕ). sentStep k x (getD (a .lens .now) (slotOf k (placeAt k i)) 0) (length (a .out .now))) (c .before .before .before .before .again-out .ensures) (c .before .before .before .before .before .again-at .ensures)
           ∙ sym (hand-again (a .node) k (a .lens .now) (a .mem .now) (a .out .now))
@@ -77,14 +77,14 @@ new-out-requires : tie.Need-new-out-requires
 new-out-requires c κs =
     let k = c .before .before .before .before .before .args .c in
     let two : c .before .before .before .before .before .args .rank ≡ 2 = omega (arith, c .before .before .before .before .before .pre .1 .some, c .before .if1 .left, c .if2 .left) in
-    (ringed k (c .before .before .before .before .before .args .lens .now) (c .before .before .before .before .before .pre .0 .standing), rank-2-is k (sym (c .before .before .before .before .before .pre .1 .is) ∙ two) .0)
+    (ringed k (c .before .before .before .before .before .args .lens .now) (c .before .before .before .before .before .pre .0 .standing), ready-2-is k (ready-as k two (c .before .before .before .before .before .pre .1 .is)) .0)
 
 hand-data-requires-2 : tie.Need-hand-data-requires-2
 hand-data-requires-2 c κs =
     let a = c .before .before .before .before .before .before .before .args in
     let k = a .c in
     let two : a .rank ≡ 2 = omega (arith, c .before .before .before .before .before .before .before .pre .1 .some, c .before .before .before .if1 .left, c .before .before .if2 .left) in
-    let w = rank-2-is k (sym (c .before .before .before .before .before .before .before .pre .1 .is) ∙ two) in
+    let w = ready-2-is k (ready-as k two (c .before .before .before .before .before .before .before .pre .1 .is)) in
     (c .before .before .before .before .before .before .before .pre .0, w .0)
 
 same-length-3 : tie.Need-same-length-3
@@ -95,7 +95,7 @@ returns-3 c =
     let a = c .before .before .before .before .before .before .before .before .before .before .args in
     let k = a .c in
     let two : a .rank ≡ 2 = omega (arith, c .before .before .before .before .before .before .before .before .before .before .pre .1 .some, c .before .before .before .before .before .before .if1 .left, c .before .before .before .before .before .if2 .left) in
-    let w = rank-2-is k (sym (c .before .before .before .before .before .before .before .before .before .before .pre .1 .is) ∙ two) in (
+    let w = ready-2-is k (ready-as k two (c .before .before .before .before .before .before .before .before .before .before .pre .1 .is)) in (
       c .before .before .hand-data2 .ensures .0
           ∙ ap (λ (x : Channel). sentStep k x (getD (a .lens .now) (slotOf k (placeAt k (k .window .flight))) 0) (length (a .out .now))) (c .before .before .before .before .new-out .ensures)
           ∙ sym (hand-new (a .node) k (a .lens .now) (a .mem .now) (a .out .now))

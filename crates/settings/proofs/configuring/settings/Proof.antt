@@ -9,7 +9,7 @@ use Rattle.walks_sweeping.proofs.Making.{making-meets}
 use Rattle.walks_sweeping.proofs.Testing.{making}
 use Rattle.channel.specs.Record.{madeOf}
 use Rattle.settings.specs.Configuring.{configured}
-use Rattle.settings.specs.Seeing.{begun, seen, verdictOf, madeTold}
+use Rattle.settings.specs.Seeing.{begun, seen, verdictOf, madeTold, cleared}
 use Rattle.settings.proofs.AgreeLaws.{may-fill, agreed}
 use Rattle.settings.proofs.Types.{settings, carried}
 use Rattle.table.proofs.Types.{tested}
@@ -39,7 +39,7 @@ settings-spec 𝓤 H 𝓜 𝓖 𝓡 =
     entered 𝓤 H (tripleOf 𝓤 H (𝓖 .A) this.signature (this.spec 𝓤 H (𝓖 .A) (𝓜 .mem) (𝓡 .run)))
     (tables 𝓤 H 𝓜 𝓡 code.env .C) (tables 𝓤 H 𝓜 𝓡 code.env .Λ) #settings·configuring·settings code.function (code.unfolded 𝓤 H 𝓜 𝓡)
     (making-meets tested settings carried
-    (making tested (of settings) (of carried) begun seen verdictOf madeOf madeTold (λ ys m l xs. telling (toldOf (length ys)) (configured ys m l xs)) may-fill agreed)
+    (making tested (of settings) (of carried) begun seen verdictOf madeOf madeTold (λ n li. cleared li) (λ ys m l li xs. telling (toldOf (length ys)) (configured ys m l li xs)) may-fill agreed)
     see-begin-def.name see-def.name settle-def.name fill-def.name settings-end-def.name 𝓤 H (𝓖 .A) (givenOf 𝓤 H 𝓜 𝓖) (tablesOf 𝓤 H 𝓜 (tables 𝓤 H 𝓜 𝓡 code.env))
     (cited 𝓤 H (tripleOf 𝓤 H (𝓖 .A) see-begin.signature (see-begin.spec 𝓤 H (𝓖 .A) (𝓜 .mem) (𝓡 .run))) 𝓜 𝓡 code.env see-begin-def.name see-begin-def.routine code.calls-settings·seeing·see-begin (see-begin-thm.met 𝓤 H 𝓜 𝓖 𝓡))
     (cited 𝓤 H (tripleOf 𝓤 H (𝓖 .A) see.signature (see.spec 𝓤 H (𝓖 .A) (𝓜 .mem) (𝓡 .run))) 𝓜 𝓡 code.env see-def.name see-def.routine code.calls-settings·configuring·see (see-thm.met 𝓤 H 𝓜 𝓖 𝓡))

@@ -15,18 +15,18 @@ grade-requires c κs = search needs
 choose-requires : tie.Need-choose-requires
 choose-requires c κs = search needs
 
-add-t8 : tie.Need-add-t8
-add-t8 c = search needs
+add-t9 : tie.Need-add-t9
+add-t9 c = search needs
 
 area-requires : tie.Need-area-requires
 area-requires c κs = search needs
 
-add-t10 : tie.Need-add-t10
-add-t10 c = search needs
+add-t11 : tie.Need-add-t11
+add-t11 c = search needs
 
 returns : tie.Need-returns
 returns c = cc
 
 pub note-spec : {M : Type 1} → statement M
 note-spec =
-    tie.close (tie.spec grade-requires choose-requires add-t8 area-requires add-t10 returns)
+    tie.close (tie.spec grade-requires choose-requires add-t9 area-requires add-t11 returns)

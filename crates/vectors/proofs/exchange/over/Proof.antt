@@ -49,6 +49,9 @@ same-length c = search needs
 same-length-2 : tie.Need-same-length-2
 same-length-2 c = search needs
 
+same-length-3 : tie.Need-same-length-3
+same-length-3 c = search needs
+
 returns-4 : tie.Need-returns-4
 returns-4 c = search needs
 
@@ -68,4 +71,5 @@ over-spec =
     arrives-requires
     same-length
     same-length-2
+    same-length-3
     returns-4)

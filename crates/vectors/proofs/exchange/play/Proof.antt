@@ -12,13 +12,14 @@ use Rattle.vectors.proofs.exchange.play.Lts as lts
 use Rattle.vectors.proofs.exchange.act.Reads as act-reads
 
 abbrev Inv-loop : tie.InvT-loop
-Inv-loop mem₀ lens₀ l₀ turn₀ mem lens l turn = (turn ≤ 18) × (length mem ≡ length mem₀) × (length lens ≡ length lens₀)
+Inv-loop mem₀ lens₀ lines₀ l₀ turn₀ mem lens lines l turn =
+    (turn ≤ 18) × (length mem ≡ length mem₀) × (length lens ≡ length lens₀) × (length lines ≡ length lines₀)
 
 abbrev μ-loop : tie.MeasureT-loop
-μ-loop mem₀ lens₀ l₀ turn₀ mem lens l turn = 18 - turn
+μ-loop mem₀ lens₀ lines₀ l₀ turn₀ mem lens lines l turn = 18 - turn
 
 loop-holds : tie.Need-loop-holds Inv-loop μ-loop
-loop-holds c = (omega arith, refl, refl)
+loop-holds c = (omega arith, refl, refl, refl)
 
 act-requires : tie.Need-act-requires Inv-loop μ-loop
 act-requires c κs = search needs
@@ -38,6 +39,9 @@ same-length c = search needs
 same-length-2 : tie.Need-same-length-2 Inv-loop μ-loop
 same-length-2 c = search needs
 
+same-length-3 : tie.Need-same-length-3 Inv-loop μ-loop
+same-length-3 c = search needs
+
 returns : tie.Need-returns Inv-loop μ-loop
 returns c = search needs
 
@@ -54,4 +58,5 @@ play-spec =
     loop-again
     same-length
     same-length-2
+    same-length-3
     returns)

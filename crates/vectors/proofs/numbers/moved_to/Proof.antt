@@ -14,10 +14,11 @@ use Rattle.vectors.proofs.asking.facing.Reads as facing-reads
 use Rattle.vectors.proofs.numbers.arrives.Reads as arrives-reads
 
 abbrev Inv-loop : tie.InvT-loop
-Inv-loop window start mem₀ lens₀ table₀ number₀ t12 mem lens table number = (start < 256) × (length mem ≡ length mem₀) × (length lens ≡ length lens₀)
+Inv-loop window start mem₀ lens₀ lines₀ table₀ number₀ t13 mem lens lines table number =
+    (start < 256) × (length mem ≡ length mem₀) × (length lens ≡ length lens₀) × (length lines ≡ length lines₀)
 
 abbrev μ-loop : tie.MeasureT-loop
-μ-loop window start mem₀ lens₀ table₀ number₀ t12 mem lens table number = start - number
+μ-loop window start mem₀ lens₀ lines₀ table₀ number₀ t13 mem lens lines table number = start - number
 
 facing-requires : tie.Need-facing-requires Inv-loop μ-loop
 facing-requires c κs = search needs
@@ -32,7 +33,7 @@ arrives-requires : tie.Need-arrives-requires Inv-loop μ-loop
 arrives-requires c κs = search needs
 
 loop-holds : tie.Need-loop-holds Inv-loop μ-loop
-loop-holds c = (omega arith, refl, refl)
+loop-holds c = (omega arith, refl, refl, refl)
 
 arrives-requires-2 : tie.Need-arrives-requires-2 Inv-loop μ-loop
 arrives-requires-2 c κs = search needs
@@ -58,6 +59,9 @@ same-length c = search needs
 same-length-2 : tie.Need-same-length-2 Inv-loop μ-loop
 same-length-2 c = search needs
 
+same-length-3 : tie.Need-same-length-3 Inv-loop μ-loop
+same-length-3 c = search needs
+
 returns : tie.Need-returns Inv-loop μ-loop
 returns c = search needs
 
@@ -80,4 +84,5 @@ moved-to-spec =
     loop-again
     same-length
     same-length-2
+    same-length-3
     returns)

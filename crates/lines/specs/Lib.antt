@@ -1,0 +1,4 @@
+pub mod Lines
+pub mod Fit
+pub mod Grades
+pub mod Fair
