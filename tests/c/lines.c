@@ -1,5 +1,5 @@
-/* The lines (document 02, A4): settings empty them, whatever they held; lines of another size, and lines in which no table's channels can
- * stand so, are refused with 13, and all that is lent stays. Sound ones stay too: so far no call puts anybody into them. */
+/* The lines (document 02, A4): settings empty them, whatever they held; lines of another size, and lines in which this table's channels
+ * cannot stand so, are refused with 13, and all that is lent stays. Sound ones stay too: so far no call puts anybody into them. */
 #include <string.h>
 
 #include "check.h"

@@ -1,5 +1,5 @@
 /* Channels to another region (document 02, A7): which records are apart, whose packets are whose, and how much room a reply and a packet need
- * that have a prefix. A node of two records that differ in the remote prefix alone, and a sender. */
+ * that have a prefix. A node of two receivers that the remote prefix tells apart, and a sender. */
 #include <string.h>
 
 #include "check.h"
@@ -56,6 +56,9 @@ static void which_records_are_apart(void) {
     CHECK(settings_with(one) == PEAT_DONE);
     one.addresses.remote_prefix = SETTINGS[0].addresses.remote_prefix;
     CHECK(settings_with(one) == PEAT_SETTINGS);
+    one = SETTINGS[1];
+    one.addresses.own_prefix = SETTINGS[0].addresses.own_prefix;
+    CHECK(settings_with(one) == PEAT_DONE);
     one = SETTINGS[1];
     one.addresses.remote_prefix.octets[2] = 1;
     CHECK(settings_with(one) == PEAT_SETTINGS);
