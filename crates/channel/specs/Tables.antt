@@ -1,5 +1,5 @@
 -- Settings for a whole table at once (document 01, A channel's record and memory): 1 to 16 of them, each fit, and no two with equal channel number,
--- remote address and direction. All others are refused with 13.
+-- remote address, direction and remote prefix. All others are refused with 13.
 use Prim.Native.Nat.{ℕ}
 use mathlib.Core.Bool.{Bool, true, false, not, _&&_, _||_}
 use mathlib.Core.List.{List, [], _∷_}

@@ -32,7 +32,7 @@ pub enum Refusal {
     Small(usize),
     // There is nothing to hand out.
     Nothing,
-    // Bad settings, or a record that lacks its standing condition.
+    // Bad settings, lines that are none of the table's, or a record that lacks its standing condition.
     Settings,
     NoChannel,
     // The ack is ignored.

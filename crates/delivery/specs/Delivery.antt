@@ -23,7 +23,7 @@ use Rattle.delivery.specs.History.{Side, host, subscriber, Call, Event, 
 
 -- ---- the two ends at the beginning
 
--- A table as our calls alone leave it: it passes the test for 13, and no other record has the addresses of this channel (settings refuse that).
+-- A table as our calls alone leave it: it passes the test for 13, the lines apart, and no other record has the addresses of this channel (settings refuse that).
 -- `wide` is no premise on the caller: the type of records fixes it. The channel is CLOSED and holds nothing, whatever came before.
 pub record Fresh (e : End) : Type 0 where
   pub stands : lawful (e .table) (e .mem) (e .lens) ≡ true

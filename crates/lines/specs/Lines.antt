@@ -55,7 +55,7 @@ withLine rank l s = laid s (17 * rank) (lineOctets l)
 abbrev pub noLines : List ℕ
 noLines = replicate 51 0
 
--- ---- what a call does to them
+-- ---- what a call is to do to them
 
 abbrev pub relistIn : ℕ → ℕ → Bool → List ℕ → List ℕ
 relistIn rank i ready s = withLine rank (relisted i ready (lineAt rank s)) s

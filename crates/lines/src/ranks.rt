@@ -81,7 +81,7 @@ fn leave_from(lines: &mut [u8], rank: usize, i: u8)
     leave(&mut lines[at..end], i);
 }
 
-// The lines by value, as a tick carries them through its round.
+// The lines by value, for a tick to carry through its round.
 pub fn relisted(lines: [u8; 51], i: usize, r0: bool, r1: bool, r2: bool) -> [u8; 51]
     requires { ⌜ (Fit 16 lines) × (i < 16) ⌝ }
     ensures { λ r. ⌜ r ≡ relistAll i r0 r1 r2 lines ⌝ }

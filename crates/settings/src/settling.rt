@@ -1,4 +1,4 @@
-// Whether a table, a memory and lengths are what the settings ask for, and the answer.
+// Whether a table, a memory, lengths and lines are what the settings ask for, and the answer.
 use crate::seeing::LINES;
 use crate::seeing::Seen;
 use channel::Answer;
