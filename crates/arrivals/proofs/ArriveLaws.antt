@@ -22,7 +22,7 @@ use Rattle.channel.specs.declared.answer.Refusal.the-variants as refusal
 use Rattle.channel.specs.Steps.{refusing}
 use Rattle.table.specs.declared.looking.Look.{Look}
 use Rattle.table.specs.declared.looking.Sought.{Sought}
-use Rattle.table.specs.declared.looking.Sought.the-variants.{Index, Packet, Ready, Nobody}
+use Rattle.table.specs.declared.looking.Sought.the-variants.{Index, Asked, Packet, Ready, Nobody}
 use Rattle.table.specs.declared.deciding.Decision.{Decision}
 use Rattle.table.specs.Looking.{same, addressed, gradedBy, graded}
 use Rattle.table.specs.Surveying.{stepping}
@@ -34,25 +34,26 @@ use Rattle.arrivals.specs.Arriving.{arriveAs, arriveBy, arrivalFor, Fram
 -- ---- what is looked for
 
 -- a record that suits a packet has its addresses
-addressed-is : (f : Fields) (q : Prefix) (a : Addresses) → addressed f q a < 3 → same a f q ≡ true
+addressed-is : (f : Fields) (q : Prefix) (a : Addresses) → addressed f q a < 48 → same a f q ≡ true
 addressed-is f q a h =
-    either-way (same a f q) (λ e. e) (λ e. absurd (lt-irrefl 3 (subst (λ (k : ℕ). k < 3) (passed-by (same a f q) 0 3 e) h)))
+    either-way (same a f q) (λ e. e) (λ e. absurd (lt-irrefl 48 (subst (λ (k : ℕ). k < 48) (passed-by (same a f q) 0 48 e) h)))
 
 -- an arrival that was found a channel looks for its packet
-sought-is : (node : Node) (s : List ℕ) (room at : ℕ) (c : Channel) (look : Look) → look ≡ lookOf node s room → graded look at c < 3 → look ≡ found s
-sought-is node s room at c look e h = e ∙ found-packet node s room at c (subst (λ (l : Look). graded l at c < 3) e h) .3
+sought-is : (node : Node) (s : List ℕ) (room : ℕ) (lines : List ℕ) (at : ℕ) (c : Channel) (look : Look) → look ≡ lookOf node s room
+    → graded look lines at c < 48 → look ≡ found s
+sought-is node s room lines at c look e h = e ∙ found-packet node s room lines at c (subst (λ (l : Look). graded l lines at c < 48) e h) .3
 
 -- what the step asks of the packet
-pub framed : (node : Node) (s out : List ℕ) (at : ℕ) (c : Channel) (look : Look) (f : Fields) (start x : ℕ)
-    → look ≡ lookOf node s (length out) → graded look at c < 3 → look .sought ≡ Packet f start x → Framed c f start x s out
-framed node s out at c look f start x e h p =
-    let q = found-packet node s (length out) at c (subst (λ (l : Look). graded l at c < 3) e h) in
-    let is = sought-is node s (length out) at c look e h in
+pub framed : (node : Node) (s out lines : List ℕ) (at : ℕ) (c : Channel) (look : Look) (f : Fields) (start x : ℕ)
+    → look ≡ lookOf node s (length out) → graded look lines at c < 48 → look .sought ≡ Packet f start x → Framed c f start x s out
+framed node s out lines at c look f start x e h p =
+    let q = found-packet node s (length out) lines at c (subst (λ (l : Look). graded l lines at c < 48) e h) in
+    let is = sought-is node s (length out) lines at c look e h in
     let same-packet : Packet f start x ≡ Packet (fieldsAt s) (payloadAt (prefixAt s)) (lengthAt s) = sym p ∙ ap (λ (l : Look). l .sought) is in
     let ef : f ≡ fieldsAt s = cc in
     let es : start ≡ payloadAt (prefixAt s) = cc in
     let ex : x ≡ lengthAt s = cc in
-    let suits = addressed-is f (look .prefix) (c .addresses) (subst (λ (l : Sought). gradedBy l (look .prefix) at c < 3) p h) in
+    let suits = addressed-is f (look .prefix) (c .addresses) (subst (λ (l : Sought). gradedBy l (look .prefix) lines at c < 48) p h) in
     record {
       ours = subst (λ (l : Look). same (c .addresses) f (l .prefix) ≡ true) is suits;
       fields = ef;
@@ -64,27 +65,17 @@ framed node s out at c look f start x e h p =
     }
 
 -- no arrival looks for anything else
-pub not-index : (node : Node) (s : List ℕ) (room at i : ℕ) (c : Channel) (look : Look) → look ≡ lookOf node s room → graded look at c < 3
-    → look .sought ≡ Index i → ⊥
-not-index node s room at i c look e h p =
-    true≢false (ap isIndex (sym p ∙ ap (λ (l : Look). l .sought) (sought-is node s room at c look e h)))
-  where
-    isIndex : Sought → Bool
-    isIndex (Index i) = true
-    isIndex (Packet g start x) = false
-    isIndex Ready = false
-    isIndex (Nobody why) = false
+abbrev pub isPacket : Sought → Bool
+isPacket (Index i) = false
+isPacket (Asked i) = false
+isPacket (Packet g start x) = true
+isPacket Ready = false
+isPacket (Nobody why) = false
 
-pub not-ready : (node : Node) (s : List ℕ) (room at : ℕ) (c : Channel) (look : Look) → look ≡ lookOf node s room → graded look at c < 3
-    → look .sought ≡ Ready → ⊥
-not-ready node s room at c look e h p =
-    true≢false (ap isReady (sym p ∙ ap (λ (l : Look). l .sought) (sought-is node s room at c look e h)))
-  where
-    isReady : Sought → Bool
-    isReady (Index i) = false
-    isReady (Packet g start x) = false
-    isReady Ready = true
-    isReady (Nobody why) = false
+pub not-other : (node : Node) (s : List ℕ) (room : ℕ) (lines : List ℕ) (at : ℕ) (c : Channel) (look : Look) (other : Sought)
+    → look ≡ lookOf node s room → graded look lines at c < 48 → look .sought ≡ other → isPacket other ≡ true
+not-other node s room lines at c look other e h p =
+    ap isPacket (sym p ∙ ap (λ (l : Look). l .sought) (sought-is node s room lines at c look e h))
 
 -- ---- one law for each test, and one for all kinds
 

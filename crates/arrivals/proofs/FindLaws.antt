@@ -29,8 +29,8 @@ use Rattle.table.specs.Looking.{gradedBy, graded}
 use Rattle.arrivals.specs.Finding.{isOurs, lookOf, prefixRead}
 
 -- a refusal finds no channel
-pub no-one : (look : Look) (why : Refusal) (at : ℕ) (c : Channel) → look .sought ≡ Nobody why → graded look at c < 3 → ⊥
-no-one look why at c e h = lt-irrefl 3 (subst (λ (l : Sought). gradedBy l (look .prefix) at c < 3) e h)
+pub no-one : (look : Look) (why : Refusal) (lines : List ℕ) (at : ℕ) (c : Channel) → look .sought ≡ Nobody why → graded look lines at c < 48 → ⊥
+no-one look why lines at c e h = lt-irrefl 48 (subst (λ (l : Sought). gradedBy l (look .prefix) lines at c < 48) e h)
 
 -- what a packet that passes the reader's four tests has
 pub record Read-well (s : List ℕ) : Type 0 where
@@ -43,8 +43,8 @@ pub record Read-well (s : List ℕ) : Type 0 where
 abbrev pub found : List ℕ → Look
 found s = record { sought = Packet (fieldsAt s) (payloadAt (prefixAt s)) (lengthAt s); prefix = prefixRead s }
 
-module _ (node : Node) (s : List ℕ) (room at : ℕ) (c : Channel) where
-  pub found-packet : graded (lookOf node s room) at c < 3
+module _ (node : Node) (s : List ℕ) (room : ℕ) (lines : List ℕ) (at : ℕ) (c : Channel) where
+  pub found-packet : graded (lookOf node s room) lines at c < 48
       → (least ≤ room) × Read-well s × (isOurs node (fieldsAt s) ≡ true) × (lookOf node s room ≡ found s)
   unfolding lookOf readOf
   found-packet h = by-room (ltb room least) refl
@@ -54,27 +54,27 @@ module _ (node : Node) (s : List ℕ) (room at : ℕ) (c : Channel) where
 
       by-ours : ltb room least ≡ false → Read-well s → (b : Bool) → isOurs node (fieldsAt s) ≡ b → Wanted
       by-ours r w true e = (ltb-false room least r, w, e, simp (r, w .short, w .damaged, w .lacking, w .strange, e))
-      by-ours r w false e = absurd (no-one (lookOf node s room) refusal.Strange at c (simp (r, w .short, w .damaged, w .lacking, w .strange, e)) h)
+      by-ours r w false e = absurd (no-one (lookOf node s room) refusal.Strange lines at c (simp (r, w .short, w .damaged, w .lacking, w .strange, e)) h)
 
       by-strange : ltb room least ≡ false → short s ≡ false → damaged s ≡ false → lacking (fieldsAt s) (prefixAt s) ≡ false
           → (b : Bool) → strange (fieldsAt s) (lengthAt s) ≡ b → Wanted
       by-strange r e1 e2 e3 false e = by-ours r (record { short = e1; damaged = e2; lacking = e3; strange = e }) (isOurs node (fieldsAt s)) refl
-      by-strange r e1 e2 e3 true e = absurd (no-one (lookOf node s room) refusal.Strange at c (simp (r, e1, e2, e3, e)) h)
+      by-strange r e1 e2 e3 true e = absurd (no-one (lookOf node s room) refusal.Strange lines at c (simp (r, e1, e2, e3, e)) h)
 
       by-lacking : ltb room least ≡ false → short s ≡ false → damaged s ≡ false → (b : Bool) → lacking (fieldsAt s) (prefixAt s) ≡ b → Wanted
       by-lacking r e1 e2 false e = by-strange r e1 e2 e (strange (fieldsAt s) (lengthAt s)) refl
-      by-lacking r e1 e2 true e = absurd (no-one (lookOf node s room) refusal.Lacking at c (simp (r, e1, e2, e)) h)
+      by-lacking r e1 e2 true e = absurd (no-one (lookOf node s room) refusal.Lacking lines at c (simp (r, e1, e2, e)) h)
 
       by-damaged : ltb room least ≡ false → short s ≡ false → (b : Bool) → damaged s ≡ b → Wanted
       by-damaged r e1 false e = by-lacking r e1 e (lacking (fieldsAt s) (prefixAt s)) refl
-      by-damaged r e1 true e = absurd (no-one (lookOf node s room) refusal.Damaged at c (simp (r, e1, e)) h)
+      by-damaged r e1 true e = absurd (no-one (lookOf node s room) refusal.Damaged lines at c (simp (r, e1, e)) h)
 
       by-short : ltb room least ≡ false → (b : Bool) → short s ≡ b → Wanted
       by-short r false e = by-damaged r e (damaged s) refl
-      by-short r true e = absurd (no-one (lookOf node s room) refusal.Short at c (simp (r, e)) h)
+      by-short r true e = absurd (no-one (lookOf node s room) refusal.Short lines at c (simp (r, e)) h)
 
       by-room : (b : Bool) → ltb room least ≡ b → Wanted
-      by-room true e = absurd (no-one (lookOf node s room) (refusal.Small least) at c (simp (e)) h)
+      by-room true e = absurd (no-one (lookOf node s room) (refusal.Small least) lines at c (simp (e)) h)
       by-room false e = by-short e (short s) refl
 
 -- ---- the prefix of a packet that was read

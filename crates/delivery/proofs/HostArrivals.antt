@@ -24,6 +24,7 @@ use Rattle.channel.specs.declared.step.Stepped.{Stepped}
 use Rattle.channel.specs.Answers.{numberOf, confirmedOf}
 use Rattle.channel.specs.Record.{sends, receives}
 use Rattle.sender_acks.specs.Acks.{controlAckStep, dataAckStep}
+use Rattle.table.specs.Waiting.{rankIn}
 use Rattle.table.specs.declared.looking.Look.{Look}
 use Rattle.table.specs.Looking.{looksFor, same, graded, chosen as choice}
 use Rattle.table.proofs.OneLaws.{kind-finds}
@@ -112,9 +113,9 @@ module _ {h s : End} {past : List Event} {x : Sender} {y : Receiver} {t : List C
 
   told : (j : ℕ) (c : Channel) (r : ℕ) (m l : List ℕ) → Given looked j r c m l → Framed c (fieldsAt u) (payloadAt (prefixAt u)) (lengthAt u) u b
   told j c r m l g =
-      let suits = subst (λ (z : ℕ). z < 3) (g .suits) (g .found) in
-      framed (h .node) u b j c looked (fieldsAt u) (payloadAt (prefixAt u)) (lengthAt u) refl suits
-      (ap (λ (l : Look). l .sought) (found-packet (h .node) u (length b) j c suits .3))
+      let suits = subst (λ (z : ℕ). z < 48) (g .suits) (g .found) in
+      framed (h .node) u b (g .lines) j c looked (fieldsAt u) (payloadAt (prefixAt u)) (lengthAt u) refl suits
+      (ap (λ (l : Look). l .sought) (found-packet (h .node) u (length b) (g .lines) j c suits .3))
 
   arrive-elsewhere : (j : ℕ) → j < length t → (j ≡ h .index → ⊥) → (r : ℕ) (m l : List ℕ) → Given looked j r (recordAt t j) m l → (a : Answer) (o : List ℕ)
       → Next k request copy a o (own k) (octets k) (lengths k)
@@ -186,15 +187,15 @@ module _ {h s : End} {past : List Event} {x : Sender} {y : Receiver} {t : List C
       f : Fields
       f = fieldsAt u
 
-      suits : graded looked (h .index) (own k) < 3
-      suits = subst (λ (z : ℕ). z < 3) (g .suits) (g .found)
+      suits : graded looked (g .lines) (h .index) (own k) < 48
+      suits = subst (λ (z : ℕ). z < 48) (g .suits) (g .found)
 
       ours : same (own k .addresses) f (prefixRead u) ≡ true
       ours = told (h .index) (own k) r (octets k) (lengths k) g .ours
 
       named : names h u ≡ true
       named =
-          let q = found-packet (h .node) u (length b) (h .index) (own k) suits in
+          let q = found-packet (h .node) u (length b) (g .lines) (h .index) (own k) suits in
           names-so h u (q .1) (q .2) (subst (λ (a : Addresses). same a f (prefixRead u) ≡ true) (own-addresses k) ours)
 
       looks : (kind : packets.Kind) → kindOf (f .kind) ≡ kind → looksFor kind ≡ sends
@@ -229,4 +230,4 @@ module _ {h s : End} {past : List Event} {x : Sender} {y : Receiver} {t : List C
       (Next k request copy)
       (λ why. arrive-quiet (Refused why) b (λ _. refl))
       (λ j there apart at g. arrive-elsewhere j there apart _ _ _ g _ _)
-      (λ at g. arrive-own fair (choice looked t .rank) g)
+      (λ at g. arrive-own fair (rankIn (choice looked lines t .grade)) g)

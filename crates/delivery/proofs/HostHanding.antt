@@ -29,16 +29,16 @@ use Rattle.channel.specs.Prefixes.{samePrefix}
 use Rattle.channel.specs.Record.{sends}
 use Rattle.sender_packets.specs.Asked.{Ready}
 use Rattle.sender_packets.specs.HandingOut.{segmentFor, nextOut}
+use Rattle.table.specs.Waiting.{rankIn}
 use Rattle.table.specs.declared.looking.Sought.the-variants as sought
 use Rattle.table.specs.Looking.{seeking}
 use Rattle.table.specs.Looking.{looksFor, same, chosen as choice}
 use Rattle.table.specs.Serving.{recordAt, ownMem, ownLens}
 use Rattle.requests.specs.Handing.{nextFor}
-use Rattle.requests.proofs.HandLaws.{ready-is}
 use Rattle.arrivals.specs.Finding.{isOurs, prefixRead}
 use Rattle.node.specs.declared.request.Request.the-variants.{NextPacket}
 use Rattle.node.specs.Calls.{served}
-use Rattle.keeps.proofs.StepsKeep.{next-keeps}
+use Rattle.keeps.proofs.StepsKeep.{next-keeps, given-ready}
 use Rattle.keeps.proofs.CallsAlone.{shapes}
 use Rattle.protocol.specs.Numbers.{numberAt, distance}
 use Rattle.protocol.specs.Units.{Segment, blank}
@@ -237,8 +237,8 @@ module _ {h s : End} {past : List Event} {x : Sender} {y : Receiver} {t : List C
       (Next k request copy)
       (λ why. hand-refused why b)
       (λ j there apart at g.
-      let r = ready-is (recordAt t j) (choice (seeking sought.Ready) t .rank) (g .suits) (g .found) in
-      hand-elsewhere j there apart at (choice (seeking sought.Ready) t .rank) (r .0) (r .1))
+      let r = given-ready j _ (recordAt t j) _ _ g in
+      hand-elsewhere j there apart at (rankIn (choice (seeking sought.Ready) lines t .grade)) (r .0) (r .1))
       (λ at g.
-      let r = ready-is (own k) (choice (seeking sought.Ready) t .rank) (g .suits) (g .found) in
-      hand-own (choice (seeking sought.Ready) t .rank) (r .1))
+      let r = given-ready (h .index) _ (own k) _ _ g in
+      hand-own (rankIn (choice (seeking sought.Ready) lines t .grade)) (r .1))

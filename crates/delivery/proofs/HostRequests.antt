@@ -22,14 +22,15 @@ use Rattle.channel.specs.Steps.{refusing}
 use Rattle.sender.specs.Directives as sender
 use Rattle.receiver_data.specs.Taking.{takeStep, takeOut}
 use Rattle.table.specs.declared.looking.Look.{Look}
-use Rattle.table.specs.declared.looking.Sought.the-variants.{Index, Nobody}
+use Rattle.table.specs.declared.looking.Sought.the-variants.{Index, Asked, Nobody}
 use Rattle.table.specs.Looking.{seeking}
 use Rattle.table.specs.Serving.{Step, alone, serveOne}
 use Rattle.requests.specs.Requests.{openedBy, closedBy, askedBy, takeFor}
 use Rattle.requests.proofs.RequestLaws.{opened-sends, closed-sends}
 use Rattle.node.specs.declared.request.Request.the-variants.{Open, Close, WouldTransfer, Take, Unknown}
 use Rattle.node.specs.Calls.{served}
-use Rattle.keeps.proofs.Alone.{Shapes, index-served}
+use Rattle.keeps.proofs.Alone.{Shapes, index-served, asked-served}
+use Rattle.keeps.specs.Keeping.{Given}
 use Rattle.keeps.proofs.StepsKeep.{open-keeps, close-keeps, take-keeps}
 use Rattle.keeps.proofs.CallsAlone.{shapes}
 use Rattle.keeps.proofs.DoorKeeps.{question-keeps, unknown-keeps}
@@ -69,19 +70,26 @@ module _ {h s : End} {past : List Event} {x : Sender} {y : Receiver} {t : List C
   request-quiet a-reclaims copy i u b a o e =
       stays-so k (asking reclaims i u b) copy a o refl refl (passed-by (eqb i (h .index) && eqb (numberOf a) 0) _ _ e) (λ packet q. absurd (true≢false (sym q)))
 
-  -- a view that holds for another channel, for a refusal, and for its own step
+  -- a view that holds for another channel, for a refusal, and for its own step; of what names its channel
+  pub by-name : (look : Look) (P : View) (i : ℕ) → ((at rank : ℕ) (c : Channel) (m l : List ℕ) → Given look at rank c m l → at ≡ i)
+      → (step : Step) (out : List ℕ) → Shapes look step out
+      → ((a : Answer) (o : List ℕ) → (eqb i (h .index) && eqb (numberOf a) 0) ≡ false → P a o (own k) (octets k) (lengths k))
+      → (i ≡ h .index → (rank : ℕ) → Left P (step (own k) rank (octets k) (lengths k) out))
+      → Seen P (h .index) (serveOne look step t mem lens lines out)
+  by-name look P i named step out shaped quiet mine =
+      own-cases look step t mem lens lines out shaped (h .index) (own-below k) P
+      (λ why. quiet (Refused why) out (last-not (eqb i (h .index)) (eqb (numberOf (Refused why)) 0) (refused-not-done why)))
+      (λ j there apart at g.
+      let w = workedAt look step t mem lens lines out shaped (h .index) (own-below k) j in
+      quiet (w .made .answer) (w .out)
+      (ap (λ (q : Bool). q && eqb (numberOf (w .made .answer)) 0) (ne-eqb i (h .index) (λ q. apart (named j _ _ _ _ g ∙ q)))))
+      (λ at g. mine (sym (named (h .index) _ _ _ _ g)) _)
+
   pub by-index : (P : View) (i : ℕ) (step : Step) (out : List ℕ) → Shapes (seeking (Index i)) step out
       → ((a : Answer) (o : List ℕ) → (eqb i (h .index) && eqb (numberOf a) 0) ≡ false → P a o (own k) (octets k) (lengths k))
       → (i ≡ h .index → (rank : ℕ) → Left P (step (own k) rank (octets k) (lengths k) out))
       → Seen P (h .index) (serveOne (seeking (Index i)) step t mem lens lines out)
-  by-index P i step out shaped quiet mine =
-      own-cases (seeking (Index i)) step t mem lens lines out shaped (h .index) (own-below k) P
-      (λ why. quiet (Refused why) out (last-not (eqb i (h .index)) (eqb (numberOf (Refused why)) 0) (refused-not-done why)))
-      (λ j there apart at g.
-      let w = workedAt (seeking (Index i)) step t mem lens lines out shaped (h .index) (own-below k) j in
-      quiet (w .made .answer) (w .out)
-      (ap (λ (q : Bool). q && eqb (numberOf (w .made .answer)) 0) (ne-eqb i (h .index) (λ q. apart (index-served i j _ _ _ _ g ∙ q)))))
-      (λ at g. mine (sym (index-served i (h .index) _ _ _ _ g)) _)
+  by-index P i = by-name (seeking (Index i)) P i (index-served i)
 
 -- ---- the Open directive
 
@@ -159,8 +167,8 @@ module _ {h s : End} {past : List Event} {x : Sender} {y : Receiver} {t : List C
   pub host-asks : (copy i : ℕ) (u b : List ℕ) → Seen (Next k (asking asks i u b) copy) (h .index) (served t mem lens lines (WouldTransfer i (length u)) u b)
   unfolding askedBy
   host-asks copy i u b =
-      by-index k (Next k (asking asks i u b) copy) i (alone (askedBy (length u))) b
-      (shapes (seeking (Index i)) (alone (askedBy (length u))) b (question-keeps (seeking (Index i)) (length u) b))
+      by-name k (seeking (Asked i)) (Next k (asking asks i u b) copy) i (asked-served i) (alone (askedBy (length u))) b
+      (shapes (seeking (Asked i)) (alone (askedBy (length u))) b (question-keeps (seeking (Asked i)) (length u) b))
       (λ a o q. ask-quiet copy i u b a o)
       (λ at rank. ask-quiet copy i u b (askedBy (length u) (own k) .answer) b)
 

@@ -170,13 +170,13 @@ module _ (node other : Node) (a b : Addresses) (number : ℕ) (q : Prefix) where
 -- ---- what an arrival writes at the channel that it is for
 
 module _ (node : Node) (packet out : List ℕ) (at rank : ℕ) (c : Channel) (mem lens : List ℕ) (given : Given (lookOf node packet (length out)) at rank c mem lens) where
-  suits : graded (lookOf node packet (length out)) at c < 3
-  suits = subst (λ (k : ℕ). k < 3) (given .suits) (given .found)
+  suits : graded (lookOf node packet (length out)) (given .lines) at c < 48
+  suits = subst (λ (k : ℕ). k < 48) (given .suits) (given .found)
 
   pub arrival-framed : Framed c (fieldsAt packet) (payloadAt (prefixAt packet)) (lengthAt packet) packet out
   arrival-framed =
-      framed node packet out at c (lookOf node packet (length out)) (fieldsAt packet) (payloadAt (prefixAt packet)) (lengthAt packet) refl suits
-      (ap (λ (l : Look). l .sought) (found-packet node packet (length out) at c suits .3))
+      framed node packet out (given .lines) at c (lookOf node packet (length out)) (fieldsAt packet) (payloadAt (prefixAt packet)) (lengthAt packet) refl suits
+      (ap (λ (l : Look). l .sought) (found-packet node packet (length out) (given .lines) at c suits .3))
 
   abbrev n : ℕ
   n = fieldsAt packet .number

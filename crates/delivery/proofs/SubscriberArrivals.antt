@@ -32,6 +32,7 @@ use Rattle.channel.proofs.StandingLaws.{own-fits}
 use Rattle.channel.specs.Steps.{refusing}
 use Rattle.channel.specs.Settings.{clash}
 use Rattle.receiver.specs.Receiving.{ackLength, controlStep}
+use Rattle.table.specs.Waiting.{rankIn}
 use Rattle.table.specs.declared.looking.Look.{Look}
 use Rattle.table.specs.Looking.{same, chosen as choice}
 use Rattle.table.proofs.OneLaws.{kind-finds}
@@ -126,8 +127,8 @@ module _ {h s : End} {past : List Event} {x : Sender} {y : Receiver} {t : List C
       ∙ w .beginning .alone j (subst (λ (k : ℕ). j < k) (same-length s t mem lens (w .now .kept)) there) apart)
 
   elsewhere : (j : ℕ) → j < length t → (j ≡ i → ⊥) → indexFor w request ≡ j
-      → Given look j (choice look t .rank) (recordAt t j) (ownMem t j mem) (ownLens t j lens)
-      → (v : Worked Stepped) → arrivalFor (s .node) packet (recordAt t j) (choice look t .rank) (ownMem t j mem) (ownLens t j lens) buffer ≡ v
+      → Given look j (rankIn (choice look lines t .grade)) (recordAt t j) (ownMem t j mem) (ownLens t j lens)
+      → (v : Worked Stepped) → arrivalFor (s .node) packet (recordAt t j) (rankIn (choice look lines t .grade)) (ownMem t j mem) (ownLens t j lens) buffer ≡ v
       → Next w request copy (v .made .answer) (v .out) c m l
   elsewhere j there apart index g v e =
       arrives-quiet (v .made .answer) (v .out)
@@ -139,7 +140,7 @@ module _ {h s : End} {past : List Event} {x : Sender} {y : Receiver} {t : List C
       (take (lengthOf (u .made .answer)) (u .out) ≡ [])
       ⊎ (Acks (s .node) (recordAt t j .addresses) packet-kind.ControlAck (f .number) (take (lengthOf (u .made .answer)) (u .out)))
       ⊎ ((recordAt t j .addresses .direction ≡ receives) × Acks (s .node) (recordAt t j .addresses) packet-kind.DataAck (f .number) (take (lengthOf (u .made .answer)) (u .out)))) e
-      (arrival-wrote (s .node) packet buffer j (choice look t .rank) (recordAt t j) (ownMem t j mem) (ownLens t j lens) g)))
+      (arrival-wrote (s .node) packet buffer j (rankIn (choice look lines t .grade)) (recordAt t j) (ownMem t j mem) (ownLens t j lens) g)))
 
   -- ---- at the channel itself
 
@@ -150,7 +151,7 @@ module _ {h s : End} {past : List Event} {x : Sender} {y : Receiver} {t : List C
 
     for-us : names s packet ≡ true
     for-us =
-        let q = found-packet (s .node) packet (length buffer) i c (subst (λ (k : ℕ). k < 3) (g .suits) (g .found)) in
+        let q = found-packet (s .node) packet (length buffer) (g .lines) i c (subst (λ (k : ℕ). k < 48) (g .suits) (g .found)) in
         names-so s packet (q .1) (q .2) (ap (λ (a : Addresses). same a f (prefixRead packet)) (sym (addresses-are w)) ∙ told .ours)
 
     short-payload : unfit c f count ≡ false → kindOf (f .kind) ≡ packet-kind.Data → length p ≤ c .limits .payload
@@ -207,5 +208,5 @@ module _ {h s : End} {past : List Event} {x : Sender} {y : Receiver} {t : List C
       (Next w request copy)
       (λ why. arrives-quiet (Refused why) buffer (unwritten w request copy (Refused why) buffer refl))
       (λ j there apart at g.
-      elsewhere j there apart at g (arrivalFor (s .node) packet (recordAt t j) (choice look t .rank) (ownMem t j mem) (ownLens t j lens) buffer) refl)
-      (λ at g. own-arrival fair (choice look t .rank) g (toward-itself s _ at))
+      elsewhere j there apart at g (arrivalFor (s .node) packet (recordAt t j) (rankIn (choice look lines t .grade)) (ownMem t j mem) (ownLens t j lens) buffer) refl)
+      (λ at g. own-arrival fair (rankIn (choice look lines t .grade)) g (toward-itself s _ at))

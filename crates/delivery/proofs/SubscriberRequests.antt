@@ -21,17 +21,17 @@ use Rattle.channel.specs.Record.{sends, noLone}
 use Rattle.channel.specs.Steps.{refusing, doing, enabledOf}
 use Rattle.receiver.specs.Receiving.{openStep}
 use Rattle.ends.proofs.ReceiverCases.{open-cases}
+use Rattle.table.specs.Waiting.{rankIn}
 use Rattle.table.specs.declared.looking.Look.{Look}
-use Rattle.table.specs.declared.looking.Sought.the-variants.{Index, Ready, Nobody}
+use Rattle.table.specs.declared.looking.Sought.the-variants.{Index, Asked, Ready, Nobody}
 use Rattle.table.specs.Looking.{seeking}
 use Rattle.table.specs.Looking.{chosen as choice}
 use Rattle.table.specs.Serving.{recordAt, ownMem, ownLens, Step, serveOne, alone}
 use Rattle.requests.specs.Requests.{openedBy, closedBy, transferFor, askedBy, reclaimFor}
 use Rattle.requests.specs.Handing.{nextFor}
 use Rattle.requests.proofs.RequestLaws.{opened-receives, closed-receives, asked-receives}
-use Rattle.requests.proofs.HandLaws.{ready-is}
 use Rattle.keeps.specs.Keeping.{Given}
-use Rattle.keeps.proofs.StepsKeep.{open-keeps, close-keeps, reclaim-keeps, next-keeps}
+use Rattle.keeps.proofs.StepsKeep.{open-keeps, close-keeps, reclaim-keeps, next-keeps, given-ready}
 use Rattle.keeps.proofs.CallsAlone.{shapes, transfer-shapes}
 use Rattle.keeps.proofs.DoorKeeps.{question-keeps, unknown-keeps}
 use Rattle.keeps.proofs.Alone.{Shapes, index-served}
@@ -89,7 +89,7 @@ module _ {h s : End} {past : List Event} {x : Sender} {y : Receiver} {t : List C
 
   unmoved : (kind : Kind) → ((a : Answer) (o : List ℕ) → Next w (request kind) copy a o c m l)
       → (look : Look) (step : Step) (out : List ℕ) → Shapes look step out
-      → (why : Refusal) → (Given look i (choice look t .rank) c m l → step c (choice look t .rank) m l out ≡ works (refusing c why) m l out)
+      → (why : Refusal) → (Given look i (rankIn (choice look lines t .grade)) c m l → step c (rankIn (choice look lines t .grade)) m l out ≡ works (refusing c why) m l out)
       → Seen (Next w (request kind) copy) i (serveOne look step t mem lens lines out)
   unmoved kind nothing look step out shape why refuses =
       own-cases look step t mem lens lines out shape i (below w) (Next w (request kind) copy)
@@ -107,28 +107,28 @@ module _ {h s : End} {past : List Event} {x : Sender} {y : Receiver} {t : List C
   subscriber-transfers =
       unmoved transfers (λ a o. quiet w (request transfers) copy a o refl refl (λ packet q. absurd (true≢false (sym q))))
       (seeking (Index channel)) (transferFor octets) buffer (transfer-shapes (seeking (Index channel)) octets buffer) refusal.State
-      (λ g. transfer-refused c (choice (seeking (Index channel)) t .rank) m l buffer (not-sending w) octets)
+      (λ g. transfer-refused c (rankIn (choice (seeking (Index channel)) lines t .grade)) m l buffer (not-sending w) octets)
 
   -- whatever is asked
   pub subscriber-asks : Shown asks
   subscriber-asks =
       unmoved asks (λ a o. quiet w (request asks) copy a o refl refl (λ packet q. absurd (true≢false (sym q))))
-      (seeking (Index channel)) (alone (askedBy (length octets))) buffer
-      (shapes (seeking (Index channel)) (alone (askedBy (length octets))) buffer (question-keeps (seeking (Index channel)) (length octets) buffer)) refusal.State
+      (seeking (Asked channel)) (alone (askedBy (length octets))) buffer
+      (shapes (seeking (Asked channel)) (alone (askedBy (length octets))) buffer (question-keeps (seeking (Asked channel)) (length octets) buffer)) refusal.State
       (λ g. ap (λ (z : Stepped). works z m l buffer) (asked-receives c (length octets) (not-sending w)))
 
   pub subscriber-reclaims : Shown reclaims
   subscriber-reclaims =
       unmoved reclaims (λ a o. quiet w (request reclaims) copy a o refl refl (λ packet q. absurd (true≢false (sym q))))
       (seeking (Index channel)) reclaimFor buffer (shapes (seeking (Index channel)) reclaimFor buffer (reclaim-keeps (seeking (Index channel)) buffer)) refusal.State
-      (λ g. reclaim-refused c (choice (seeking (Index channel)) t .rank) m l buffer (not-sending w))
+      (λ g. reclaim-refused c (rankIn (choice (seeking (Index channel)) lines t .grade)) m l buffer (not-sending w))
 
   -- a receiver hands out nothing
   pub subscriber-hands : Shown hands
   subscriber-hands =
       unmoved hands (λ a o. quiet w (request hands) copy a o refl refl (λ packet q. absurd (true≢false (sym q))))
       (seeking Ready) (nextFor (s .node)) buffer (shapes (seeking Ready) (nextFor (s .node)) buffer (next-keeps (s .node) buffer)) refusal.Nothing
-      (λ g. absurd (not-sending w (ready-is c (choice (seeking Ready) t .rank) (g .suits) (g .found) .0)))
+      (λ g. absurd (not-sending w (given-ready i _ c m l g .0)))
 
   -- a request that is none
   pub subscriber-strays : Shown strays

@@ -26,6 +26,7 @@ use Rattle.channel.specs.Steps.{refusing, doing}
 use Rattle.channel.specs.Answers.{numberOf}
 use Rattle.receiver_data.specs.Taking.{completeIn, unitAt, sizeAt, dropped, takeStep, takeOut}
 use Rattle.receiver_data.proofs.TakeLaws.{take-nothing, take-small, take-done, out-nothing, out-small, out-done}
+use Rattle.table.specs.Waiting.{rankIn}
 use Rattle.table.specs.declared.looking.Sought.the-variants.{Index}
 use Rattle.table.specs.Looking.{seeking}
 use Rattle.table.specs.Looking.{chosen as choice}
@@ -162,9 +163,9 @@ module _ {h s : End} {past : List Event} {x : Sender} {y : Receiver} {t : List C
       (Next w request copy)
       (λ why. takes-refused why buffer)
       (λ j there apart at g.
-      let step = takeFor (recordAt t j) (choice (seeking (Index channel)) t .rank) (ownMem t j mem) (ownLens t j lens) buffer in
+      let step = takeFor (recordAt t j) (rankIn (choice (seeking (Index channel)) lines t .grade)) (ownMem t j mem) (ownLens t j lens) buffer in
       takes-quiet (step .made .answer) (step .out)
       (for-another subscriber takes i (subscriberEvent request copy n (indexFor w request) (step .made .answer) (step .out)) (other-index channel j i _ _ _ _ apart g)))
       (λ at g.
-      subst (Left (Next w request copy)) (sym (takes-by c (choice (seeking (Index channel)) t .rank) m l buffer (receiving w)))
+      subst (Left (Next w request copy)) (sym (takes-by c (rankIn (choice (seeking (Index channel)) lines t .grade)) m l buffer (receiving w)))
       (takes-own (sym (index-served channel i _ _ _ _ g))))

@@ -27,11 +27,13 @@ use Rattle.channel.specs.declared.answer.Refusal.{Refusal}
 use Rattle.channel.specs.declared.step.Stepped.{Stepped}
 use Rattle.channel.specs.declared.record.Prefix.{Prefix}
 use Rattle.table.specs.declared.looking.Look.{Look}
-use Rattle.table.specs.declared.looking.Sought.the-variants.{Index, Packet, Nobody}
+use Rattle.table.specs.declared.looking.Sought.{Sought}
+use Rattle.table.specs.Waiting.{rankIn}
+use Rattle.table.specs.declared.looking.Sought.the-variants.{Index, Asked, Packet, Nobody}
 use Rattle.table.specs.Looking.{seeking}
 use Rattle.table.specs.Looking.{addressed, graded, missing, Chosen, chosenFrom, isFound, chosen as choice}
 use Rattle.table.specs.Lent.{areaOf, partOf, slotAt, octetAt}
-use Rattle.table.specs.Serving.{blank, recordAt, ownMem, ownLens, Step, stored, serveOne}
+use Rattle.table.specs.Serving.{blank, recordAt, ownMem, ownLens, Step, stored, worked as workedBy, serveOne}
 use Rattle.table.proofs.ServeLaws.{Lawful, passing-is, found-below}
 use Rattle.keeps.specs.Keeping.{Given, Kept, OthersStay, SameOwn, SameFor, addressesIn, OwnChannelAlone}
 use Rattle.keeps.proofs.Storing.{slots-before, octets-before}
@@ -52,7 +54,10 @@ Shapes look step out = (at rank : ℕ) (c : Channel) (mem lens : List ℕ) → G
 
 -- ---- a record stored, and its parts laid in their place
 
-module _ (t : List Channel) (mem lens lines : List ℕ) (h : Lawful t mem lens) (i : ℕ) (below : i < length t) (w : Worked Stepped) (k : Shaped (recordAt t i) w) where
+module _ (t : List Channel) (mem lens lines : List ℕ) (h : Lawful t mem lens) (sought : Sought) (x : Chosen) (below : x .at < length t) (w : Worked Stepped) (k : Shaped (recordAt t (x .at)) w) where
+  abbrev i : ℕ
+  i = x .at
+
   in-mem : octetAt t i + length (w .mem) ≤ length mem
   in-mem = omega (arith, octets-inside t mem lens h i below, k .sized .exact)
 
@@ -60,7 +65,7 @@ module _ (t : List Channel) (mem lens lines : List ℕ) (h : Lawful t mem lens) 
   in-lens = omega (arith, slots-inside t mem lens h i below, k .sized .each)
 
   -- all else stays
-  pub stored-others : OthersStay t mem lens i (stored t mem lens lines i w)
+  pub stored-others : OthersStay t mem lens i (stored sought t mem lens lines x w)
   unfolding stored
   stored-others =
       record {
@@ -80,11 +85,11 @@ module _ (t : List Channel) (mem lens lines : List ℕ) (h : Lawful t mem lens) 
       }
 
   -- and there stands what the step left
-  pub stored-record : recordAt (stored t mem lens lines i w .table) i ≡ w .made .channel
+  pub stored-record : recordAt (stored sought t mem lens lines x w .table) i ≡ w .made .channel
   unfolding stored
   stored-record = getD-set-same t i (w .made .channel) blank below
 
-  pub stored-mem : ownMem (stored t mem lens lines i w .table) i (stored t mem lens lines i w .mem) ≡ w .mem
+  pub stored-mem : ownMem (stored sought t mem lens lines x w .table) i (stored sought t mem lens lines x w .mem) ≡ w .mem
   unfolding stored
   stored-mem =
       ap₂ (λ (at : ℕ) (c : Channel). partOf at (areaOf (c .limits)) (laid mem (octetAt t i) (w .mem))) (octets-before (w .made .channel) t i i (k .limits)) stored-record
@@ -92,7 +97,7 @@ module _ (t : List Channel) (mem lens lines : List ℕ) (h : Lawful t mem lens) 
       ∙ ap (λ (n : ℕ). partOf (octetAt t i) n (laid mem (octetAt t i) (w .mem))) (sym (k .sized .exact))
       ∙ laid-here mem (octetAt t i) (w .mem) in-mem
 
-  pub stored-lens : ownLens (stored t mem lens lines i w .table) i (stored t mem lens lines i w .lens) ≡ w .lens
+  pub stored-lens : ownLens (stored sought t mem lens lines x w .table) i (stored sought t mem lens lines x w .lens) ≡ w .lens
   unfolding stored
   stored-lens =
       ap₂ (λ (at : ℕ) (c : Channel). partOf at (c .limits .slots) (laid lens (slotAt t i) (w .lens))) (slots-before (w .made .channel) t i i (k .limits)) stored-record
@@ -101,10 +106,10 @@ module _ (t : List Channel) (mem lens lines : List ℕ) (h : Lawful t mem lens) 
       ∙ laid-here lens (slotAt t i) (w .lens) in-lens
 
 -- the answer and the buffer are the step's
-said : (t : List Channel) (mem lens lines : List ℕ) (t2 : List Channel) (mem2 lens2 lines2 : List ℕ) (i : ℕ) (w w2 : Worked Stepped) → w ≡ w2
-    → (stored t mem lens lines i w .answer ≡ stored t2 mem2 lens2 lines2 i w2 .answer) × (stored t mem lens lines i w .out ≡ stored t2 mem2 lens2 lines2 i w2 .out)
+said : (sought : Sought) (t : List Channel) (mem lens lines : List ℕ) (t2 : List Channel) (mem2 lens2 lines2 : List ℕ) (x : Chosen) (w w2 : Worked Stepped) → w ≡ w2
+    → (stored sought t mem lens lines x w .answer ≡ stored sought t2 mem2 lens2 lines2 x w2 .answer) × (stored sought t mem lens lines x w .out ≡ stored sought t2 mem2 lens2 lines2 x w2 .out)
 unfolding stored
-said t mem lens lines t2 mem2 lens2 lines2 i w w2 e = (ap (λ (y : Worked Stepped). y .made .answer) e, ap (λ (y : Worked Stepped). y .out) e)
+said sought t mem lens lines t2 mem2 lens2 lines2 x w w2 e = (ap (λ (y : Worked Stepped). y .made .answer) e, ap (λ (y : Worked Stepped). y .out) e)
 
 -- ---- the channel that is served
 
@@ -114,25 +119,31 @@ index-served i at rank c mem lens g = go (eqb i at) refl
   where
     go : (b : Bool) → eqb i at ≡ b → at ≡ i
     go true e = sym (eqb-true i at e)
-    go false e = absurd (lt-irrefl 3 (subst (λ (k : ℕ). k < 3) (g .suits ∙ passed-by (eqb i at) 0 3 e) (g .found)))
+    go false e = absurd (lt-irrefl 48 (subst (λ (k : ℕ). k < 48) (g .suits ∙ passed-by (eqb i at) 0 48 e) (g .found)))
+
+-- and so is a question
+pub asked-served : (i at rank : ℕ) (c : Channel) (mem lens : List ℕ) → Given (seeking (Asked i)) at rank c mem lens → at ≡ i
+asked-served i at rank c mem lens g =
+    index-served i at rank c mem lens
+    (record { standing = g .standing; sized = g .sized; lines = g .lines; grade = g .grade; suits = g .suits; found = g .found; ranked = g .ranked })
 
 -- ---- its own channel alone is changed
 
 module _ (look : Look) (step : Step) (t : List Channel) (mem lens lines out : List ℕ) (shapes : Shapes look step out) where
   -- of the channel at index i, where it is the one that is served
   pub others-stay : (i : ℕ)
-      → (Given look (choice look t .at) (choice look t .rank) (recordAt t (choice look t .at)) (ownMem t (choice look t .at) mem) (ownLens t (choice look t .at) lens)
-      → choice look t .at ≡ i)
+      → (Given look (choice look lines t .at) (rankIn (choice look lines t .grade)) (recordAt t (choice look lines t .at)) (ownMem t (choice look lines t .at) mem) (ownLens t (choice look lines t .at) lens)
+      → choice look lines t .at ≡ i)
       → OthersStay t mem lens i (serveOne look step t mem lens lines out)
   others-stay i is =
       serve-cases look step t mem lens lines out (OthersStay t mem lens i) nothing nothing
       (λ h below g.
-      subst (λ (j : ℕ). OthersStay t mem lens j (stored t mem lens lines at (worked look step t mem lens lines out))) (is g)
-      (stored-others t mem lens lines h at below (worked look step t mem lens lines out)
-      (shapes at (choice look t .rank) (recordAt t at) (ownMem t at mem) (ownLens t at lens) g)))
+      subst (λ (j : ℕ). OthersStay t mem lens j (stored (look .sought) t mem lens lines (choice look lines t) (worked look step t mem lens lines out))) (is g)
+      (stored-others t mem lens lines h (look .sought) (choice look lines t) below (worked look step t mem lens lines out)
+      (shapes at (rankIn (choice look lines t .grade)) (recordAt t at) (ownMem t at mem) (ownLens t at lens) g)))
     where
       at : ℕ
-      at = choice look t .at
+      at = choice look lines t .at
 
       nothing : {why : Refusal} → OthersStay t mem lens i (leaves (Refused why) t mem lens lines out)
       nothing =
@@ -148,18 +159,18 @@ module _ (look : Look) (step : Step) (t : List Channel) (mem lens lines out : Li
 
 -- ---- its own channel alone is read
 
--- what a request and an arrival look for is told by the addresses
+-- what a request and an arrival look for is told by the addresses, whatever the lines are
 abbrev pub ByAddresses : Look → Type 0
-ByAddresses look = (j : ℕ) (c d : Channel) → c .addresses ≡ d .addresses → graded look j c ≡ graded look j d
+ByAddresses look = (lines lines2 : List ℕ) (j : ℕ) (c d : Channel) → c .addresses ≡ d .addresses → graded look lines j c ≡ graded look lines2 j d
 
 pub index-by-addresses : (i : ℕ) → ByAddresses (seeking (Index i))
-index-by-addresses i j c d e = refl
+index-by-addresses i lines lines2 j c d e = refl
 
 pub packet-by-addresses : (f : Fields) (q : Prefix) (start x : ℕ) → ByAddresses (record { sought = Packet f start x; prefix = q })
-packet-by-addresses f q start x j c d e = ap (addressed f q) e
+packet-by-addresses f q start x lines lines2 j c d e = ap (addressed f q) e
 
 pub nobody-by-addresses : (why : Refusal) → ByAddresses (seeking (Nobody why))
-nobody-by-addresses why j c d e = refl
+nobody-by-addresses why lines lines2 j c d e = refl
 
 abbrev headOr : Addresses → List Addresses → Addresses
 headOr a [] = a
@@ -170,31 +181,32 @@ restOf [] = []
 restOf (x ∷ l) = l
 
 -- so the same channel is chosen in tables with the same addresses
-pub same-choice : (look : Look) → ByAddresses look → (j : ℕ) (t t2 : List Channel) → addressesIn t ≡ addressesIn t2 → chosenFrom look j t ≡ chosenFrom look j t2
+pub same-choice : (look : Look) → ByAddresses look → (lines lines2 : List ℕ) (j : ℕ) (t t2 : List Channel) → addressesIn t ≡ addressesIn t2
+    → chosenFrom look lines j t ≡ chosenFrom look lines2 j t2
 unfolding chosenFrom
-same-choice look by j [] [] e = refl
-same-choice look by j [] (d ∷ t2) e = absurd (let z : _≡_ {A = ℕ} 0 (suc (length (addressesIn t2))) = ap length e in omega (arith, z))
-same-choice look by j (c ∷ t) [] e = absurd (let z : _≡_ {A = ℕ} (suc (length (addressesIn t))) 0 = ap length e in omega (arith, z))
-same-choice look by j (c ∷ t) (d ∷ t2) e =
-    ap₂ (λ (g : ℕ) (r : Chosen). if leb g (r .rank) then record { at = j; rank = g } else r) (by j c d (ap (headOr (c .addresses)) e))
-    (same-choice look by (j + 1) t t2 (ap restOf e))
+same-choice look by lines lines2 j [] [] e = refl
+same-choice look by lines lines2 j [] (d ∷ t2) e = absurd (let z : _≡_ {A = ℕ} 0 (suc (length (addressesIn t2))) = ap length e in omega (arith, z))
+same-choice look by lines lines2 j (c ∷ t) [] e = absurd (let z : _≡_ {A = ℕ} (suc (length (addressesIn t))) 0 = ap length e in omega (arith, z))
+same-choice look by lines lines2 j (c ∷ t) (d ∷ t2) e =
+    ap₂ (λ (g : ℕ) (r : Chosen). if leb g (r .grade) then record { at = j; grade = g } else r) (by lines lines2 j c d (ap (headOr (c .addresses)) e))
+    (same-choice look by lines lines2 (j + 1) t t2 (ap restOf e))
 
 module _ (look : Look) (step : Step) (out : List ℕ) (shapes : Shapes look step out) (by : ByAddresses look)
     (t : List Channel) (mem lens lines : List ℕ) (i : ℕ)
-    (is : Given look (choice look t .at) (choice look t .rank) (recordAt t (choice look t .at)) (ownMem t (choice look t .at) mem) (ownLens t (choice look t .at) lens)
-    → choice look t .at ≡ i) where
+    (is : Given look (choice look lines t .at) (rankIn (choice look lines t .grade)) (recordAt t (choice look lines t .at)) (ownMem t (choice look lines t .at) mem) (ownLens t (choice look lines t .at) lens)
+    → choice look lines t .at ≡ i) where
   -- what the step leaves, of the channel and the rank that are chosen
   abbrev made : List Channel → List ℕ → List ℕ → Chosen → Worked Stepped
-  made s m l x = step (recordAt s (x .at)) (x .rank) (ownMem s (x .at) m) (ownLens s (x .at) l) out
+  made s m l x = workedBy step s m l out x
 
   pub own-channel-alone : OwnChannelAlone (λ s m l li. serveOne look step s m l li out) i t mem lens lines
   own-channel-alone t2 mem2 lens2 lines2 e e2 same own = go (isFound x) refl
     where
       x : Chosen
-      x = choice look t
+      x = choice look lines t
 
-      eq : x ≡ choice look t2
-      eq = same-choice look by 0 t t2 same
+      eq : x ≡ choice look lines2 t2
+      eq = same-choice look by lines lines2 0 t t2 same
 
       Wanted : Type 0
       Wanted = SameFor i (serveOne look step t mem lens lines out) (serveOne look step t2 mem2 lens2 lines2 out)
@@ -211,40 +223,40 @@ module _ (look : Look) (step : Step) (out : List ℕ) (shapes : Shapes look step
 
       found : isFound x ≡ true → Wanted
       found f =
-          let less = ltb-true (x .rank) 3 f in
-          let f2 : isFound (choice look t2) ≡ true = ap isFound (sym eq) ∙ f in
-          let less2 = ltb-true (choice look t2 .rank) 3 f2 in
+          let less = ltb-true (x .grade) 48 f in
+          let f2 : isFound (choice look lines2 t2) ≡ true = ap isFound (sym eq) ∙ f in
+          let less2 = ltb-true (choice look lines2 t2 .grade) 48 f2 in
           let g = given look step t mem lens lines out h less in
           let g2 = given look step t2 mem2 lens2 lines2 out h2 less2 in
-          let k = shapes (x .at) (x .rank) (recordAt t (x .at)) (ownMem t (x .at) mem) (ownLens t (x .at) lens) g in
+          let k = shapes (x .at) (rankIn (x .grade)) (recordAt t (x .at)) (ownMem t (x .at) mem) (ownLens t (x .at) lens) g in
           let k2 = subst (λ (y : Chosen). Shaped (recordAt t2 (y .at)) (made t2 mem2 lens2 y)) (sym eq)
-          (shapes (choice look t2 .at) (choice look t2 .rank) (recordAt t2 (choice look t2 .at)) (ownMem t2 (choice look t2 .at) mem2) (ownLens t2 (choice look t2 .at) lens2) g2) in
-          let below = found-below look t mem lens h less in
-          let below2 = subst (λ (y : Chosen). y .at < length t2) (sym eq) (found-below look t2 mem2 lens2 h2 less2) in
+          (shapes (choice look lines2 t2 .at) (rankIn (choice look lines2 t2 .grade)) (recordAt t2 (choice look lines2 t2 .at)) (ownMem t2 (choice look lines2 t2 .at) mem2) (ownLens t2 (choice look lines2 t2 .at) lens2) g2) in
+          let below = found-below look lines t mem lens h less in
+          let below2 = subst (λ (y : Chosen). y .at < length t2) (sym eq) (found-below look lines2 t2 mem2 lens2 h2 less2) in
           let s = both (x .at) (is g) in
           let w = made t mem lens x in
           let w2 = made t2 mem2 lens2 x in
           let agree : w ≡ w2 =
-          ap (λ (c : Channel). step c (x .rank) (ownMem t (x .at) mem) (ownLens t (x .at) lens) out) (s .channel)
-          ∙ ap₂ (λ (m l : List ℕ). step (recordAt t2 (x .at)) (x .rank) m l out) (s .octets) (s .lengths) in
-          let one : serveOne look step t mem lens lines out ≡ stored t mem lens lines (x .at) w = serve-found look step t mem lens lines out e f in
-          let two : serveOne look step t2 mem2 lens2 lines2 out ≡ stored t2 mem2 lens2 lines2 (x .at) w2 =
-          serve-found look step t2 mem2 lens2 lines2 out e2 f2 ∙ ap (λ (y : Chosen). stored t2 mem2 lens2 lines2 (y .at) (made t2 mem2 lens2 y)) (sym eq) in
-          let there = said t mem lens lines t2 mem2 lens2 lines2 (x .at) w w2 agree in
-          let after : SameFor (x .at) (stored t mem lens lines (x .at) w) (stored t2 mem2 lens2 lines2 (x .at) w2) =
+          ap (λ (c : Channel). step c (rankIn (x .grade)) (ownMem t (x .at) mem) (ownLens t (x .at) lens) out) (s .channel)
+          ∙ ap₂ (λ (m l : List ℕ). step (recordAt t2 (x .at)) (rankIn (x .grade)) m l out) (s .octets) (s .lengths) in
+          let one : serveOne look step t mem lens lines out ≡ stored (look .sought) t mem lens lines x w = serve-found look step t mem lens lines out e f in
+          let two : serveOne look step t2 mem2 lens2 lines2 out ≡ stored (look .sought) t2 mem2 lens2 lines2 x w2 =
+          serve-found look step t2 mem2 lens2 lines2 out e2 f2 ∙ ap (λ (y : Chosen). stored (look .sought) t2 mem2 lens2 lines2 y (made t2 mem2 lens2 y)) (sym eq) in
+          let there = said (look .sought) t mem lens lines t2 mem2 lens2 lines2 x w w2 agree in
+          let after : SameFor (x .at) (stored (look .sought) t mem lens lines x w) (stored (look .sought) t2 mem2 lens2 lines2 x w2) =
           record {
             answer = there .0;
             own =
                 record {
-                  channel = stored-record t mem lens lines h (x .at) below w k ∙ ap (λ (y : Worked Stepped). y .made .channel) agree ∙ sym (stored-record t2 mem2 lens2 lines2 h2 (x .at) below2 w2 k2);
-                  octets = stored-mem t mem lens lines h (x .at) below w k ∙ ap (λ (y : Worked Stepped). y .mem) agree ∙ sym (stored-mem t2 mem2 lens2 lines2 h2 (x .at) below2 w2 k2);
-                  lengths = stored-lens t mem lens lines h (x .at) below w k ∙ ap (λ (y : Worked Stepped). y .lens) agree ∙ sym (stored-lens t2 mem2 lens2 lines2 h2 (x .at) below2 w2 k2);
+                  channel = stored-record t mem lens lines h (look .sought) x below w k ∙ ap (λ (y : Worked Stepped). y .made .channel) agree ∙ sym (stored-record t2 mem2 lens2 lines2 h2 (look .sought) x below2 w2 k2);
+                  octets = stored-mem t mem lens lines h (look .sought) x below w k ∙ ap (λ (y : Worked Stepped). y .mem) agree ∙ sym (stored-mem t2 mem2 lens2 lines2 h2 (look .sought) x below2 w2 k2);
+                  lengths = stored-lens t mem lens lines h (look .sought) x below w k ∙ ap (λ (y : Worked Stepped). y .lens) agree ∙ sym (stored-lens t2 mem2 lens2 lines2 h2 (look .sought) x below2 w2 k2);
                 };
             out = there .1;
           } in
           subst (λ (j : ℕ). SameFor j (serveOne look step t mem lens lines out) (serveOne look step t2 mem2 lens2 lines2 out)) (is g)
           (subst (λ (a : Called Answer Channel). SameFor (x .at) a (serveOne look step t2 mem2 lens2 lines2 out)) (sym one)
-          (subst (λ (b : Called Answer Channel). SameFor (x .at) (stored t mem lens lines (x .at) w) b) (sym two) after))
+          (subst (λ (b : Called Answer Channel). SameFor (x .at) (stored (look .sought) t mem lens lines x w) b) (sym two) after))
 
       go : (b : Bool) → isFound x ≡ b → Wanted
       go true f = found f

@@ -31,6 +31,7 @@ use Rattle.table.specs.declared.looking.Look.{Look}
 use Rattle.table.specs.declared.looking.Sought.the-variants.{Index, Packet, Ready, Nobody}
 use Rattle.table.specs.Looking.{seeking}
 use Rattle.table.specs.Looking.{chosen as choice}
+use Rattle.table.specs.Waiting.{rankIn, moved}
 use Rattle.table.specs.Lent.{areaOf, slotAt, octetAt, passes}
 use Rattle.table.specs.Serving.{recordAt, Step, alone, stored, serveOne, tableOf}
 use Rattle.requests.specs.Requests.{openedBy, closedBy, transferFor, takeFor, reclaimFor}
@@ -70,7 +71,7 @@ alone-called look step t mem lens lines =
     serve-cases look (alone step) t mem lens lines [] (λ (g : Called Answer Channel). g ≡ staying (tableOf g) mem lens) refl refl
     (λ h below g.
     let i = servedAt look (alone step) t mem lens lines [] in
-    ap₂ (λ (m l : List ℕ). leaves (step (recordAt t i) .answer) (set t i (step (recordAt t i) .channel)) m l lines [])
+    ap₂ (λ (m l : List ℕ). leaves (step (recordAt t i) .answer) (set t i (step (recordAt t i) .channel)) m l (moved (look .sought) (rankIn (choice look lines t .grade)) i (step (recordAt t i)) lines) [])
     (laid-own mem (octetAt t i) (areaOf (recordAt t i .limits))) (laid-own lens (slotAt t i) (recordAt t i .limits .slots)))
 
 -- ---- what an arrival looks for is told by the addresses
@@ -106,15 +107,15 @@ module _ (t : List Channel) (mem lens lines : List ℕ) where
 
   -- the channel that the packet's head names
   pub arrival-others-stay : (node : Node) (packet reply : List ℕ)
-      → OthersStay t mem lens (choice (lookOf node packet (length reply)) t .at) (arrivalCall t mem lens lines node packet reply)
+      → OthersStay t mem lens (choice (lookOf node packet (length reply)) lines t .at) (arrivalCall t mem lens lines node packet reply)
   arrival-others-stay node packet reply =
       let look = lookOf node packet (length reply) in
-      others-stay look (arrivalFor node packet) t mem lens lines reply (shapes look (arrivalFor node packet) reply (arrival-keeps node packet reply)) (choice look t .at) (λ g. refl)
+      others-stay look (arrivalFor node packet) t mem lens lines reply (shapes look (arrivalFor node packet) reply (arrival-keeps node packet reply)) (choice look lines t .at) (λ g. refl)
 
   -- the channel that is served
-  pub next-packet-others-stay : (node : Node) (out : List ℕ) → OthersStay t mem lens (choice (seeking Ready) t .at) (nextPacketCall t mem lens lines node out)
+  pub next-packet-others-stay : (node : Node) (out : List ℕ) → OthersStay t mem lens (choice (seeking Ready) lines t .at) (nextPacketCall t mem lens lines node out)
   next-packet-others-stay node out =
-      others-stay (seeking Ready) (nextFor node) t mem lens lines out (shapes (seeking Ready) (nextFor node) out (next-keeps node out)) (choice (seeking Ready) t .at) (λ g. refl)
+      others-stay (seeking Ready) (nextFor node) t mem lens lines out (shapes (seeking Ready) (nextFor node) out (next-keeps node out)) (choice (seeking Ready) lines t .at) (λ g. refl)
 
   pub open-others-stay : (index : ℕ) → OthersStay t mem lens index (staying (openCall t mem lens lines index) mem lens)
   open-others-stay index =
@@ -153,10 +154,10 @@ module _ (t : List Channel) (mem lens lines : List ℕ) where
       (index-alone index (alone step) [] (shapes (seeking (Index index)) (alone step) [] keeps) t2 mem2 lens2 lines2 e e2 same own))
 
   pub arrival-own-channel-alone : (node : Node) (packet reply : List ℕ)
-      → OwnChannelAlone (λ s m l li. arrivalCall s m l li node packet reply) (choice (lookOf node packet (length reply)) t .at) t mem lens lines
+      → OwnChannelAlone (λ s m l li. arrivalCall s m l li node packet reply) (choice (lookOf node packet (length reply)) lines t .at) t mem lens lines
   arrival-own-channel-alone node packet reply =
       let look = lookOf node packet (length reply) in
-      own-channel-alone look (arrivalFor node packet) reply (shapes look (arrivalFor node packet) reply (arrival-keeps node packet reply)) (arrival-by-addresses node packet (length reply)) t mem lens lines (choice look t .at) (λ g. refl)
+      own-channel-alone look (arrivalFor node packet) reply (shapes look (arrivalFor node packet) reply (arrival-keeps node packet reply)) (arrival-by-addresses node packet (length reply)) t mem lens lines (choice look lines t .at) (λ g. refl)
 
   pub open-own-channel-alone : (index : ℕ) → OwnChannelAlone (λ s m l li. staying (openCall s m l li index) m l) index t mem lens lines
   open-own-channel-alone index = order-alone index openedBy (open-keeps (seeking (Index index)) [])

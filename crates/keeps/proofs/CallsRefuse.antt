@@ -1,6 +1,6 @@
 -- All answers but 0, 9 and 15 change no record and no octet, and 9 writes no reply (document 01, Answer numbers): of each public call.
 -- Assumes nothing.
-use mathlib.Core.Path.{_≡_, refl, ap, _∙_}
+use mathlib.Core.Path.{_≡_, refl, sym, ap, _∙_}
 use mathlib.Core.Logic.{inl, inr}
 use mathlib.Core.Bool.{Bool, true, false, not}
 use mathlib.Core.List.{List, [], map}
@@ -41,6 +41,9 @@ use Rattle.table.specs.declared.looking.Look.{Look}
 use Rattle.table.specs.declared.looking.Sought.the-variants.{Index, Ready}
 use Rattle.table.specs.Looking.{seeking}
 use Rattle.table.specs.Looking.{chosen as choice}
+use Rattle.table.specs.declared.looking.Sought.{Sought}
+use Rattle.table.specs.Waiting.{rankIn, mayMove, moved}
+use Rattle.table.proofs.WaitingLaws.{moves-not}
 use Rattle.table.specs.Lent.{areaOf, slotAt, octetAt, passes}
 use Rattle.table.specs.Serving.{blank, recordAt, ownMem, ownLens, Step, alone, stored, serveOne}
 use Rattle.requests.specs.Requests.{openedBy, closedBy, transferFor, takeFor, reclaimFor}
@@ -51,10 +54,10 @@ use Rattle.arrivals.specs.Replying.{repliedBy}
 use Rattle.arrivals.specs.Arriving.{arriveAs, arriveBy, arrivalFor}
 use Rattle.packet.specs.Layout.{payloadIn}
 use Rattle.table.proofs.Parts.{laid-own}
-use Rattle.ticks.specs.Ticks.{tickOf, anyInactive, firstInactive, ticked}
+use Rattle.ticks.specs.Ticks.{tickOf, anyInactive, firstInactive, ticked, relistedFrom}
 use Rattle.node.specs.Calls.{openCall, closeCall, transferCall, takeCall, reclaimCall, nextPacketCall, arrivalCall}
 use Rattle.keeps.specs.Keeping.{MayChange, RefusalsChangeNothing, RefusalsChangeNoRecord, NineWritesNothing}
-use Rattle.keeps.proofs.Serving.{servedAt, serve-cases}
+use Rattle.keeps.proofs.Serving.{servedAt, worked, serve-cases}
 
 -- ---- of a step, and of a call that makes it
 
@@ -67,6 +70,16 @@ Still c mem lens out w =
 abbrev Silent : List ℕ → Worked Stepped → Type 0
 Silent out w = numberOf (w .made .answer) ≡ 9 → w .out ≡ out
 
+-- nobody moves in the lines then
+moves-nobody : (sought : Sought) (rank i : ℕ) (s : Stepped) (lines : List ℕ) → (MayChange (s .answer) → ⊥) → moved sought rank i s lines ≡ lines
+moves-nobody sought rank i s lines n = sym (moves-not sought rank i s lines (go (s .answer) n))
+  where
+    go : (a : Answer) → (MayChange a → ⊥) → mayMove a ≡ false
+    go (Done length confirmed) n = absurd (n (inl refl))
+    go (Repeated length) n = absurd (n (inr (inr refl)))
+    go (Inactive reason) n = absurd (n (inr (inl refl)))
+    go (Refused why) n = refl
+
 module _ (look : Look) (step : Step) (t : List Channel) (mem lens lines out : List ℕ) where
   serve-still : ((c : Channel) (rank : ℕ) (m l : List ℕ) → Still c m l out (step c rank m l out))
       → RefusalsChangeNothing t mem lens lines out (serveOne look step t mem lens lines out)
@@ -75,11 +88,11 @@ module _ (look : Look) (step : Step) (t : List Channel) (mem lens lines out : Li
       serve-cases look step t mem lens lines out (RefusalsChangeNothing t mem lens lines out) (λ n. (refl, refl, refl, refl, refl)) (λ n. (refl, refl, refl, refl, refl))
       (λ h below g n.
       let i = servedAt look step t mem lens lines out in
-      let s = still (recordAt t i) (choice look t .rank) (ownMem t i mem) (ownLens t i lens) n in (
+      let s = still (recordAt t i) (rankIn (choice look lines t .grade)) (ownMem t i mem) (ownLens t i lens) n in (
         ap (set t i) (s .0) ∙ set-getD t i blank,
         ap (laid mem (octetAt t i)) (s .1) ∙ laid-own mem (octetAt t i) (areaOf (recordAt t i .limits)),
         ap (laid lens (slotAt t i)) (s .2) ∙ laid-own lens (slotAt t i) (recordAt t i .limits .slots),
-        refl,
+        moves-nobody (look .sought) _ i (worked look step t mem lens lines out .made) lines n,
         s .3,
       ))
 
@@ -89,7 +102,7 @@ module _ (look : Look) (step : Step) (t : List Channel) (mem lens lines out : Li
       serve-cases look step t mem lens lines out (NineWritesNothing out) (λ n. refl) (λ n. refl)
       (λ h below g n.
       let i = servedAt look step t mem lens lines out in
-      silent (recordAt t i) (choice look t .rank) (ownMem t i mem) (ownLens t i lens) n)
+      silent (recordAt t i) (rankIn (choice look lines t .grade)) (ownMem t i mem) (ownLens t i lens) n)
 
 -- ---- each step
 
@@ -286,7 +299,7 @@ module _ (t : List Channel) (mem lens lines : List ℕ) where
       why : ℕ
       why = recordAt (map tickOf t) (firstInactive t) .phase .reason
 
-      go : (a b : Bool) → RefusalsChangeNoRecord t lines (if a then changes (if b then Inactive why else Done 0 0) (map tickOf t) lines else changes (Refused refusal.Settings) t lines)
+      go : (a b : Bool) → RefusalsChangeNoRecord t lines (if a then changes (if b then Inactive why else Done 0 0) (map tickOf t) (relistedFrom 0 (map tickOf t) lines) else changes (Refused refusal.Settings) t lines)
       go true true n = absurd (n (inr (inl refl)))
       go true false n = absurd (n (inl refl))
       go false b n = (refl, refl)

@@ -9,7 +9,7 @@ use Rattle.channel.specs.declared.record.Channel.{Channel}
 use Rattle.channel.specs.declared.answer.Refusal.the-variants as refusal
 use Rattle.channel.specs.Steps.{refusing}
 use Rattle.table.specs.declared.looking.Look.{Look}
-use Rattle.table.specs.declared.looking.Sought.the-variants.{Index, Ready, Nobody}
+use Rattle.table.specs.declared.looking.Sought.the-variants.{Index, Asked, Ready, Nobody}
 use Rattle.table.specs.Looking.{seeking}
 use Rattle.table.specs.Serving.{recordAt, ownMem, ownLens, alone}
 use Rattle.requests.specs.Requests.{openedBy, closedBy, askedBy, takeFor, reclaimFor}
@@ -45,7 +45,7 @@ step-keeps : (n : Request) (x out : List ℕ) (at rank : ℕ) (c : Channel) (mem
 step-keeps (Open index) x out at rank c mem lens w = open-keeps (seeking (Index index)) out at rank c mem lens
 step-keeps (Close index) x out at rank c mem lens w = close-keeps (seeking (Index index)) out at rank c mem lens
 step-keeps (Transfer index) x out at rank c mem lens w = transfer-keeps (seeking (Index index)) x out at rank c mem lens w
-step-keeps (WouldTransfer index count) x out at rank c mem lens w = question-keeps (seeking (Index index)) count out at rank c mem lens
+step-keeps (WouldTransfer index count) x out at rank c mem lens w = question-keeps (seeking (Asked index)) count out at rank c mem lens
 step-keeps (Take index) x out at rank c mem lens w = take-keeps (seeking (Index index)) out at rank c mem lens
 step-keeps (Reclaim index) x out at rank c mem lens w = reclaim-keeps (seeking (Index index)) out at rank c mem lens
 step-keeps (Arrival node) x out at rank c mem lens w = arrival-keeps node x out at rank c mem lens
@@ -68,7 +68,7 @@ step-fixing (Open index) x out = keeps-fixing (seeking (Index index)) (alone ope
 step-fixing (Close index) x out = keeps-fixing (seeking (Index index)) (alone closedBy) out (close-keeps (seeking (Index index)) out)
 step-fixing (Transfer index) x out = transfer-fixing (seeking (Index index)) x out
 step-fixing (WouldTransfer index count) x out =
-    keeps-fixing (seeking (Index index)) (alone (askedBy count)) out (question-keeps (seeking (Index index)) count out)
+    keeps-fixing (seeking (Asked index)) (alone (askedBy count)) out (question-keeps (seeking (Asked index)) count out)
 step-fixing (Take index) x out = keeps-fixing (seeking (Index index)) takeFor out (take-keeps (seeking (Index index)) out)
 step-fixing (Reclaim index) x out = keeps-fixing (seeking (Index index)) reclaimFor out (reclaim-keeps (seeking (Index index)) out)
 step-fixing (Arrival node) x out = keeps-fixing (lookOf node x (length out)) (arrivalFor node x) out (arrival-keeps node x out)

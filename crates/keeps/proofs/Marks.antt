@@ -43,6 +43,7 @@ use Rattle.table.specs.declared.looking.Look.{Look}
 use Rattle.table.specs.declared.looking.Sought.the-variants.{Index, Ready}
 use Rattle.table.specs.Looking.{seeking}
 use Rattle.table.specs.Looking.{chosen as choice}
+use Rattle.table.specs.Waiting.{rankIn}
 use Rattle.table.specs.Lent.{passes}
 use Rattle.table.specs.Serving.{blank, recordAt, ownMem, ownLens, Step, alone, stored, serveOne}
 use Rattle.requests.specs.Requests.{openedBy, closedBy, transferFor, takeFor, reclaimFor}
@@ -52,7 +53,7 @@ use Rattle.ticks.specs.Ticking.{tickedBy}
 use Rattle.arrivals.specs.Finding.{lookOf}
 use Rattle.arrivals.specs.Arriving.{arrivalFor}
 use Rattle.packet.specs.Layout.{payloadIn}
-use Rattle.ticks.specs.Ticks.{tickOf, tickAnswer, ticked}
+use Rattle.ticks.specs.Ticks.{tickOf, tickAnswer, ticked, relistedFrom}
 use Rattle.node.specs.Calls.{openCall, closeCall, transferCall, takeCall, reclaimCall, nextPacketCall, arrivalCall}
 use Rattle.keeps.specs.Keeping.{Wide}
 use Rattle.keeps.proofs.Serving.{servedAt, worked, serve-cases}
@@ -178,7 +179,7 @@ serve-wide look step t mem lens lines out marking wide =
     (λ h below g.
     let i = servedAt look step t mem lens lines out in
     stored-wide t i (worked look step t mem lens lines out .made .channel) wide
-    (marking (recordAt t i) (choice look t .rank) (ownMem t i mem) (ownLens t i lens) (wide i below)))
+    (marking (recordAt t i) (rankIn (choice look lines t .grade)) (ownMem t i mem) (ownLens t i lens) (wide i below)))
 
 pub open-marking : (out : List ℕ) → Marking (alone openedBy) out
 unfolding openedBy
@@ -247,6 +248,6 @@ module _ (t : List Channel) (mem lens lines : List ℕ) (wide : Wide t) where
           let below = subst (λ (n : ℕ). i < n) (length-map t tickOf) less in
           ap (λ (c : Channel). length (c .marks)) (mapped-at tickOf t i below) ∙ tick-full (recordAt t i) (wide i below)
 
-      go : (b : Bool) → Wide ((if b then changes (tickAnswer t) (map tickOf t) lines else changes (Refused refusal.Settings) t lines) .table)
+      go : (b : Bool) → Wide ((if b then changes (tickAnswer t) (map tickOf t) (relistedFrom 0 (map tickOf t) lines) else changes (Refused refusal.Settings) t lines) .table)
       go true = each
       go false = wide

@@ -19,9 +19,11 @@ use Rattle.channel.specs.declared.step.Stepped.{Stepped}
 use Rattle.channel.proofs.SettingsLaws.{fit-is}
 use Rattle.channel.proofs.StandingLaws.{stands-is, is-stands}
 use Rattle.table.specs.declared.looking.Look.{Look}
-use Rattle.table.specs.Looking.{missing, isFound, chosen as choice}
+use Rattle.table.specs.declared.looking.Sought.{Sought}
+use Rattle.table.specs.Waiting.{rankIn}
+use Rattle.table.specs.Looking.{Chosen, missing, isFound, chosen as choice}
 use Rattle.table.specs.Lent.{areaOf, slotAt, octetAt, lawful, passes}
-use Rattle.table.specs.Serving.{recordAt, ownMem, ownLens, Step, stored, serveOne}
+use Rattle.table.specs.Serving.{recordAt, ownMem, ownLens, Step, stored, worked as workedBy, serveOne}
 use Rattle.table.proofs.SurveyLaws.{each-stands, slots-within, octets-within}
 use Rattle.table.proofs.ServeLaws.{Lawful, is-lawful, passing-is, found-below, found-suits}
 use Rattle.keeps.specs.Keeping.{KeepsLawful, Given, Kept, Keeps}
@@ -35,14 +37,18 @@ module _ (t : List Channel) (mem lens : List ℕ) (h : Lawful t mem lens) (i : �
   pub octets-inside : octetAt t i + areaOf (recordAt t i .limits) ≤ length mem
   octets-inside = omega (arith, octets-within t i below, h .octets)
 
-  -- stored with what was kept, the table is lawful again
+-- stored with what was kept, the table is lawful again
+module _ (t : List Channel) (mem lens : List ℕ) (h : Lawful t mem lens) (sought : Sought) (x : Chosen) (below : x .at < length t) where
+  abbrev i : ℕ
+  i = x .at
+
   pub stored-lawful : (lines : List ℕ) (w : Worked Stepped) → Kept (recordAt t i) w
-      → lawful (stored t mem lens lines i w .table) (stored t mem lens lines i w .mem) (stored t mem lens lines i w .lens) ≡ true
+      → lawful (stored sought t mem lens lines x w .table) (stored sought t mem lens lines x w .mem) (stored sought t mem lens lines x w .lens) ≡ true
   unfolding stored
   stored-lawful lines w k =
       let c = recordAt t i in
-      let in-mem : octetAt t i + length (w .mem) ≤ length mem = omega (arith, octets-inside, k .sized .exact) in
-      let in-lens : slotAt t i + length (w .lens) ≤ length lens = omega (arith, slots-inside, k .sized .each) in
+      let in-mem : octetAt t i + length (w .mem) ≤ length mem = omega (arith, octets-inside t mem lens h i below, k .sized .exact) in
+      let in-lens : slotAt t i + length (w .lens) ≤ length lens = omega (arith, slots-inside t mem lens h i below, k .sized .each) in
       let n = length-set t i (w .made .channel) in
       is-lawful (set t i (w .made .channel)) (laid mem (octetAt t i) (w .mem)) (laid lens (slotAt t i) (w .lens))
       (record {
@@ -57,10 +63,10 @@ module _ (t : List Channel) (mem lens : List ℕ) (h : Lawful t mem lens) (i : �
 module _ (look : Look) (step : Step) (t : List Channel) (mem lens lines out : List ℕ) where
   -- the channel that is served, and what its step leaves
   abbrev pub servedAt : ℕ
-  servedAt = choice look t .at
+  servedAt = choice look lines t .at
 
   abbrev pub worked : Worked Stepped
-  worked = step (recordAt t servedAt) (choice look t .rank) (ownMem t servedAt mem) (ownLens t servedAt lens) out
+  worked = workedBy step t mem lens out (choice look lines t)
 
   -- ---- the three cases
 
@@ -68,21 +74,21 @@ module _ (look : Look) (step : Step) (t : List Channel) (mem lens lines out : Li
   unfolding serveOne
   serve-unlawful e = simp (e)
 
-  pub serve-missing : passes t mem lens lines ≡ true → isFound (choice look t) ≡ false
+  pub serve-missing : passes t mem lens lines ≡ true → isFound (choice look lines t) ≡ false
       → serveOne look step t mem lens lines out ≡ leaves (Refused (missing (look .sought))) t mem lens lines out
   unfolding serveOne
   serve-missing e f = simp (e, f)
 
-  pub serve-found : passes t mem lens lines ≡ true → isFound (choice look t) ≡ true → serveOne look step t mem lens lines out ≡ stored t mem lens lines servedAt worked
+  pub serve-found : passes t mem lens lines ≡ true → isFound (choice look lines t) ≡ true → serveOne look step t mem lens lines out ≡ stored (look .sought) t mem lens lines (choice look lines t) worked
   unfolding serveOne
   serve-found e f = simp (e, f)
 
   -- the step is given what it asks
-  pub given : Lawful t mem lens → choice look t .rank < 3
-      → Given look servedAt (choice look t .rank) (recordAt t servedAt) (ownMem t servedAt mem) (ownLens t servedAt lens)
+  pub given : Lawful t mem lens → choice look lines t .grade < 48
+      → Given look servedAt (rankIn (choice look lines t .grade)) (recordAt t servedAt) (ownMem t servedAt mem) (ownLens t servedAt lens)
   given h f =
       let c = recordAt t servedAt in
-      let below = found-below look t mem lens h f in
+      let below = found-below look lines t mem lens h f in
       let stand = stands-is c (ownLens t servedAt lens) (each-stands t lens (h .stand) servedAt below) in
       let fit = fit-is (c .limits) (stand .fit) in
       let in-mem = octets-inside t mem lens h servedAt below in
@@ -95,8 +101,11 @@ module _ (look : Look) (step : Step) (t : List Channel) (mem lens lines out : Li
               each = stand .count;
               exact = length-take-le (areaOf (c .limits)) (drop (octetAt t servedAt) mem) (omega (arith, length-drop (octetAt t servedAt) mem, in-mem));
             };
-        suits = found-suits look t mem lens h f;
+        lines = lines;
+        grade = choice look lines t .grade;
+        suits = found-suits look lines t mem lens h f;
         found = f;
+        ranked = refl;
       }
 
   -- what holds in each case holds of the call
@@ -104,29 +113,29 @@ module _ (look : Look) (step : Step) (t : List Channel) (mem lens lines out : Li
       → P (leaves (Refused refusal.Settings) t mem lens lines out)
       → P (leaves (Refused (missing (look .sought))) t mem lens lines out)
       → (Lawful t mem lens → servedAt < length t
-      → Given look servedAt (choice look t .rank) (recordAt t servedAt) (ownMem t servedAt mem) (ownLens t servedAt lens)
-      → P (stored t mem lens lines servedAt worked))
+      → Given look servedAt (rankIn (choice look lines t .grade)) (recordAt t servedAt) (ownMem t servedAt mem) (ownLens t servedAt lens)
+      → P (stored (look .sought) t mem lens lines (choice look lines t) worked))
       → P (serveOne look step t mem lens lines out)
-  serve-cases P bad none found = go (passes t mem lens lines) refl (isFound (choice look t)) refl
+  serve-cases P bad none found = go (passes t mem lens lines) refl (isFound (choice look lines t)) refl
     where
-      go : (a : Bool) → passes t mem lens lines ≡ a → (b : Bool) → isFound (choice look t) ≡ b → P (serveOne look step t mem lens lines out)
+      go : (a : Bool) → passes t mem lens lines ≡ a → (b : Bool) → isFound (choice look lines t) ≡ b → P (serveOne look step t mem lens lines out)
       go false e b f = subst P (sym (serve-unlawful e)) bad
       go true e false f = subst P (sym (serve-missing e f)) none
       go true e true f =
           let h = passing-is t mem lens lines e .lawful in
-          let less = ltb-true (choice look t .rank) 3 f in
-          subst P (sym (serve-found e f)) (found h (found-below look t mem lens h less) (given h less))
+          let less = ltb-true (choice look lines t .grade) 48 f in
+          subst P (sym (serve-found e f)) (found h (found-below look lines t mem lens h less) (given h less))
 
   -- ---- the test for 13 again, of a step that keeps what it is given
 
   pub serve-keeps : (servedAt < length t
-      → Given look servedAt (choice look t .rank) (recordAt t servedAt) (ownMem t servedAt mem) (ownLens t servedAt lens)
+      → Given look servedAt (rankIn (choice look lines t .grade)) (recordAt t servedAt) (ownMem t servedAt mem) (ownLens t servedAt lens)
       → Kept (recordAt t servedAt) worked)
       → KeepsLawful t mem lens (serveOne look step t mem lens lines out)
   serve-keeps keeps e =
       serve-cases (λ (g : Called Answer Channel). lawful (g .table) (g .mem) (g .lens) ≡ true) e e
-      (λ h below g. stored-lawful t mem lens h servedAt below lines worked (keeps below g))
+      (λ h below g. stored-lawful t mem lens h (look .sought) (choice look lines t) below lines worked (keeps below g))
 
   pub serve-lawful : Keeps look step out → KeepsLawful t mem lens (serveOne look step t mem lens lines out)
   serve-lawful keeps =
-      serve-keeps (λ below g. keeps servedAt (choice look t .rank) (recordAt t servedAt) (ownMem t servedAt mem) (ownLens t servedAt lens) g)
+      serve-keeps (λ below g. keeps servedAt (rankIn (choice look lines t .grade)) (recordAt t servedAt) (ownMem t servedAt mem) (ownLens t servedAt lens) g)

@@ -26,6 +26,7 @@ use Rattle.table.specs.declared.looking.Look.{Look}
 use Rattle.table.specs.declared.looking.Sought.the-variants.{Index, Ready}
 use Rattle.table.specs.Looking.{seeking}
 use Rattle.table.specs.Looking.{chosen as choice}
+use Rattle.table.specs.Waiting.{rankIn}
 use Rattle.table.specs.Lent.{eachStands, passes}
 use Rattle.table.specs.Serving.{blank, recordAt, ownMem, ownLens, Step, alone, stored, serveOne}
 use Rattle.table.proofs.SurveyLaws.{stands-first}
@@ -72,7 +73,7 @@ settings-stay look step t mem lens lines out fixing =
     (λ h below g.
     let i = servedAt look step t mem lens lines out in
     let k = worked look step t mem lens lines out .made .channel in
-    let f = fixing i (choice look t .rank) (recordAt t i) (ownMem t i mem) (ownLens t i lens) g in
+    let f = fixing i (rankIn (choice look lines t .grade)) (recordAt t i) (ownMem t i mem) (ownLens t i lens) g in
     (map-set-same (λ (c : Channel). c .addresses) t i k blank (f .0), map-set-same (λ (c : Channel). c .limits) t i k blank (f .1)))
 
 -- ---- each call

@@ -20,9 +20,10 @@ use Rattle.channel.specs.Steps.{refusing}
 use Rattle.sender_units.specs.Reclaiming.{reclaimStep, reclaimOut}
 use Rattle.receiver_data.specs.Taking.{takeStep, takeOut}
 use Rattle.table.specs.declared.looking.Look.{Look}
-use Rattle.table.specs.declared.looking.Sought.the-variants.{Index, Ready}
+use Rattle.table.specs.declared.looking.Sought.the-variants.{Index, Asked, Ready}
 use Rattle.table.specs.Looking.{seeking}
 use Rattle.table.specs.Looking.{chosen as choice}
+use Rattle.table.specs.Waiting.{rankIn, mayMove, moved}
 use Rattle.table.specs.Lent.{areaOf, slotAt, octetAt}
 use Rattle.table.specs.Serving.{blank, recordAt, ownMem, ownLens, Step, alone, stored, serveOne}
 use Rattle.table.proofs.Parts.{laid-own}
@@ -30,7 +31,7 @@ use Rattle.requests.specs.Requests.{openedBy, closedBy, askedBy, takeFor, recla
 use Rattle.requests.specs.Handing.{nextFor}
 use Rattle.node.specs.declared.request.Request.the-variants.{Open, Close, WouldTransfer, Take, Reclaim, NextPacket}
 use Rattle.node.specs.Calls.{served}
-use Rattle.keeps.proofs.Serving.{servedAt, serve-cases}
+use Rattle.keeps.proofs.Serving.{servedAt, worked, serve-cases}
 
 -- a step that files nothing, with the lent buffer
 abbrev FilesNothing : Step → List ℕ → Type 0
@@ -47,7 +48,7 @@ module _ (look : Look) (step : Step) (t : List Channel) (mem lens lines out : Li
       serve-cases look step t mem lens lines out (MemoryStays mem lens) (refl, refl) (refl, refl)
       (λ h below g.
       let i = servedAt look step t mem lens lines out in
-      let s = still (recordAt t i) (choice look t .rank) (ownMem t i mem) (ownLens t i lens) in (
+      let s = still (recordAt t i) (rankIn (choice look lines t .grade)) (ownMem t i mem) (ownLens t i lens) in (
         ap (laid mem (octetAt t i)) (s .0) ∙ laid-own mem (octetAt t i) (areaOf (recordAt t i .limits)),
         ap (laid lens (slotAt t i)) (s .1) ∙ laid-own lens (slotAt t i) (recordAt t i .limits .slots),
       ))
@@ -91,17 +92,22 @@ module _ (t : List Channel) (mem lens lines x out : List ℕ) where
   next-stays node = files-nothing (seeking Ready) (nextFor node) t mem lens lines out (next-files-nothing node out)
 
   pub question-stays : (index count : ℕ) → MemoryStays mem lens (served t mem lens lines (WouldTransfer index count) x out)
-  question-stays index count = files-nothing (seeking (Index index)) (alone (askedBy count)) t mem lens lines out (λ c rank m l. (refl, refl))
+  question-stays index count = files-nothing (seeking (Asked index)) (alone (askedBy count)) t mem lens lines out (λ c rank m l. (refl, refl))
 
   -- and no record changes
   pub question-changes-nothing : (index count : ℕ) → served t mem lens lines (WouldTransfer index count) x out .table ≡ t
   unfolding stored askedBy
   question-changes-nothing index count =
-      serve-cases (seeking (Index index)) (alone (askedBy count)) t mem lens lines out (λ (g : Called Answer Channel). g .table ≡ t) refl refl
-      (λ h below g. set-getD t (servedAt (seeking (Index index)) (alone (askedBy count)) t mem lens lines out) blank)
+      serve-cases (seeking (Asked index)) (alone (askedBy count)) t mem lens lines out (λ (g : Called Answer Channel). g .table ≡ t) refl refl
+      (λ h below g. set-getD t (servedAt (seeking (Asked index)) (alone (askedBy count)) t mem lens lines out) blank)
 
   -- and no place in a line
   pub question-lines-stay : (index count : ℕ) → served t mem lens lines (WouldTransfer index count) x out .lines ≡ lines
-  unfolding stored
+  unfolding stored moved
   question-lines-stay index count =
-      serve-cases (seeking (Index index)) (alone (askedBy count)) t mem lens lines out (λ (g : Called Answer Channel). g .lines ≡ lines) refl refl (λ h below g. refl)
+      serve-cases (seeking (Asked index)) (alone (askedBy count)) t mem lens lines out (λ (g : Called Answer Channel). g .lines ≡ lines) refl refl
+      (λ h below g. stay (mayMove (worked (seeking (Asked index)) (alone (askedBy count)) t mem lens lines out .made .answer)))
+    where
+      stay : (b : Bool) → (if b then lines else lines) ≡ lines
+      stay true = refl
+      stay false = refl

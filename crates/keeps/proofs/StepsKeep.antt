@@ -42,6 +42,7 @@ use Rattle.receiver_data.specs.Taking.{takeStep, takeOut}
 use Rattle.ends.proofs.ReceiverKeeps as received
 use Rattle.ends.proofs.ReceiverFixed as fixed
 use Rattle.table.specs.declared.looking.Look.{Look}
+use Rattle.sender_packets.specs.Asked.{Ready as IsReady}
 use Rattle.table.specs.declared.looking.Sought.the-variants.{Ready}
 use Rattle.table.specs.Looking.{seeking}
 use Rattle.table.specs.Looking.{looksFor, graded}
@@ -150,10 +151,16 @@ reclaim-keeps look out at rank c mem lens g =
 
 -- ---- the next packet
 
+-- whose turn it is, is a sender, and a packet of the rank is ready
+pub given-ready : (at rank : ℕ) (c : Channel) (mem lens : List ℕ) → Given (seeking Ready) at rank c mem lens → (c .addresses .direction ≡ sends) × IsReady c rank
+given-ready at rank c mem lens g =
+    let r = ready-is at c (g .lines) (g .grade) (g .suits) (g .found) in
+    (r .0, subst (λ (k : ℕ). IsReady c k) (sym (g .ranked)) (r .1))
+
 pub next-keeps : (node : Node) (out : List ℕ) → Keeps (seeking Ready) (nextFor node) out
 unfolding nextFor
 next-keeps node out at rank c mem lens g =
-    let r = ready-is c rank (g .suits) (g .found) in
+    let r = given-ready at rank c mem lens g in
     quiet-kept c mem lens (handOut node c lens mem rank out) (g .sized) (handStep c lens rank (length out)) (sent.hand-fixed c lens rank (length out))
     (hand-stands c lens rank (length out) (g .standing) (r .0) (r .1))
 
@@ -177,13 +184,13 @@ arrival-keeps node packet out at rank c mem lens g = either-way (ltb (length out
     p : List ℕ
     p = payloadIn packet
 
-    suits : graded (lookOf node packet (length out)) at c < 3
-    suits = subst (λ (k : ℕ). k < 3) (g .suits) (g .found)
+    suits : graded (lookOf node packet (length out)) (g .lines) at c < 48
+    suits = subst (λ (k : ℕ). k < 48) (g .suits) (g .found)
 
     told : Framed c f (payloadAt (prefixAt packet)) x packet out
     told =
-        framed node packet out at c (lookOf node packet (length out)) f (payloadAt (prefixAt packet)) x refl suits
-        (ap (λ (l : Look). l .sought) (found-packet node packet (length out) at c suits .3))
+        framed node packet out (g .lines) at c (lookOf node packet (length out)) f (payloadAt (prefixAt packet)) x refl suits
+        (ap (λ (l : Look). l .sought) (found-packet node packet (length out) (g .lines) at c suits .3))
 
     n : ℕ
     n = f .number

@@ -15,6 +15,7 @@ use Rattle.channel.specs.declared.step.Stepped.{Stepped}
 use Rattle.channel.specs.Answers.{numberOf}
 use Rattle.channel.specs.Standing.{Standing}
 use Rattle.table.specs.declared.looking.Look.{Look}
+use Rattle.table.specs.Waiting.{rankIn}
 use Rattle.table.specs.Looking.{graded}
 use Rattle.table.specs.Lent.{areaOf, slotAt, octetAt, lawful, passes}
 use Rattle.table.specs.Serving.{recordAt, ownMem, ownLens, Step}
@@ -49,12 +50,16 @@ KeepsTable t mem lens g = lawful t mem lens ≡ true → lawful (g .table) mem l
 abbrev pub Wide : List Channel → Type 0
 Wide t = (i : ℕ) → i < length t → length (recordAt t i .marks) ≡ 128
 
--- what a step is given by the call: a record that stands with its lengths, with a memory of its size, and that suits what is looked for
+-- what a step is given by the call: a record that stands with its lengths, with a memory of its size, and that suits what is looked for, by some
+-- lines; the rank is that of its grade
 pub record Given (look : Look) (at rank : ℕ) (c : Channel) (mem lens : List ℕ) : Type 0 where
   pub standing : Standing c lens
   pub sized : Sized (c .limits .slots) (c .limits .payload) mem lens
-  pub suits : rank ≡ graded look at c
-  pub found : rank < 3
+  pub lines : List ℕ
+  pub grade : ℕ
+  pub suits : grade ≡ graded look lines at c
+  pub found : grade < 48
+  pub ranked : rank ≡ rankIn grade
 
 -- what it leaves: a record with the same addresses and limits that stands with the lengths left, and memory and lengths of their size
 pub record Kept (c : Channel) (w : Worked Stepped) : Type 0 where

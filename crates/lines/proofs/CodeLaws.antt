@@ -4,13 +4,13 @@ use mathlib.Core.Path.{_≡_, refl, sym, ap, ap₂, _∙_, subst}
 use mathlib.Core.Bool.{Bool, true, false, not, _&&_, and-false, and-true}
 use mathlib.Core.Logic.{_⊎_, ⊎-elim}
 use mathlib.Core.List.{List, [], _∷_, _++_, append-nil}
-use Prim.Native.Nat.{ℕ, zero, suc, _+_, _-_, _*_, _≤_, _<_}
+use Prim.Native.Nat.{ℕ, zero, suc, _+_, _-_, _*_, _≤_, _<_, min}
 use native.Mathlib.Numerals.{add-one}
 use native.Mathlib.Omega.{arith}
 use borrow.Author.Tests.{eq-eqb, ne-eqb, lt-ltb, le-ltb}
 use lib.Dec.{eqb, ltb}
-use lib.ListN.{length, getD, set, take, drop, replicate, length-set, length-drop, drop-of-length-le}
-use lib.Seq.{getD-set-same, getD-set-other, drop-cons, drop-drop, length-take-le, getD-take, getD-drop, take-length}
+use lib.ListN.{length, getD, set, take, drop, replicate, length-set, length-take, length-drop, drop-of-length-le}
+use lib.Seq.{getD-set-same, getD-set-other, drop-cons, drop-drop, length-take-le, getD-take, getD-drop, take-length, take-all}
 use Rattle.bytes.specs.Bytes.{slice, indexOf, indexAfter}
 use Rattle.laws.proofs.Choice.{first-not, last-not}
 use Rattle.laws.proofs.Lists.{take-drop}
@@ -35,24 +35,40 @@ index-before i (x ∷ l) =
     (λ n. ap (λ (t : Bool). indexAfter t (indexOf i l)) (ne-eqb x i n) ∙ ap suc (index-before i l) ∙ sym (line.before-past x i l n))
     (line.same-or-not x i)
 
-slice-line : (o : List ℕ) → slice 1 (getD o 0 0 + 1) o ≡ lineIn o
-unfolding slice lineIn
-slice-line o =
-    let e : getD o 0 0 + 1 ≡ 1 + getD o 0 0 = omega arith in
-    ap (λ (k : ℕ). drop 1 (take k o)) e ∙ sym (take-drop 1 (getD o 0 0) o)
+-- of more than there are, all
+take-most : (n : ℕ) (l : List ℕ) → take (min n (length l)) l ≡ take n l
+take-most n l =
+    ⊎-elim
+    (λ h. let e : min n (length l) ≡ n = omega arith in ap (λ (k : ℕ). take k l) e)
+    (λ h. let e : min n (length l) ≡ length l = omega arith in ap (λ (k : ℕ). take k l) e ∙ take-length l ∙ sym (take-all n l h))
+    (lt-cases n (length l))
 
-module _ (o : List ℕ) (f : FitLine 16 o) (i at : ℕ) (e : at ≡ 1 + indexOf i (slice 1 (getD o 0 0 + 1) o)) where
-  at-before : at ≡ 1 + before i (lineIn o)
-  at-before = e ∙ ap (λ (k : ℕ). 1 + k) (ap (indexOf i) (slice-line o) ∙ index-before i (lineIn o))
+module _ (o : List ℕ) (size : length o ≡ 17) where
+  -- a count of more than 16 reads as 16
+  line-count : length (lineIn o) ≡ min (getD o 0 0) 16
+  unfolding lineIn
+  line-count = omega (arith, length-take (getD o 0 0) (drop 1 o), length-drop 1 o)
 
-  pub place-found : at < getD o 0 0 + 1 → at - 1 ≡ placeIn i (lineIn o)
-  place-found h =
-      let there = line.stands-there i (lineIn o) (omega (arith, at-before, fit.count-of 16 o f)) in
-      omega (arith, at-before, grade.place-there i (lineIn o) there)
+  slice-line : slice 1 (min (getD o 0 0) 16 + 1) o ≡ lineIn o
+  unfolding slice lineIn
+  slice-line =
+      let e : min (getD o 0 0) 16 + 1 ≡ 1 + min (getD o 0 0) (length (drop 1 o)) = omega (arith, length-drop 1 o) in
+      ap (λ (k : ℕ). drop 1 (take k o)) e
+      ∙ sym (take-drop 1 (min (getD o 0 0) (length (drop 1 o))) o)
+      ∙ take-most (getD o 0 0) (drop 1 o)
 
-  pub place-missing : getD o 0 0 + 1 ≤ at → 16 ≡ placeIn i (lineIn o)
-  place-missing h =
-      sym (grade.place-none i (lineIn o) (line.stands-nowhere i (lineIn o) (omega (arith, at-before, fit.count-of 16 o f))))
+  module _ (i at : ℕ) (e : at ≡ 1 + indexOf i (slice 1 (min (getD o 0 0) 16 + 1) o)) where
+    at-before : at ≡ 1 + before i (lineIn o)
+    at-before = e ∙ ap (λ (k : ℕ). 1 + k) (ap (indexOf i) slice-line ∙ index-before i (lineIn o))
+
+    pub place-found : at < min (getD o 0 0) 16 + 1 → at - 1 ≡ placeIn i (lineIn o)
+    place-found h =
+        let there = line.stands-there i (lineIn o) (omega (arith, at-before, line-count)) in
+        omega (arith, at-before, grade.place-there i (lineIn o) there)
+
+    pub place-missing : min (getD o 0 0) 16 + 1 ≤ at → 16 ≡ placeIn i (lineIn o)
+    place-missing h =
+        sym (grade.place-none i (lineIn o) (line.stands-nowhere i (lineIn o) (omega (arith, at-before, line-count))))
 
 -- where it joins there is room
 pub room-for : (o : List ℕ) → FitLine 16 o → (i : ℕ) → i < 16 → 16 ≤ placeIn i (lineIn o)
@@ -61,14 +77,14 @@ room-for o f i b h =
     ⊎-elim
     (λ w. absurd (omega (arith, w .2)))
     (λ w. (w .0, omega (arith, fit.count-of 16 o f, line.room 16 i (lineIn o) b (f .line) (w .0))))
-    (grade.place-cases 16 i (lineIn o) (f .few) (f .line))
+    (grade.place-cases i (lineIn o) (fit.short 16 o f))
 
 pub stays : (o : List ℕ) → FitLine 16 o → (i : ℕ) → placeIn i (lineIn o) < 16 → o ≡ lineOctets (joined i (lineIn o))
 stays o f i h =
     ⊎-elim
     (λ w. f .written ∙ ap lineOctets (sym (line.joined-stays i (lineIn o) (w .0))))
     (λ w. absurd (omega (arith, w .1)))
-    (grade.place-cases 16 i (lineIn o) (f .few) (f .line))
+    (grade.place-cases i (lineIn o) (fit.short 16 o f))
 
 pub at-tail : (o : List ℕ) → FitLine 16 o → (i : ℕ) → i < 16 → 16 ≤ placeIn i (lineIn o)
     → set (set o (getD o 0 0 + 1) i) 0 (getD o 0 0 + 1) ≡ lineOctets (joined i (lineIn o))
@@ -90,6 +106,9 @@ module _ (s : List ℕ) (rank : ℕ) where
   unfolding partAt
   lent = ap (λ (k : ℕ). take k (drop (17 * rank) s)) width
 
+  pub lent-size : length s ≡ 51 → rank < 3 → length (take (17 * rank + 17 - 17 * rank) (drop (17 * rank) s)) ≡ 17
+  lent-size size h = length-take-le (17 * rank + 17 - 17 * rank) (drop (17 * rank) s) (omega (arith, length-drop (17 * rank) s)) ∙ width
+
   pub lent-fit : Fit 16 s → rank < 3 → FitLine 16 (take (17 * rank + 17 - 17 * rank) (drop (17 * rank) s))
   lent-fit f h = subst (FitLine 16) (sym lent) (f .each rank h)
 
@@ -103,7 +122,7 @@ module _ (s : List ℕ) (rank : ℕ) where
       (drop-drop (17 * rank + 17 - 17 * rank) (17 * rank) s ∙ ap (λ (k : ℕ). drop k s) n)
 
 -- the grade, from the place in the part that is lent
-module _ (s : List ℕ) (f : Fit 16 s) (rank : ℕ) (known : rank < 3) (i : ℕ) (ready : Bool) (r : ready ≡ true) (p : ℕ)
+module _ (s : List ℕ) (rank : ℕ) (i : ℕ) (ready : Bool) (r : ready ≡ true) (p : ℕ)
     (e : p ≡ placeIn i (lineIn (take (17 * rank + 17 - 17 * rank) (drop (17 * rank) s)))) where
   there : p ≡ placeIn i (lineAt rank s)
   there = e ∙ ap (λ (t : List ℕ). placeIn i (lineIn t)) (lent s rank)
@@ -113,14 +132,14 @@ module _ (s : List ℕ) (f : Fit 16 s) (rank : ℕ) (known : rank < 3) (i : ℕ)
       ⊎-elim
       (λ w. ap (λ (k : ℕ). rank * 16 + k) (there ∙ w .1) ∙ sym (grade.grade-waits rank i ready s r (w .0)))
       (λ w. absurd (omega (arith, there, w .1)))
-      (grade.place-cases 16 i (lineAt rank s) (fit.few-of 16 s f) (fit.line-of 16 s f rank known))
+      (grade.place-cases i (lineAt rank s) (grade.short-line rank s))
 
   pub not-graded : 16 ≤ p → 48 ≡ gradeIn rank i ready s
   not-graded h =
       ⊎-elim
       (λ w. absurd (omega (arith, there, w .2)))
       (λ w. sym (grade.grade-not rank i ready s (last-not ready (stands i (lineAt rank s)) (w .0))))
-      (grade.place-cases 16 i (lineAt rank s) (fit.few-of 16 s f) (fit.line-of 16 s f rank known))
+      (grade.place-cases i (lineAt rank s) (grade.short-line rank s))
 
 -- ---- what the test finds
 

@@ -1,19 +1,19 @@
 -- The test of the lines and the facts are one; whatever a call does keeps them; and what the lines are afterwards.
 -- Assumes nothing.
 use mathlib.Core.Path.{_≡_, refl, sym, ap, ap₂, _∙_, subst}
-use mathlib.Core.Bool.{Bool, true, _&&_}
+use mathlib.Core.Bool.{Bool, true, false, _&&_}
 use mathlib.Core.Logic.{_⊎_, ⊎-elim}
 use mathlib.Core.List.{List, [], _∷_, _++_}
 use Prim.Native.Nat.{ℕ, zero, suc, _+_, _-_, _≤_, _<_}
 use native.Mathlib.Numerals.{add-one}
 use native.Mathlib.Omega.{arith}
-use borrow.Author.Tests.{le-leb, leb-true, eq-eqb, eqb-true}
-use lib.Dec.{eqb, leb}
+use borrow.Author.Tests.{lt-ltb, le-ltb, le-leb, leb-true, eq-eqb, eqb-true}
+use lib.Dec.{eqb, leb, ltb}
 use lib.ListN.{length, getD, take, drop, replicate, take-append-drop, length-drop}
 use lib.Seq.{length-take-le, drop-append-seam}
-use Rattle.laws.proofs.Choice.{both}
+use Rattle.laws.proofs.Choice.{both, chosen, passed-by, first-not, last-not}
 use Rattle.lines.specs.Lines.{stands, without, relisted, lineOctets, lineIn, partAt, lineAt, withLine, noLines, relistIn, leftFrom, ofRank, relistAll, servedFrom}
-use Rattle.lines.specs.Fit.{below, apart, blank, fitLine, fitLines, Line, FitLine, Fit}
+use Rattle.lines.specs.Fit.{below, apart, blank, fitLine, fitLines, relistSound, Line, FitLine, Fit}
 use Rattle.lines.proofs.LineLaws as line
 use Rattle.lines.proofs.OctetLaws as octets
 
@@ -273,3 +273,19 @@ pub serve-keeps : (n : ℕ) (s : List ℕ) (rank i : ℕ) (r0 r1 r2 : Bool) → 
     → fitLines n (servedFrom rank i r0 r1 r2 s) ≡ true
 serve-keeps n s rank i r0 r1 r2 known b e =
     fit-test n (servedFrom rank i r0 r1 r2 s) (served-fit n s (fit-facts n s e) rank known i b r0 r1 r2)
+
+-- ---- octets that may be no lines
+
+module _ (i : ℕ) (r0 r1 r2 : Bool) (s : List ℕ) where
+  pub sound-beyond : 16 ≤ i → relistSound i r0 r1 r2 s ≡ s
+  unfolding relistSound
+  sound-beyond h = passed-by (ltb i 16 && fitLines 16 s) (relistAll i r0 r1 r2 s) s (first-not (ltb i 16) (fitLines 16 s) (le-ltb i 16 h))
+
+  pub sound-none : fitLines 16 s ≡ false → relistSound i r0 r1 r2 s ≡ s
+  unfolding relistSound
+  sound-none e = passed-by (ltb i 16 && fitLines 16 s) (relistAll i r0 r1 r2 s) s (last-not (ltb i 16) (fitLines 16 s) e)
+
+  pub sound-lines : i < 16 → fitLines 16 s ≡ true → relistSound i r0 r1 r2 s ≡ relistAll i r0 r1 r2 s
+  unfolding relistSound
+  sound-lines h e =
+      chosen (ltb i 16 && fitLines 16 s) (relistAll i r0 r1 r2 s) s (ap₂ (λ (a b : Bool). a && b) (lt-ltb i 16 h) e)

@@ -9,9 +9,9 @@ use Prim.Native.Nat.{ℕ, _+_, _*_, _≤_, _<_}
 use native.Mathlib.Omega.{arith}
 use Rattle.laws.proofs.Choice.{either-way, both, chosen, passed-by}
 use Rattle.laws.proofs.Numbers.{lt-cases}
-use Rattle.lines.specs.Lines.{stands, before, lineAt, ofRank}
+use lib.ListN.{length, getD, take, drop, length-take, length-drop}
+use Rattle.lines.specs.Lines.{stands, before, lineIn, partAt, lineAt, ofRank}
 use Rattle.lines.specs.Grades.{placeIn, gradeIn, gradeOf}
-use Rattle.lines.specs.Fit.{Line, Fit}
 use Rattle.lines.proofs.LineLaws as line
 use Rattle.lines.proofs.FitLaws as fit
 
@@ -26,12 +26,19 @@ unfolding placeIn
 place-none i l e = passed-by (stands i l) (before i l) 16 e
 
 -- it stands at a place below 16, or not at all
-pub place-cases : (n i : ℕ) (l : List ℕ) → n ≤ 16 → Line n l
+pub place-cases : (i : ℕ) (l : List ℕ) → length l ≤ 16
     → ((stands i l ≡ true) × (placeIn i l ≡ before i l) × (placeIn i l < 16)) ⊎ ((stands i l ≡ false) × (placeIn i l ≡ 16))
-place-cases n i l few h =
+place-cases i l short =
     either-way (stands i l)
-    (λ e. inl (e, place-there i l e, omega (arith, place-there i l e, line.before-lt i l e, line.at-most n l h)))
+    (λ e. inl (e, place-there i l e, omega (arith, place-there i l e, line.before-lt i l e, short)))
     (λ e. inr (e, place-none i l e))
+
+-- whatever the octets are, a line has 16 at most
+pub short-line : (rank : ℕ) (s : List ℕ) → length (lineAt rank s) ≤ 16
+unfolding lineIn partAt
+short-line rank s =
+    let o = take 17 (drop (17 * rank) s) in
+    omega (arith, length-take (getD o 0 0) (drop 1 o), length-drop 1 o, length-take 17 (drop (17 * rank) s))
 
 -- ---- the grade in one line
 
@@ -53,9 +60,8 @@ pub record Waiting (rank i : ℕ) (ready : Bool) (s : List ℕ) (g : ℕ) : Type
   pub grade : g ≡ rank * 16 + before i (lineAt rank s)
   pub near : before i (lineAt rank s) < 16
 
-pub in-cases : (n rank i : ℕ) (ready : Bool) (s : List ℕ) → Fit n s → rank < 3
-    → Waiting rank i ready s (gradeIn rank i ready s) ⊎ (gradeIn rank i ready s ≡ 48)
-in-cases n rank i ready s f known =
+pub in-cases : (rank i : ℕ) (ready : Bool) (s : List ℕ) → Waiting rank i ready s (gradeIn rank i ready s) ⊎ (gradeIn rank i ready s ≡ 48)
+in-cases rank i ready s =
     either-way (ready && stands i (lineAt rank s))
     (λ e.
     let h = both ready (stands i (lineAt rank s)) e in
@@ -64,7 +70,7 @@ in-cases n rank i ready s f known =
       is-ready = h .0;
       standing = h .1;
       grade = grade-waits rank i ready s (h .0) (h .1);
-      near = omega (arith, line.before-lt i (lineAt rank s) (h .1), line.at-most n (lineAt rank s) (fit.line-of n s f rank known), fit.few-of n s f);
+      near = omega (arith, line.before-lt i (lineAt rank s) (h .1), short-line rank s);
     }))
     (λ e. inr (grade-not rank i ready s e))
 
@@ -74,15 +80,15 @@ pub record Range (rank g : ℕ) : Type 0 where
   pub high : g ≤ 48
   pub near : g < 48 → g < rank * 16 + 16
 
-pub in-range : (n rank i : ℕ) (ready : Bool) (s : List ℕ) → Fit n s → rank < 3 → Range rank (gradeIn rank i ready s)
-in-range n rank i ready s f known =
+pub in-range : (rank i : ℕ) (ready : Bool) (s : List ℕ) → rank < 3 → Range rank (gradeIn rank i ready s)
+in-range rank i ready s known =
     ⊎-elim
     (λ w.
     let g = w .grade in
     let p = w .near in
     record { low = omega arith; high = omega arith; near = λ h. omega arith })
     (λ e. record { low = omega arith; high = omega arith; near = λ h. omega arith })
-    (in-cases n rank i ready s f known)
+    (in-cases rank i ready s)
 
 -- ---- the grade of a channel
 
@@ -105,53 +111,52 @@ module _ (i : ℕ) (r0 r1 r2 : Bool) (s : List ℕ) where
   one rank known e w =
       record { rank = rank; known = known; waiting = record { is-ready = w .is-ready; standing = w .standing; grade = e ∙ w .grade; near = w .near } }
 
-  module _ (n : ℕ) (f : Fit n s) where
-    -- the first rank of which it waits gives it
-    a0 : Range 0 (gradeIn 0 i r0 s)
-    a0 = in-range n 0 i r0 s f (omega arith)
+  -- the first rank of which it waits gives it
+  a0 : Range 0 (gradeIn 0 i r0 s)
+  a0 = in-range 0 i r0 s (omega arith)
 
-    a1 : Range 1 (gradeIn 1 i r1 s)
-    a1 = in-range n 1 i r1 s f (omega arith)
+  a1 : Range 1 (gradeIn 1 i r1 s)
+  a1 = in-range 1 i r1 s (omega arith)
 
-    a2 : Range 2 (gradeIn 2 i r2 s)
-    a2 = in-range n 2 i r2 s f (omega arith)
+  a2 : Range 2 (gradeIn 2 i r2 s)
+  a2 = in-range 2 i r2 s (omega arith)
 
-    pub first-rank : gradeIn 0 i r0 s < 48 → gradeIn 0 i r0 s ≡ gradeOf i r0 r1 r2 s
-    unfolding gradeOf
-    first-rank h = omega (arith, a0 .near h, a1 .low, a2 .low)
+  pub first-rank : gradeIn 0 i r0 s < 48 → gradeIn 0 i r0 s ≡ gradeOf i r0 r1 r2 s
+  unfolding gradeOf
+  first-rank h = omega (arith, a0 .near h, a1 .low, a2 .low)
 
-    pub second-rank : 48 ≤ gradeIn 0 i r0 s → gradeIn 1 i r1 s < 48 → gradeIn 1 i r1 s ≡ gradeOf i r0 r1 r2 s
-    unfolding gradeOf
-    second-rank g h = omega (arith, a1 .near h, a2 .low)
+  pub second-rank : 48 ≤ gradeIn 0 i r0 s → gradeIn 1 i r1 s < 48 → gradeIn 1 i r1 s ≡ gradeOf i r0 r1 r2 s
+  unfolding gradeOf
+  second-rank g h = omega (arith, a1 .near h, a2 .low)
 
-    pub third-rank : 48 ≤ gradeIn 0 i r0 s → 48 ≤ gradeIn 1 i r1 s → gradeIn 2 i r2 s ≡ gradeOf i r0 r1 r2 s
-    unfolding gradeOf
-    third-rank g h = omega (arith, a2 .high)
+  pub third-rank : 48 ≤ gradeIn 0 i r0 s → 48 ≤ gradeIn 1 i r1 s → gradeIn 2 i r2 s ≡ gradeOf i r0 r1 r2 s
+  unfolding gradeOf
+  third-rank g h = omega (arith, a2 .high)
 
-    pub found : gradeOf i r0 r1 r2 s < 48 → Found
-    unfolding gradeOf
-    found h =
-        ⊎-elim
-        (λ a. one 0 (omega arith) (sym (first-rank (omega (arith, a .grade, a .near)))) a)
-        (λ a.
-        ⊎-elim
-        (λ b. one 1 (omega arith) (sym (second-rank (omega arith) (omega (arith, b .grade, b .near)))) b)
-        (λ b.
-        ⊎-elim
-        (λ d. one 2 (omega arith) (sym (third-rank (omega arith) (omega arith))) d)
-        (λ d. absurd (omega arith))
-        (in-cases n 2 i r2 s f (omega arith)))
-        (in-cases n 1 i r1 s f (omega arith)))
-        (in-cases n 0 i r0 s f (omega arith))
+  pub found : gradeOf i r0 r1 r2 s < 48 → Found
+  unfolding gradeOf
+  found h =
+      ⊎-elim
+      (λ a. one 0 (omega arith) (sym (first-rank (omega (arith, a .grade, a .near)))) a)
+      (λ a.
+      ⊎-elim
+      (λ b. one 1 (omega arith) (sym (second-rank (omega arith) (omega (arith, b .grade, b .near)))) b)
+      (λ b.
+      ⊎-elim
+      (λ d. one 2 (omega arith) (sym (third-rank (omega arith) (omega arith))) d)
+      (λ d. absurd (omega arith))
+      (in-cases 2 i r2 s))
+      (in-cases 1 i r1 s))
+      (in-cases 0 i r0 s)
 
 -- no two that wait have one grade
-pub grades-apart : (n i j : ℕ) (r0 r1 r2 q0 q1 q2 : Bool) (s : List ℕ) → Fit n s
+pub grades-apart : (i j : ℕ) (r0 r1 r2 q0 q1 q2 : Bool) (s : List ℕ)
     → gradeOf i r0 r1 r2 s < 48
     → gradeOf i r0 r1 r2 s ≡ gradeOf j q0 q1 q2 s
     → i ≡ j
-grades-apart n i j r0 r1 r2 q0 q1 q2 s f h e =
-    let a = found i r0 r1 r2 s n f h in
-    let b = found j q0 q1 q2 s n f (omega arith) in
+grades-apart i j r0 r1 r2 q0 q1 q2 s h e =
+    let a = found i r0 r1 r2 s h in
+    let b = found j q0 q1 q2 s (omega arith) in
     let u = a .waiting in
     let v = b .waiting in
     let same : b .rank ≡ a .rank = omega (arith, u .grade, v .grade, u .near, v .near) in

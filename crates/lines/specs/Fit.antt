@@ -5,7 +5,8 @@ use mathlib.Core.Bool.{Bool, true, not, _&&_}
 use mathlib.Core.List.{List, [], _∷_}
 use lib.Dec.{eqb, leb, ltb}
 use lib.ListN.{length, getD, drop}
-use Rattle.lines.specs.Lines.{stands, lineOctets, lineIn, partAt}
+use Rattle.laws.specs.Choice.{if_then_else_}
+use Rattle.lines.specs.Lines.{stands, lineOctets, lineIn, partAt, relistAll}
 
 -- ---- as a test
 
@@ -29,6 +30,10 @@ fitLine n o = leb (getD o 0 0) 16 && (below n (lineIn o) && apart (lineIn o)) &&
 
 unfoldable pub fitLines : ℕ → List ℕ → Bool
 fitLines n s = leb n 16 && eqb (length s) 51 && fitLine n (partAt 0 s) && fitLine n (partAt 1 s) && fitLine n (partAt 2 s)
+
+-- a call that left channel i with a ready packet of each rank, or without; octets that are no lines stay
+unfoldable pub relistSound : ℕ → Bool → Bool → Bool → List ℕ → List ℕ
+relistSound i r0 r1 r2 s = if ltb i 16 && fitLines 16 s then relistAll i r0 r1 r2 s else s
 
 -- ---- as facts
 

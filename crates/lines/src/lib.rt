@@ -1,5 +1,4 @@
 // The lines of channels that wait to be served, one for each rank (document 02, A4), as octets that the caller lends. A channel is its index here.
-// So far the calls use the test and the emptying alone: is_fit, read, clear.
 pub mod fit;
 mod line;
 pub mod ranks;
@@ -11,5 +10,4 @@ pub use ranks::read;
 pub use ranks::relist;
 pub use ranks::relisted;
 pub use ranks::serve;
-pub use ranks::served;
 pub use ranks::write;

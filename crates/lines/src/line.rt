@@ -1,6 +1,7 @@
 // One line: 17 octets, how many stand in it, and their indexes from the head on.
 ghost use mathlib.Core.Path.{_≡_};
-ghost use Prim.Native.Nat.{_<_};
+ghost use Prim.Native.Nat.{_+_, _<_, min};
+ghost use lib.ListN.{length};
 ghost use Rattle.lines.specs.Lines.{joined, without, relisted, lineOctets, lineIn};
 ghost use Rattle.lines.specs.Grades.{placeIn};
 ghost use Rattle.lines.specs.Fit.{FitLine};
@@ -8,12 +9,19 @@ ghost use Rattle.lines.specs.Fit.{FitLine};
 // The place of one that does not stand in the line.
 pub const NOWHERE: usize = 16;
 
+// Where those who stand end; no more than 16 do.
+fn end_of(count: u8) -> usize
+    ensures { λ r. ⌜ r ≡ min count 16 + 1 ⌝ }
+{
+    if count < 16 { count as usize + 1 } else { 17 }
+}
+
 // How many stand before i.
 pub fn place(line: &[u8], i: u8) -> usize
-    requires { ⌜ FitLine 16 (now line) ⌝ }
+    requires { ⌜ length (now line) ≡ 17 ⌝ }
     ensures { λ r. ⌜ r ≡ placeIn i (lineIn (now (line .entry))) ⌝ }
 {
-    let end = line[0] as usize + 1;
+    let end = end_of(line[0]);
     let at = bytes::scan::find(line, 1, end, i);
     if at < end { at - 1 } else { NOWHERE }
 }

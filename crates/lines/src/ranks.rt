@@ -1,4 +1,5 @@
 // The three lines, in lent octets that have passed the test.
+use crate::fit::is_fit;
 use crate::line::NOWHERE;
 use crate::line::leave;
 use crate::line::place;
@@ -8,14 +9,14 @@ ghost use Prim.Native.Nat.{_<_};
 ghost use lib.ListN.{length};
 ghost use Rattle.lines.specs.Lines.{noLines, relistIn, leftFrom, relistAll, servedFrom};
 ghost use Rattle.lines.specs.Grades.{gradeIn, gradeOf};
-ghost use Rattle.lines.specs.Fit.{Fit};
+ghost use Rattle.lines.specs.Fit.{Fit, relistSound};
 
 // The grade of a channel that waits for nothing.
 pub const IDLE: usize = 48;
 
 // The grade of channel i, with a ready packet of each rank or without: the least is served next.
 pub fn grade(lines: &[u8], i: usize, r0: bool, r1: bool, r2: bool) -> usize
-    requires { ⌜ (Fit 16 (now lines)) × (i < 16) ⌝ }
+    requires { ⌜ (length (now lines) ≡ 51) × (i < 16) ⌝ }
     ensures { λ r. ⌜ r ≡ gradeOf i r0 r1 r2 (now (lines .entry)) ⌝ }
 {
     let x = i as u8;
@@ -31,7 +32,7 @@ pub fn grade(lines: &[u8], i: usize, r0: bool, r1: bool, r2: bool) -> usize
 }
 
 fn grade_in(lines: &[u8], rank: usize, i: u8, ready: bool) -> usize
-    requires { ⌜ (Fit 16 (now lines)) × (rank < 3) ⌝ }
+    requires { ⌜ (length (now lines) ≡ 51) × (rank < 3) ⌝ }
     ensures { λ r. ⌜ r ≡ gradeIn rank i ready (now (lines .entry)) ⌝ }
 {
     if !ready {
@@ -81,22 +82,25 @@ fn leave_from(lines: &mut [u8], rank: usize, i: u8)
     leave(&mut lines[at..end], i);
 }
 
-// The lines by value, for a tick to carry through its round.
+// The lines by value, for a tick to carry through its round; what is none stays.
 pub fn relisted(lines: [u8; 51], i: usize, r0: bool, r1: bool, r2: bool) -> [u8; 51]
+    ensures { λ r. ⌜ r ≡ relistSound i r0 r1 r2 lines ⌝ }
+{
+    if 16 <= i {
+        return lines;
+    }
+    if !is_fit(&lines, 16) {
+        return lines;
+    }
+    relist_copy(lines, i, r0, r1, r2)
+}
+
+fn relist_copy(lines: [u8; 51], i: usize, r0: bool, r1: bool, r2: bool) -> [u8; 51]
     requires { ⌜ (Fit 16 lines) × (i < 16) ⌝ }
     ensures { λ r. ⌜ r ≡ relistAll i r0 r1 r2 lines ⌝ }
 {
     let mut a = lines;
     relist(&mut a, i, r0, r1, r2);
-    a
-}
-
-pub fn served(lines: [u8; 51], rank: usize, i: usize, r0: bool, r1: bool, r2: bool) -> [u8; 51]
-    requires { ⌜ (Fit 16 lines) × (rank < 3) × (i < 16) ⌝ }
-    ensures { λ r. ⌜ r ≡ servedFrom rank i r0 r1 r2 lines ⌝ }
-{
-    let mut a = lines;
-    serve(&mut a, rank, i, r0, r1, r2);
     a
 }
 

@@ -1,17 +1,18 @@
--- A step of the channel served, over the whole of what is lent: what it gives by its request.
+-- A step of the channel served, over the whole of what is lent: what it gives by its request, and what the call then leaves.
 -- Assumes nothing.
 use mathlib.Core.Path.{_≡_, refl, sym, ap, _∙_}
 use mathlib.Core.Bool.{Bool, true, false}
 use mathlib.Core.List.{List, []}
 use Prim.Native.Nat.{ℕ}
 use lib.Dec.{eqb}
-use Rattle.walks.specs.Serving.{Worked, works}
+use Rattle.walks.specs.Serving.{Worked, works, performs}
 use Rattle.channel.specs.declared.record.Channel.{Channel}
 use Rattle.channel.specs.declared.step.Stepped.{Stepped}
 use Rattle.channel.specs.Record.{sends}
 use Rattle.table.specs.declared.deciding.Decision.{Decision}
-use Rattle.table.specs.Serving.{Step, alone}
-use Rattle.table.specs.Surveying.{stepping}
+use Rattle.table.specs.Waiting.{rankIn, moved}
+use Rattle.table.specs.Serving.{Step, alone, toldOf}
+use Rattle.table.specs.Surveying.{stepping, placed}
 use Rattle.table.proofs.Parts.{quiet}
 use Rattle.requests.specs.Requests.{transferFor}
 
@@ -37,3 +38,14 @@ module _ (c : Channel) (d : Decision) (mem lens out : List ℕ) where
       go : (b : Bool) → eqb (c .addresses .direction) sends ≡ b → works (before .made) (before .mem) (before .lens) out ≡ stepping (transferFor unit) c d mem lens out
       go true p = simp (p)
       go false p = simp (p)
+
+-- what a step has left, with the index told and the channel moved in the lines
+pub placed-moved : (d : Decision) (lines : List ℕ) (s : Stepped) (m l li o : List ℕ) (rank : ℕ) (w : Worked Stepped)
+    → li ≡ moved (d .look .sought) rank (d .spot .at) s lines
+    → rank ≡ rankIn (d .spot .grade)
+    → works s m l o ≡ w
+    → performs (record { channel = s .channel; told = toldOf (d .told .index) (s .answer) }) m l li o ≡ placed d lines w
+placed-moved d lines s m l li o rank w e k h =
+    ap (λ (x : List ℕ). performs (record { channel = s .channel; told = toldOf (d .told .index) (s .answer) }) m l x o)
+    (e ∙ ap (λ (r : ℕ). moved (d .look .sought) r (d .spot .at) s lines) k)
+    ∙ ap (placed d lines) h

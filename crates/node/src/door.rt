@@ -20,11 +20,13 @@ use table::Told;
 use table::beginning::survey;
 use table::deciding::decide;
 use table::surveying::begin;
+use table::waiting::move_lines;
+use table::waiting::rank_in;
 ghost use mathlib.Core.Path.{_≡_};
 ghost use lib.ListN.{length};
 ghost use Rattle.walks.specs.Serving.{works, performs, leaves, saying};
 ghost use Rattle.table.specs.Serving.{toldOf};
-ghost use Rattle.table.specs.Surveying.{begun, stepping, placed, Served};
+ghost use Rattle.table.specs.Surveying.{begun, stepping, placed, Served, Lined};
 ghost use Rattle.node.specs.Calls.{lookIn, stepFor, served, servedIndex};
 
 // A packet is read before the table is surveyed; what that says counts after the test for 13.
@@ -60,7 +62,7 @@ fn step_for(
     }
 }
 
-// The channel as it is stored, and the answer with its index.
+// The channel as it is stored, its place in the lines, and the answer with its index.
 fn serve_step(
     c: Channel,
     d: Decision,
@@ -71,10 +73,13 @@ fn serve_step(
     x: &[u8],
     out: &mut [u8],
 ) -> Placed
-    requires { ⌜ (Served c d (now mem) (now lens)) × (d .look ≡ lookIn n (now x) (length (now out))) ⌝ }
+    requires { ⌜ (Served c d (now mem) (now lens)) × (d .look ≡ lookIn n (now x) (length (now out))) × (Lined d (now lines)) ⌝ }
     ensures { λ r. ⌜ performs r (now (mem .exit)) (now (lens .exit)) (now (lines .exit)) (now (out .exit)) ≡ placed d (now (lines .entry)) (stepping (stepFor n (now (x .entry))) c d (now (mem .entry)) (now (lens .entry)) (now (out .entry))) ⌝ }
 {
     let s = step_for(c, d, n, mem, lens, x, out);
+    let look = d.look;
+    let sought = look.sought;
+    move_lines(lines, sought, rank_in(d.spot.grade), d.spot.at, s);
     let channel = s.channel;
     let answer = s.answer;
     Placed {

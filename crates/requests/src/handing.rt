@@ -4,6 +4,7 @@ use channel::Node;
 use channel::Stepped;
 use table::Decision;
 use table::surveying::area;
+use table::waiting::rank_in;
 ghost use mathlib.Core.Path.{_≡_};
 ghost use Rattle.walks.specs.Serving.{works};
 ghost use Rattle.table.specs.declared.looking.Sought.the-variants.{Ready};
@@ -31,7 +32,7 @@ pub fn next_step(
         c,
         &mem[octet..octets],
         &lens[slot..slots],
-        d.spot.rank,
+        rank_in(d.spot.grade),
         out,
     )
 }

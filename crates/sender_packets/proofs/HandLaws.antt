@@ -32,32 +32,7 @@ use Rattle.channel.proofs.PrefixLaws.{prefix-short}
 use Rattle.channel.specs.Steps.{refusing, doing, outgoingOf, outgoingLength}
 use Rattle.sender_packets.specs.Asked.{Plain}
 use Rattle.sender.specs.Directives.{placeAt}
-use Rattle.sender_packets.specs.HandingOut.{againIn, againAt, readyControl, readyAgain, nextInWindow, readyNew, ready, rankOf, ranksOf, controlFields, controlOut, againOut, newOut, dataFields, nextFields, nextPayload, nextOut, sentStep, sentOut, handStep, handOut}
-
-module _ (c : Channel) where
-  -- ---- the rank of the packet that is ready
-
-  pub rank-control : readyControl c ≡ true → rankOf c ≡ 0
-  unfolding rankOf ready
-  rank-control h = chosen (readyControl c) _ _ h
-
-  pub rank-state : readyControl c ≡ false → (c .phase .state ≡ opened → ⊥) → rankOf c ≡ 3
-  unfolding rankOf ready
-  rank-state h k = passed-by (readyControl c) _ _ h ∙ simp (ne-eqb _ _ k)
-
-  pub rank-again : readyControl c ≡ false → c .phase .state ≡ opened → againAt c < c .window .flight → rankOf c ≡ 1
-  unfolding rankOf ready
-  rank-again h k a = passed-by (readyControl c) _ _ h ∙ simp (eq-eqb _ _ k, lt-ltb _ _ a)
-
-  pub rank-new : readyControl c ≡ false → c .phase .state ≡ opened → c .window .flight ≤ againAt c → nextInWindow (c .limits) (c .window) ≡ true
-      → rankOf c ≡ 2
-  unfolding rankOf ready
-  rank-new h k a n = passed-by (readyControl c) _ _ h ∙ simp (eq-eqb _ _ k, le-ltb _ _ a) (chosen (nextInWindow (c .limits) (c .window)) _ _ n)
-
-  pub rank-none : readyControl c ≡ false → c .phase .state ≡ opened → c .window .flight ≤ againAt c → nextInWindow (c .limits) (c .window) ≡ false
-      → rankOf c ≡ 3
-  unfolding rankOf ready
-  rank-none h k a n = passed-by (readyControl c) _ _ h ∙ simp (eq-eqb _ _ k, le-ltb _ _ a) (passed-by (nextInWindow (c .limits) (c .window)) _ _ n)
+use Rattle.sender_packets.specs.HandingOut.{againIn, againAt, readyControl, readyAgain, nextInWindow, readyNew, ready, ranksOf, controlFields, controlOut, againOut, newOut, dataFields, nextFields, nextPayload, nextOut, sentStep, sentOut, handStep, handOut}
 
 -- the control packet is looked at in ENABLED and CLOSING
 module _ (state : ℕ) (b : Bool) where
@@ -70,38 +45,7 @@ module _ (state : ℕ) (b : Bool) where
   pub control-other : (state ≡ enabled → ⊥) → (state ≡ closing → ⊥) → ((eqb state enabled || eqb state closing) && b) ≡ false
   control-other h k = simp (ne-eqb state enabled h, ne-eqb state closing k)
 
--- ---- and back: what a rank has shown
-
 module _ (c : Channel) where
-  -- a packet of the rank is ready
-  pub rank-ready : (r : ℕ) → rankOf c ≡ r → r < 3 → ready r c ≡ true
-  unfolding rankOf
-  rank-ready r e l = go (ready 0 c) refl (ready 1 c) refl (ready 2 c) refl e
-    where
-      go : (x : Bool) → ready 0 c ≡ x → (y : Bool) → ready 1 c ≡ y → (z : Bool) → ready 2 c ≡ z
-          → (if x then 0 else if y then 1 else if z then 2 else 3) ≡ r
-          → ready r c ≡ true
-      go true p y q z s e = ap (λ (k : ℕ). ready k c) (sym e) ∙ p
-      go false p true q z s e = ap (λ (k : ℕ). ready k c) (sym e) ∙ q
-      go false p false q true s e = ap (λ (k : ℕ). ready k c) (sym e) ∙ s
-      go false p false q false s e = absurd (omega arith)
-
-  -- and of no lower one
-  pub rank-lowest : (r k : ℕ) → rankOf c ≡ r → k < r → ready k c ≡ false
-  unfolding rankOf
-  rank-lowest r k e l = go k l (ready 0 c) refl (ready 1 c) refl (ready 2 c) refl e
-    where
-      go : (k : ℕ) → k < r → (x : Bool) → ready 0 c ≡ x → (y : Bool) → ready 1 c ≡ y → (z : Bool) → ready 2 c ≡ z
-          → (if x then 0 else if y then 1 else if z then 2 else 3) ≡ r
-          → ready k c ≡ false
-      go k l true p y q z s e = absurd (omega arith)
-      go zero l false p y q z s e = p
-      go (suc k) l false p true q z s e = absurd (omega arith)
-      go (suc zero) l false p false q z s e = q
-      go (suc (suc k)) l false p false q true s e = absurd (omega arith)
-      go (suc (suc zero)) l false p false q false s e = s
-      go (suc (suc (suc k))) l false p false q false s e = absurd (omega arith)
-
   -- ---- what a rank that is ready has shown
 
   pub ready-as : {r k : ℕ} → r ≡ k → ready r c ≡ true → ready k c ≡ true

@@ -63,13 +63,9 @@ ready rank c =
     else if eqb rank 2 then readyNew c
     else false
 
--- of which ranks a packet is ready
+-- of which ranks a packet is ready (document 02, A4: it waits in the line of each)
 abbrev pub ranksOf : Channel → Ranks
 ranksOf c = record { control = ready 0 c; again = ready 1 c; fresh = ready 2 c }
-
--- the lowest rank of which a packet is ready; 3 if none is
-unfoldable pub rankOf : Channel → ℕ
-rankOf c = if ready 0 c then 0 else if ready 1 c then 1 else if ready 2 c then 2 else 3
 
 -- ---- the hand-out of the packet of a rank
 

@@ -32,7 +32,7 @@ ghost use Rattle.channel.specs.Record.{enabled, closing};
 ghost use Rattle.channel.specs.Prefixes.{fitPrefix};
 ghost use Rattle.channel.specs.Lone.{isReady};
 ghost use Rattle.channel.specs.Asked.{Ringed, Asked};
-ghost use Rattle.sender_packets.specs.HandingOut.{againIn, againAt, nextInWindow, ranksOf, rankOf, timedAt, controlOut, againOut, newOut, controlFields, dataFields, sentStep, sentOut, handStep, handOut};
+ghost use Rattle.sender_packets.specs.HandingOut.{againIn, againAt, nextInWindow, ranksOf, timedAt, controlOut, againOut, newOut, controlFields, dataFields, sentStep, sentOut, handStep, handOut};
 ghost use mathlib.Core.List.{[]};
 ghost use lib.ListN.{length, getD};
 ghost use Rattle.laws.specs.Choice.{if_then_else_};
@@ -52,14 +52,17 @@ fn is_again(acked: u8, left: u16) -> bool
     left == 0
 }
 
-// Of the n segments from a place on, how many there are before the first that waits to be resent; n if none does.
+// Of the n segments from a place on, how many there are before the first that waits to be resent; n if none does. No ring has a place past the
+// 128th; what is looked for there reads as 0, and so as one that waits.
 fn again_in(acked: [u8; 128], left: [u16; 128], slots: usize, n: usize, from: usize) -> usize
-    requires { ⌜ (from < slots) × (slots ≤ 128) ⌝ }
     ensures { λ r. ⌜ r ≡ againIn acked left slots n from ⌝ }
 {
     let mut count: usize = 0;
     let mut s = from;
     while count < n {
+        if 128 <= s {
+            return count;
+        }
         if is_again(acked[s], left[s]) {
             return count;
         }
@@ -71,7 +74,6 @@ fn again_in(acked: [u8; 128], left: [u16; 128], slots: usize, n: usize, from: us
 
 // The lowest segment that waits to be resent, counted from the start; as many as are in flight if none does.
 fn again_at(c: Channel) -> usize
-    requires { ⌜ Ringed (c .limits) (c .window) ⌝ }
     ensures { λ r. ⌜ r ≡ againAt c ⌝ }
 {
     let acked = c.acked;
@@ -109,7 +111,6 @@ pub struct Ranks {
 }
 
 pub fn ranks_of(c: Channel) -> Ranks
-    requires { ⌜ Ringed (c .limits) (c .window) ⌝ }
     ensures { λ r. ⌜ r ≡ ranksOf c ⌝ }
 {
     let control = is_control_ready(c.phase.state, c.phase.control);
@@ -127,26 +128,6 @@ pub fn ranks_of(c: Channel) -> Ranks
         again,
         fresh,
     }
-}
-
-// The rank of the packet that is ready: 0 Control, 1 resent Data, 2 new Data; 3 if none is.
-pub fn rank_of(c: Channel) -> usize
-    requires { ⌜ Ringed (c .limits) (c .window) ⌝ }
-    ensures { λ r. ⌜ r ≡ rankOf c ⌝ }
-{
-    if is_control_ready(c.phase.state, c.phase.control) {
-        return 0;
-    }
-    if c.phase.state != OPEN {
-        return 3;
-    }
-    if again_at(c) < c.window.flight {
-        return 1;
-    }
-    if is_new_ready(c.limits, c.window) {
-        return 2;
-    }
-    3
 }
 
 // The channel with the timer of the segment at a place started at the timeout, and so many resends left to it.

@@ -3,5 +3,4 @@ pub mod handing;
 
 pub use handing::Ranks;
 pub use handing::hand_step;
-pub use handing::rank_of;
 pub use handing::ranks_of;

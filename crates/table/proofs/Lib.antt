@@ -1,3 +1,4 @@
+pub mod WaitingLaws
 pub mod OneLaws
 pub mod Spots
 pub mod SurveyLaws

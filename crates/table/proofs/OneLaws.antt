@@ -16,14 +16,12 @@ use Rattle.channel.specs.declared.record.Addresses.{Addresses}
 use Rattle.channel.specs.declared.record.Channel.{Channel}
 use Rattle.channel.specs.declared.record.Prefix.{Prefix}
 use Rattle.channel.specs.Prefixes.{samePrefix}
-use Rattle.channel.specs.Record.{sends, receives}
-use Rattle.sender_packets.specs.HandingOut.{rankOf}
 use Rattle.channel.specs.declared.answer.Refusal.the-variants as refusal
 use Rattle.channel.specs.Standing.{standing}
 use Rattle.channel.proofs.SettingsLaws.{fit-is}
 use Rattle.channel.proofs.StandingLaws.{stands-is}
 use Rattle.table.specs.declared.surveying.Survey.{Survey}
-use Rattle.table.specs.Looking.{looksFor, same, readied, missing}
+use Rattle.table.specs.Looking.{looksFor, same, missing}
 use Rattle.lines.specs.Fit.{fitLines}
 use Rattle.table.specs.Lent.{partOf}
 use Rattle.table.specs.Surveying.{unsound, noted, surveyOne, isSound, refusedBy, servedBy, decided}
@@ -95,13 +93,13 @@ module _ (v : Survey) (n m l : ℕ) where
   unfolding decided
   decided-bad e = simp (e)
 
-  pub decided-found : isSound v n m l ≡ true → v .spot .rank < 3 → decided v n m l ≡ servedBy v
+  pub decided-found : isSound v n m l ≡ true → v .spot .grade < 48 → decided v n m l ≡ servedBy v
   unfolding decided
-  decided-found e h = simp (e, lt-ltb (v .spot .rank) 3 h)
+  decided-found e h = simp (e, lt-ltb (v .spot .grade) 48 h)
 
-  pub decided-none : isSound v n m l ≡ true → 3 ≤ v .spot .rank → decided v n m l ≡ refusedBy v n (missing (v .look .sought))
+  pub decided-none : isSound v n m l ≡ true → 48 ≤ v .spot .grade → decided v n m l ≡ refusedBy v n (missing (v .look .sought))
   unfolding decided
-  decided-none e h = simp (e, le-ltb (v .spot .rank) 3 h)
+  decided-none e h = simp (e, le-ltb (v .spot .grade) 48 h)
 
 -- ---- a packet's channel
 
@@ -119,6 +117,3 @@ same-direction a f q e =
 
 pub kind-finds : (a : Addresses) (f : Fields) (q : Prefix) (k : Kind) → same a f q ≡ true → kindOf (f .kind) ≡ k → a .direction ≡ looksFor k
 kind-finds a f q k e is = same-direction a f q e ∙ ap looksFor is
-
-pub ready-rank : (c : Channel) → c .addresses .direction ≡ sends → readied c ≡ rankOf c
-ready-rank c e = chosen (eqb (c .addresses .direction) sends) (rankOf c) 3 (eq-eqb _ _ e)

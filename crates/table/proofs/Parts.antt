@@ -11,6 +11,7 @@ use Rattle.walks.specs.Serving.{Worked, works}
 use Rattle.channel.specs.declared.record.Channel.{Channel}
 use Rattle.channel.specs.declared.step.Stepped.{Stepped}
 use Rattle.table.specs.declared.deciding.Decision.{Decision}
+use Rattle.table.specs.Waiting.{rankIn}
 use Rattle.table.specs.Lent.{areaOf, partOf}
 use Rattle.table.specs.Serving.{Step}
 use Rattle.channel.specs.Asked.{Asked}
@@ -52,7 +53,7 @@ module _ (c : Channel) (d : Decision) (mem lens : List ℕ) where
 module _ (step : Step) (c : Channel) (d : Decision) (mem lens out : List ℕ) where
   -- a step that changes neither octets nor lengths
   pub quiet : (s : Stepped) (o : List ℕ)
-      → step c (d .spot .rank) (mine c d mem) (mineLens c d lens) out ≡ works s (mine c d mem) (mineLens c d lens) o
+      → step c (rankIn (d .spot .grade)) (mine c d mem) (mineLens c d lens) out ≡ works s (mine c d mem) (mineLens c d lens) o
       → works s mem lens o ≡ stepping step c d mem lens out
   quiet s o e =
       ap₂ (λ (m l : List ℕ). works s m l o) (sym (laid-own mem (d .spot .octet) (areaOf (c .limits)))) (sym (laid-own lens (d .spot .slot) (c .limits .slots)))
@@ -64,7 +65,7 @@ module _ (step : Step) (c : Channel) (d : Decision) (mem lens out : List ℕ) wh
     pub parts-read : (answer : List ℕ → Stepped) (fill : List ℕ → List ℕ → List ℕ) (s : Stepped) (o : List ℕ)
         → s ≡ answer (take k (drop (d .spot .slot) lens))
         → o ≡ fill (take k (drop (d .spot .slot) lens)) (take j (drop (d .spot .octet) mem))
-        → step c (d .spot .rank) (mine c d mem) (mineLens c d lens) out
+        → step c (rankIn (d .spot .grade)) (mine c d mem) (mineLens c d lens) out
         ≡ works (answer (mineLens c d lens)) (mine c d mem) (mineLens c d lens) (fill (mineLens c d lens) (mine c d mem))
         → works s mem lens o ≡ stepping step c d mem lens out
     parts-read answer fill s o es eo e =
@@ -79,7 +80,7 @@ module _ (step : Step) (c : Channel) (d : Decision) (mem lens out : List ℕ) wh
         → m ≡ octets (take j (drop (d .spot .octet) mem))
         → l ≡ lengths (take k (drop (d .spot .slot) lens))
         → Sized (c .limits .slots) (c .limits .payload) (octets (mine c d mem)) (lengths (mineLens c d lens))
-        → step c (d .spot .rank) (mine c d mem) (mineLens c d lens) out ≡ works t (octets (mine c d mem)) (lengths (mineLens c d lens)) o
+        → step c (rankIn (d .spot .grade)) (mine c d mem) (mineLens c d lens) out ≡ works t (octets (mine c d mem)) (lengths (mineLens c d lens)) o
         → works s (putMid (d .spot .octet) j mem m) (putMid (d .spot .slot) k lens l) o ≡ stepping step c d mem lens out
     parts-filed octets lengths s t m l o es em el sized e =
         let zm : m ≡ octets (mine c d mem) = em ∙ ap octets (own-mem c d mem lens j ej) in

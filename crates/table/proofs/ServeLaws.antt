@@ -15,7 +15,7 @@ use Rattle.laws.proofs.Choice.{both, chosen, passed-by}
 use Rattle.slots.specs.Slots.{Sized, laid}
 use Rattle.lines.specs.Lines.{noLines}
 use Rattle.lines.specs.Fit.{fitLines}
-use Rattle.lines.proofs.FitLaws.{fit-test, tested}
+use Rattle.lines.proofs.FitLaws.{fit-test, fit-facts, tested}
 use Rattle.walks.specs.Serving.{Worked, Called, works, leaves, servedBy, saying}
 use Rattle.channel.specs.declared.record.Channel.{Channel}
 use Rattle.channel.specs.declared.answer.Answer.{Answer}
@@ -33,10 +33,11 @@ use Rattle.table.specs.declared.surveying.Spot.{Spot}
 use Rattle.table.specs.declared.deciding.Decision.{Decision}
 use Rattle.table.specs.Looking.{graded, missing, Chosen, chosenFrom, isFound, chosen as choice}
 use Rattle.table.specs.Lent.{areaOf, partOf, allSlots, allOctets, slotAt, octetAt, eachStands, lawful, passes}
-use Rattle.table.specs.Serving.{blank, recordAt, ownMem, ownLens, Step, stored, serveOne, indexServed, toldOf}
-use Rattle.table.specs.Surveying.{begun, better, surveyOne, surveyed, isSound, decided, refusedBy, servedBy as served, toldRoles, placed, mine, mineLens, wholly, stepping, Served}
+use Rattle.table.specs.Waiting.{rankIn, moved}
+use Rattle.table.specs.Serving.{blank, recordAt, ownMem, ownLens, Step, stored, worked, serveOne, indexServed, toldOf}
+use Rattle.table.specs.Surveying.{begun, better, surveyOne, surveyed, isSound, decided, refusedBy, servedBy as served, toldRoles, placed, mine, mineLens, wholly, stepping, Served, Lined}
 use Rattle.table.proofs.OneLaws.{decided-bad, decided-found, decided-none}
-use Rattle.table.proofs.Spots.{spotFrom, far, spot-rank, chosen-at, Lies, spot-lies, Suits, chosen-suits}
+use Rattle.table.proofs.Spots.{spotFrom, far, spot-grade, chosen-at, Lies, spot-lies, Suits, chosen-suits}
 use Rattle.table.proofs.SurveyLaws.{each-stands, slots-within, octets-within, Going, stays-spoilt, survey-good, survey-bad, finally}
 
 -- ---- the test for 13
@@ -80,7 +81,7 @@ lines-fit : (n : ℕ) (lines : List ℕ) → fitLines n lines ≡ true → fitLi
 lines-fit n lines e = fit-test 16 lines (tested n lines e)
 
 starts : (look : Look) (lines : List ℕ) → fitLines 16 lines ≡ true → Going (begun look lines) 0
-starts look lines e = record { sound = e; few = omega arith; slots = omega arith; octets = omega arith; rank = omega arith }
+starts look lines e = record { sound = e; few = omega arith; slots = omega arith; octets = omega arith; grade = omega arith }
 
 -- a survey that is sound has seen every record stand
 module _ (look : Look) (t : List Channel) (lens lines : List ℕ) where
@@ -157,40 +158,47 @@ module _ (look : Look) (t : List Channel) (lens lines : List ℕ) where
       go true p false q = absurd (true≢false (sym (is-passing t mem lens lines (from-sound p)) ∙ q))
       go false p true q = absurd (true≢false (sym (from-law (passing-is t mem lens lines q)) ∙ p))
 
--- no rank is over 3
-pub capped : (look : Look) (j : ℕ) (t : List Channel) → 3 ≤ chosenFrom look j t .rank → 3 ≡ chosenFrom look j t .rank
+-- no grade is over 48
+pub capped : (look : Look) (lines : List ℕ) (j : ℕ) (t : List Channel) → 48 ≤ chosenFrom look lines j t .grade → 48 ≡ chosenFrom look lines j t .grade
 unfolding chosenFrom
-capped look j [] h = refl
-capped look j (c ∷ t) h = go (leb (graded look j c) (chosenFrom look (j + 1) t .rank)) refl (capped look (j + 1) t) h
+capped look lines j [] h = refl
+capped look lines j (c ∷ t) h = go (leb (graded look lines j c) (chosenFrom look lines (j + 1) t .grade)) refl (capped look lines (j + 1) t) h
   where
-    go : (b : Bool) → leb (graded look j c) (chosenFrom look (j + 1) t .rank) ≡ b
-        → (3 ≤ chosenFrom look (j + 1) t .rank → 3 ≡ chosenFrom look (j + 1) t .rank)
-        → 3 ≤ chosenFrom look j (c ∷ t) .rank → 3 ≡ chosenFrom look j (c ∷ t) .rank
+    go : (b : Bool) → leb (graded look lines j c) (chosenFrom look lines (j + 1) t .grade) ≡ b
+        → (48 ≤ chosenFrom look lines (j + 1) t .grade → 48 ≡ chosenFrom look lines (j + 1) t .grade)
+        → 48 ≤ chosenFrom look lines j (c ∷ t) .grade → 48 ≡ chosenFrom look lines j (c ∷ t) .grade
     go true e next =
-        let l = leb-true (graded look j c) (chosenFrom look (j + 1) t .rank) e in
+        let l = leb-true (graded look lines j c) (chosenFrom look lines (j + 1) t .grade) e in
         simp (e) (λ k. let q = next (omega (arith, k, l)) in omega (arith, k, l, q))
     go false e next = simp (e) next
 
 -- a call by what is decided and what the step makes, the index not told
 unfoldable pub servedWith : Bool → Decision → List Channel → List ℕ → List ℕ → List ℕ → List ℕ → Worked Stepped → Called Answer Channel
-servedWith true d t mem lens lines out w = leaves (w .made .answer) (set t (d .at) (w .made .channel)) (w .mem) (w .lens) lines (w .out)
+servedWith true d t mem lens lines out w =
+    leaves
+    (w .made .answer)
+    (set t (d .at) (w .made .channel))
+    (w .mem)
+    (w .lens)
+    (moved (d .look .sought) (rankIn (d .spot .grade)) (d .spot .at) (w .made) lines)
+    (w .out)
 servedWith false d t mem lens lines out w = leaves (d .told .answer) t mem lens lines out
 
 -- ---- a table that passes it: what is found, and what the step asks
 
 -- the choice alone
-module _ (look : Look) (t : List Channel) where
-  at-far : choice look t .at ≡ far look 0 t
-  at-far = chosen-at look 0 t ∙ zero-add (far look 0 t)
+module _ (look : Look) (lines : List ℕ) (t : List Channel) where
+  at-far : choice look lines t .at ≡ far look lines 0 t
+  at-far = chosen-at look lines 0 t ∙ zero-add (far look lines 0 t)
 
-module _ (look : Look) (t : List Channel) (mem lens : List ℕ) (h : Lawful t mem lens) where
-  pub found-below : choice look t .rank < 3 → choice look t .at < length t
-  found-below f = rw (at-far look t) (chosen-suits look 0 t f .0)
+module _ (look : Look) (lines : List ℕ) (t : List Channel) (mem lens : List ℕ) (h : Lawful t mem lens) where
+  pub found-below : choice look lines t .grade < 48 → choice look lines t .at < length t
+  found-below f = rw (at-far look lines t) (chosen-suits look lines 0 t f .0)
 
-  pub found-suits : choice look t .rank < 3 → choice look t .rank ≡ graded look (choice look t .at) (recordAt t (choice look t .at))
+  pub found-suits : choice look lines t .grade < 48 → choice look lines t .grade ≡ graded look lines (choice look lines t .at) (recordAt t (choice look lines t .at))
   found-suits f =
-      chosen-suits look 0 t f .1
-      ∙ ap₂ (λ (i k : ℕ). graded look i (getD t k blank)) (sym (chosen-at look 0 t)) (sym (at-far look t))
+      chosen-suits look lines 0 t f .1
+      ∙ ap₂ (λ (i k : ℕ). graded look lines i (getD t k blank)) (sym (chosen-at look lines 0 t)) (sym (at-far look lines t))
 
 module _ (look : Look) (t : List Channel) (mem lens lines : List ℕ) (p : Passing t mem lens lines) where
   h : Lawful t mem lens
@@ -204,36 +212,42 @@ module _ (look : Look) (t : List Channel) (mem lens lines : List ℕ) (p : Passi
   whole = surveyed t lens (begun look lines)
 
   abbrev pub spot : Spot
-  spot = spotFrom look 0 0 0 t
+  spot = spotFrom look lines 0 0 0 t
 
-  -- the best of all is the best from the first on, or none is
-  pub whole-rank : whole .spot .rank ≡ choice look t .rank
-  whole-rank = ap (λ (w : Survey). w .spot .rank) good ∙ go (ltb (spot .rank) 3) refl
-    where
-      top : spot .rank ≡ choice look t .rank
-      top = spot-rank look 0 0 0 t
-
-      go : (b : Bool) → ltb (spot .rank) 3 ≡ b → better (begun look lines .spot) spot .rank ≡ choice look t .rank
-      go true e = simp (e) top
-      go false e = simp (e) (capped look 0 t (omega (arith, ltb-false (spot .rank) 3 e, top)))
-
-  pub found-spot : choice look t .rank < 3 → whole .spot ≡ spot
-  found-spot f =
+  -- the best of all, by the lines that are lent
+  good-spot : whole .spot ≡ better (begun look lines .spot) spot
+  good-spot =
       ap (λ (w : Survey). w .spot) good
-      ∙ chosen (ltb (spot .rank) 3) spot (begun look lines .spot) (lt-ltb (spot .rank) 3 (omega (arith, f, spot-rank look 0 0 0 t)))
+      ∙ ap (λ (l : List ℕ). better (begun look lines .spot) (spotFrom look l 0 0 0 t)) (seen-lines look t lens lines (lines-fit (length t) lines (p .lined)))
 
-  pub found-at : choice look t .rank < 3 → whole .spot .at ≡ choice look t .at
-  found-at f = ap (λ (x : Spot). x .at) (found-spot f) ∙ spot-lies look 0 0 0 t .at ∙ sym (chosen-at look 0 t)
+  -- it is the best from the first on, or none is
+  pub whole-grade : whole .spot .grade ≡ choice look lines t .grade
+  whole-grade = ap (λ (x : Spot). x .grade) good-spot ∙ go (ltb (spot .grade) 48) refl
+    where
+      top : spot .grade ≡ choice look lines t .grade
+      top = spot-grade look lines 0 0 0 t
 
-  pub found-slot : choice look t .rank < 3 → whole .spot .slot ≡ slotAt t (choice look t .at)
+      go : (b : Bool) → ltb (spot .grade) 48 ≡ b → better (begun look lines .spot) spot .grade ≡ choice look lines t .grade
+      go true e = simp (e) top
+      go false e = simp (e) (capped look lines 0 t (omega (arith, ltb-false (spot .grade) 48 e, top)))
+
+  pub found-spot : choice look lines t .grade < 48 → whole .spot ≡ spot
+  found-spot f =
+      good-spot
+      ∙ chosen (ltb (spot .grade) 48) spot (begun look lines .spot) (lt-ltb (spot .grade) 48 (omega (arith, f, spot-grade look lines 0 0 0 t)))
+
+  pub found-at : choice look lines t .grade < 48 → whole .spot .at ≡ choice look lines t .at
+  found-at f = ap (λ (x : Spot). x .at) (found-spot f) ∙ spot-lies look lines 0 0 0 t .at ∙ sym (chosen-at look lines 0 t)
+
+  pub found-slot : choice look lines t .grade < 48 → whole .spot .slot ≡ slotAt t (choice look lines t .at)
   found-slot f =
-      ap (λ (x : Spot). x .slot) (found-spot f) ∙ spot-lies look 0 0 0 t .slot ∙ zero-add (allSlots (take (far look 0 t) t))
-      ∙ ap (λ (k : ℕ). allSlots (take k t)) (sym (at-far look t))
+      ap (λ (x : Spot). x .slot) (found-spot f) ∙ spot-lies look lines 0 0 0 t .slot ∙ zero-add (allSlots (take (far look lines 0 t) t))
+      ∙ ap (λ (k : ℕ). allSlots (take k t)) (sym (at-far look lines t))
 
-  pub found-octet : choice look t .rank < 3 → whole .spot .octet ≡ octetAt t (choice look t .at)
+  pub found-octet : choice look lines t .grade < 48 → whole .spot .octet ≡ octetAt t (choice look lines t .at)
   found-octet f =
-      ap (λ (x : Spot). x .octet) (found-spot f) ∙ spot-lies look 0 0 0 t .octet ∙ zero-add (allOctets (take (far look 0 t) t))
-      ∙ ap (λ (k : ℕ). allOctets (take k t)) (sym (at-far look t))
+      ap (λ (x : Spot). x .octet) (found-spot f) ∙ spot-lies look lines 0 0 0 t .octet ∙ zero-add (allOctets (take (far look lines 0 t) t))
+      ∙ ap (λ (k : ℕ). allOctets (take k t)) (sym (at-far look lines t))
 
   -- ---- the two cases of a table that passes the test
 
@@ -246,20 +260,20 @@ module _ (look : Look) (t : List Channel) (mem lens lines : List ℕ) (p : Passi
   look-kept : whole .look ≡ look
   look-kept = ap (λ (w : Survey). w .look) good
 
-  pub is-served : choice look t .rank < 3 → decision ≡ served whole
-  is-served f = decided-found whole (length t) (length mem) (length lens) sound (rw whole-rank f)
+  pub is-served : choice look lines t .grade < 48 → decision ≡ served whole
+  is-served f = decided-found whole (length t) (length mem) (length lens) sound (rw whole-grade f)
 
-  pub is-missing : 3 ≤ choice look t .rank → decision ≡ refusedBy whole (length t) (missing (look .sought))
+  pub is-missing : 48 ≤ choice look lines t .grade → decision ≡ refusedBy whole (length t) (missing (look .sought))
   is-missing f =
-      decided-none whole (length t) (length mem) (length lens) sound (rw whole-rank f)
+      decided-none whole (length t) (length mem) (length lens) sound (rw whole-grade f)
       ∙ ap (λ (l : Look). refusedBy whole (length t) (missing (l .sought))) look-kept
 
   -- the record that is served has what its step asks
-  pub serves : choice look t .rank < 3 → Served (recordAt t (choice look t .at)) (served whole) mem lens
+  pub serves : choice look lines t .grade < 48 → Served (recordAt t (choice look lines t .at)) (served whole) mem lens
   serves f =
-      let at = choice look t .at in
+      let at = choice look lines t .at in
       let c = recordAt t at in
-      let below = found-below look t mem lens h f in
+      let below = found-below look lines t mem lens h f in
       let st = each-stands t lens (h .stand) at below in
       let slot = found-slot f in
       let octet = found-octet f in
@@ -279,37 +293,52 @@ module _ (look : Look) (t : List Channel) (mem lens lines : List ℕ) (p : Passi
             };
         slots = in-lens;
         octets = in-mem;
-        suits = whole-rank ∙ found-suits look t mem lens h f ∙ ap₂ (λ (l : Look) (i : ℕ). graded l i c) (sym look-kept) (sym (found-at f));
-        found = rw whole-rank f;
+        lines = lines;
+        suits = whole-grade ∙ found-suits look lines t mem lens h f ∙ ap₂ (λ (l : Look) (i : ℕ). graded l lines i c) (sym look-kept) (sym (found-at f));
+        found = rw whole-grade f;
+      }
+
+  -- the lines are lines, and it is one of 16
+  pub lined : choice look lines t .grade < 48 → Lined (served whole) lines
+  lined f =
+      record {
+        fit = fit-facts 16 lines (lines-fit (length t) lines (p .lined));
+        at = omega (arith, found-at f, found-below look lines t mem lens h f, h .few);
       }
 
   -- the step's outcome, stored at an index, over the parts that begin at a slot and at an octet
-  abbrev laidAt : Step → List ℕ → List ℕ → ℕ → ℕ → ℕ → ℕ → Called Answer Channel
-  laidAt step lines out at slot octet rank =
-      let w = step (recordAt t at) rank (partOf octet (areaOf (recordAt t at .limits)) mem) (partOf slot (recordAt t at .limits .slots) lens) out in
-      leaves (w .made .answer) (set t at (w .made .channel)) (laid mem octet (w .mem)) (laid lens slot (w .lens)) lines (w .out)
+  abbrev laidAt : Step → List ℕ → ℕ → ℕ → ℕ → ℕ → Look → Called Answer Channel
+  laidAt step out at slot octet grade sought =
+      let w = step (recordAt t at) (rankIn grade) (partOf octet (areaOf (recordAt t at .limits)) mem) (partOf slot (recordAt t at .limits .slots) lens) out in
+      leaves
+      (w .made .answer)
+      (set t at (w .made .channel))
+      (laid mem octet (w .mem))
+      (laid lens slot (w .lens))
+      (moved (sought .sought) (rankIn grade) at (w .made) lines)
+      (w .out)
 
-  pub in-place : (step : Step) (out : List ℕ) → choice look t .rank < 3
+  pub in-place : (step : Step) (out : List ℕ) → choice look lines t .grade < 48
       → servedWith (ltb (whole .spot .at) (length t)) (served whole) t mem lens lines out (stepping step (recordAt t (whole .spot .at)) (served whole) mem lens out)
-      ≡ stored t mem lens lines (choice look t .at)
-      (step (recordAt t (choice look t .at)) (choice look t .rank) (ownMem t (choice look t .at) mem) (ownLens t (choice look t .at) lens) out)
+      ≡ stored (look .sought) t mem lens lines (choice look lines t) (worked step t mem lens out (choice look lines t))
   unfolding servedWith stored
   in-place step out f =
       let at = found-at f in
-      let x = choice look t .at in
+      let x = choice look lines t .at in
       ap (λ (b : Bool). servedWith b (served whole) t mem lens lines out (stepping step (recordAt t (whole .spot .at)) (served whole) mem lens out))
-      (lt-ltb (whole .spot .at) (length t) (rw at (found-below look t mem lens h f)))
-      ∙ ap (λ (i : ℕ). laidAt step lines out i (whole .spot .slot) (whole .spot .octet) (whole .spot .rank)) at
-      ∙ ap (λ (i : ℕ). laidAt step lines out x i (whole .spot .octet) (whole .spot .rank)) (found-slot f)
-      ∙ ap (λ (i : ℕ). laidAt step lines out x (slotAt t x) i (whole .spot .rank)) (found-octet f)
-      ∙ ap (λ (i : ℕ). laidAt step lines out x (slotAt t x) (octetAt t x) i) whole-rank
+      (lt-ltb (whole .spot .at) (length t) (rw at (found-below look lines t mem lens h f)))
+      ∙ ap (λ (i : ℕ). laidAt step out i (whole .spot .slot) (whole .spot .octet) (whole .spot .grade) (whole .look)) at
+      ∙ ap (λ (i : ℕ). laidAt step out x i (whole .spot .octet) (whole .spot .grade) (whole .look)) (found-slot f)
+      ∙ ap (λ (i : ℕ). laidAt step out x (slotAt t x) i (whole .spot .grade) (whole .look)) (found-octet f)
+      ∙ ap (λ (i : ℕ). laidAt step out x (slotAt t x) (octetAt t x) i (whole .look)) whole-grade
+      ∙ ap (laidAt step out x (slotAt t x) (octetAt t x) (choice look lines t .grade)) look-kept
 
 -- what was looked for is told with the decision
 decided-look : (v : Survey) (n m l : ℕ) → decided v n m l .look ≡ v .look
 unfolding decided
-decided-look v n m l = go (isSound v n m l) refl (ltb (v .spot .rank) 3) refl
+decided-look v n m l = go (isSound v n m l) refl (ltb (v .spot .grade) 48) refl
   where
-    go : (a : Bool) → isSound v n m l ≡ a → (b : Bool) → ltb (v .spot .rank) 3 ≡ b → decided v n m l .look ≡ v .look
+    go : (a : Bool) → isSound v n m l ≡ a → (b : Bool) → ltb (v .spot .grade) 48 ≡ b → decided v n m l .look ≡ v .look
     go false p b q = simp (p)
     go true p true q = simp (p, q)
     go true p false q = simp (p, q)
@@ -324,22 +353,25 @@ module _ (look : Look) (t : List Channel) (mem lens lines : List ℕ) where
   is-unlawful e = decided-bad (surveyed t lens (begun look lines)) (length t) (length mem) (length lens) (sound-passes look t lens lines mem ∙ e)
 
   -- where the decision is an index of the table, the step may be called
-  pub may-serve : decisionOf .at < length t → Served (recordAt t (decisionOf .at)) decisionOf mem lens
-  may-serve l = go (passes t mem lens lines) refl (ltb (choice look t .rank) 3) refl
+  pub may-serve : decisionOf .at < length t → Served (recordAt t (decisionOf .at)) decisionOf mem lens × Lined decisionOf lines
+  may-serve l = go (passes t mem lens lines) refl (ltb (choice look lines t .grade) 48) refl
     where
-      not-n : (v : Survey) (why : Refusal) → decisionOf ≡ refusedBy v (length t) why → Served (recordAt t (decisionOf .at)) decisionOf mem lens
+      not-n : (v : Survey) (why : Refusal) → decisionOf ≡ refusedBy v (length t) why → Served (recordAt t (decisionOf .at)) decisionOf mem lens × Lined decisionOf lines
       not-n v why e = absurd (lt-irrefl (length t) (subst (λ (d : Decision). d .at < length t) e l))
 
-      go : (a : Bool) → passes t mem lens lines ≡ a → (b : Bool) → ltb (choice look t .rank) 3 ≡ b → Served (recordAt t (decisionOf .at)) decisionOf mem lens
+      go : (a : Bool) → passes t mem lens lines ≡ a → (b : Bool) → ltb (choice look lines t .grade) 48 ≡ b
+          → Served (recordAt t (decisionOf .at)) decisionOf mem lens × Lined decisionOf lines
       go false p b q = not-n (surveyed t lens (begun look lines)) refusal.Settings (is-unlawful p)
       go true p false q =
-          not-n (surveyed t lens (begun look lines)) (missing (look .sought)) (is-missing look t mem lens lines (passing-is t mem lens lines p) (ltb-false (choice look t .rank) 3 q))
+          not-n (surveyed t lens (begun look lines)) (missing (look .sought)) (is-missing look t mem lens lines (passing-is t mem lens lines p) (ltb-false (choice look lines t .grade) 48 q))
       go true p true q =
           let h = passing-is t mem lens lines p in
-          let f = ltb-true (choice look t .rank) 3 q in
+          let f = ltb-true (choice look lines t .grade) 48 q in
           let e = is-served look t mem lens lines h f in
-          subst (λ (d : Decision). Served (recordAt t (d .at)) d mem lens) (sym e)
-          (subst (λ (i : ℕ). Served (recordAt t i) (served (surveyed t lens (begun look lines))) mem lens) (sym (found-at look t mem lens lines h f)) (serves look t mem lens lines h f))
+          subst (λ (d : Decision). Served (recordAt t (d .at)) d mem lens × Lined d lines) (sym e) (
+            subst (λ (i : ℕ). Served (recordAt t i) (served (surveyed t lens (begun look lines))) mem lens) (sym (found-at look t mem lens lines h f)) (serves look t mem lens lines h f),
+            lined look t mem lens lines h f,
+          )
 
   pub look-stays : decisionOf .at < length t → decisionOf .look ≡ look
   look-stays l = go (passes t mem lens lines) refl
@@ -353,7 +385,7 @@ module _ (look : Look) (t : List Channel) (mem lens lines : List ℕ) where
       → servedWith (ltb (decisionOf .at) (length t)) decisionOf t mem lens lines out (stepping step (recordAt t (decisionOf .at)) decisionOf mem lens out)
       ≡ serveOne look step t mem lens lines out
   unfolding servedWith serveOne stored
-  agreed step out = go (passes t mem lens lines) refl (ltb (choice look t .rank) 3) refl
+  agreed step out = go (passes t mem lens lines) refl (ltb (choice look lines t .grade) 48) refl
     where
       -- the call, by what is decided
       by : Decision → Called Answer Channel
@@ -365,14 +397,14 @@ module _ (look : Look) (t : List Channel) (mem lens lines : List ℕ) where
           ∙ ap (λ (b : Bool). servedWith b (refusedBy v (length t) why) t mem lens lines out (stepping step (recordAt t (length t)) (refusedBy v (length t) why) mem lens out))
           (le-ltb (length t) (length t) (omega arith))
 
-      go : (a : Bool) → passes t mem lens lines ≡ a → (b : Bool) → ltb (choice look t .rank) 3 ≡ b → by decisionOf ≡ serveOne look step t mem lens lines out
+      go : (a : Bool) → passes t mem lens lines ≡ a → (b : Bool) → ltb (choice look lines t .grade) 48 ≡ b → by decisionOf ≡ serveOne look step t mem lens lines out
       go false p b q = refused (surveyed t lens (begun look lines)) refusal.Settings (is-unlawful p) ∙ simp (p)
       go true p false q =
-          refused (surveyed t lens (begun look lines)) (missing (look .sought)) (is-missing look t mem lens lines (passing-is t mem lens lines p) (ltb-false (choice look t .rank) 3 q))
+          refused (surveyed t lens (begun look lines)) (missing (look .sought)) (is-missing look t mem lens lines (passing-is t mem lens lines p) (ltb-false (choice look lines t .grade) 48 q))
           ∙ simp (p, q)
       go true p true q =
           let h = passing-is t mem lens lines p in
-          let f = ltb-true (choice look t .rank) 3 q in
+          let f = ltb-true (choice look lines t .grade) 48 q in
           ap by (is-served look t mem lens lines h f)
           ∙ in-place look t mem lens lines h step out f
           ∙ simp (p, q)
@@ -380,19 +412,19 @@ module _ (look : Look) (t : List Channel) (mem lens lines : List ℕ) where
   -- the index that is told is that of the channel served
   pub index-told : decisionOf .told .index ≡ indexServed look t mem lens lines
   unfolding indexServed
-  index-told = go (passes t mem lens lines) refl (ltb (choice look t .rank) 3) refl
+  index-told = go (passes t mem lens lines) refl (ltb (choice look lines t .grade) 48) refl
     where
       told : {d : Decision} → decisionOf ≡ d → decisionOf .told .index ≡ d .told .index
       told e = ap (λ (d : Decision). d .told .index) e
 
-      go : (a : Bool) → passes t mem lens lines ≡ a → (b : Bool) → ltb (choice look t .rank) 3 ≡ b → decisionOf .told .index ≡ indexServed look t mem lens lines
+      go : (a : Bool) → passes t mem lens lines ≡ a → (b : Bool) → ltb (choice look lines t .grade) 48 ≡ b → decisionOf .told .index ≡ indexServed look t mem lens lines
       go false p b q = told (is-unlawful p) ∙ simp (p)
       go true p false q =
-          told (is-missing look t mem lens lines (passing-is t mem lens lines p) (ltb-false (choice look t .rank) 3 q))
+          told (is-missing look t mem lens lines (passing-is t mem lens lines p) (ltb-false (choice look lines t .grade) 48 q))
           ∙ simp (p, q)
       go true p true q =
           let h = passing-is t mem lens lines p in
-          let f = ltb-true (choice look t .rank) 3 q in
+          let f = ltb-true (choice look lines t .grade) 48 q in
           told (is-served look t mem lens lines h f) ∙ found-at look t mem lens lines h f ∙ simp (p, q)
 
   -- the same call, with the index told

@@ -68,7 +68,7 @@ pub record Going (v : Survey) (j : ℕ) : Type 0 where
   pub few : j ≤ 16
   pub slots : v .slots ≤ j * 128
   pub octets : v .octets ≤ j * 131072
-  pub rank : v .spot .rank ≤ 3
+  pub grade : v .spot .grade ≤ 48
 
 bounds : (c : Channel) (lens : List ℕ) → standing c lens ≡ true → (c .limits .slots ≤ 128) × (areaOf (c .limits) ≤ 131072)
 bounds c lens e =
@@ -76,11 +76,11 @@ bounds c lens e =
     let f = fit-is (c .limits) (h .fit) in
     (f .most, omega (arith, mul-le-mul-right (c .limits .payload) (f .most), f .payload))
 
-better-rank : (old new : Spot) → old .rank ≤ 3 → better old new .rank ≤ 3
-better-rank old new h = go (ltb (new .rank) (old .rank)) refl
+better-grade : (old new : Spot) → old .grade ≤ 48 → better old new .grade ≤ 48
+better-grade old new h = go (ltb (new .grade) (old .grade)) refl
   where
-    go : (b : Bool) → ltb (new .rank) (old .rank) ≡ b → better old new .rank ≤ 3
-    go true e = simp (e) (omega (arith, ltb-true (new .rank) (old .rank) e, h))
+    go : (b : Bool) → ltb (new .grade) (old .grade) ≡ b → better old new .grade ≤ 48
+    go true e = simp (e) (omega (arith, ltb-true (new .grade) (old .grade) e, h))
     go false e = simp (e) h
 
 pub goes-on : (v : Survey) (c : Channel) (lens : List ℕ) (j : ℕ) → Going v j → j < 16
@@ -89,7 +89,7 @@ pub goes-on : (v : Survey) (c : Channel) (lens : List ℕ) (j : ℕ) → Going v
 goes-on v c lens j g few e =
     let b = bounds c (partOf (v .slots) (c .limits .slots) lens) e in (
       one-stands v c lens j (g .sound) few (omega (arith, g .slots)) (omega (arith, g .octets)) e,
-      record { sound = refl; few = few; slots = omega (arith, g .slots, b .0); octets = omega (arith, g .octets, b .1); rank = better-rank (v .spot) (spotHere v c j) (g .rank) },
+      record { sound = refl; few = few; slots = omega (arith, g .slots, b .0); octets = omega (arith, g .octets, b .1); grade = better-grade (v .spot) (spotHere v c j) (g .grade) },
     )
 
 -- what is spoilt stays so
@@ -107,7 +107,7 @@ finally v j t =
       sound = true;
       slots = v .slots + allSlots t;
       octets = v .octets + allOctets t;
-      spot = better (v .spot) (spotFrom (v .look) j (v .slots) (v .octets) t);
+      spot = better (v .spot) (spotFrom (v .look) (v .lines) j (v .slots) (v .octets) t);
     }
 
 pub stands-none : (lens : List ℕ) → eachStands [] lens ≡ true
@@ -122,15 +122,15 @@ none v j g =
     ∙ ap (λ (s : ℕ). record { look = v .look; lines = v .lines; sound = true; slots = s; octets = v .octets; spot = v .spot }) (sym (add-zero (v .slots)))
     ∙ ap (λ (o : ℕ). record { look = v .look; lines = v .lines; sound = true; slots = v .slots + 0; octets = o; spot = v .spot }) (sym (add-zero (v .octets)))
     ∙ ap (λ (x : Spot). record { look = v .look; lines = v .lines; sound = true; slots = v .slots + 0; octets = v .octets + 0; spot = x })
-    (sym (passed-by (ltb 3 (v .spot .rank)) (spotFrom (v .look) j (v .slots) (v .octets) []) (v .spot) (le-ltb 3 (v .spot .rank) (g .rank))))
+    (sym (passed-by (ltb 48 (v .spot .grade)) (spotFrom (v .look) (v .lines) j (v .slots) (v .octets) []) (v .spot) (le-ltb 48 (v .spot .grade) (g .grade))))
 
 -- the record counted, and those behind it: counted together
 noted-finally : (v : Survey) (c : Channel) (j : ℕ) (t : List Channel) → finally (noted v c j) (suc j) t ≡ finally v j (c ∷ t)
 unfolding allSlots allOctets spotFrom
 noted-finally v c j t =
     let one : suc j ≡ j + 1 = omega arith in
-    let rest : ℕ → Spot = λ i. spotFrom (v .look) i (v .slots + c .limits .slots) (v .octets + areaOf (c .limits)) t in
-    let spots : better (better (v .spot) (spotHere v c j)) (rest (suc j)) ≡ better (v .spot) (spotFrom (v .look) j (v .slots) (v .octets) (c ∷ t)) =
+    let rest : ℕ → Spot = λ i. spotFrom (v .look) (v .lines) i (v .slots + c .limits .slots) (v .octets + areaOf (c .limits)) t in
+    let spots : better (better (v .spot) (spotHere v c j)) (rest (suc j)) ≡ better (v .spot) (spotFrom (v .look) (v .lines) j (v .slots) (v .octets) (c ∷ t)) =
     ap (λ (i : ℕ). better (better (v .spot) (spotHere v c j)) (rest i)) one ∙ weighed (v .spot) (spotHere v c j) (rest (j + 1)) in
     ap (λ (s : ℕ). record { look = v .look; lines = v .lines; sound = true; slots = s; octets = v .octets + areaOf (c .limits) + allOctets t; spot = better (better (v .spot) (spotHere v c j)) (rest (suc j)) }) (add-assoc (v .slots) (c .limits .slots) (allSlots t))
     ∙ ap (λ (o : ℕ). record { look = v .look; lines = v .lines; sound = true; slots = v .slots + (c .limits .slots + allSlots t); octets = o; spot = better (better (v .spot) (spotHere v c j)) (rest (suc j)) }) (add-assoc (v .octets) (areaOf (c .limits)) (allOctets t))

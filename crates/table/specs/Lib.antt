@@ -1,3 +1,4 @@
+pub mod Waiting
 pub mod Looking
 pub mod Lent
 pub mod Serving

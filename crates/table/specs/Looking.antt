@@ -1,5 +1,5 @@
 -- Which record of the table a call is for (document 01, Answer numbers: 'Data and Control look for a receiving record, Acks for a sending
--- one; none found is 14'; Sending: 'among channels of equal rank the lowest index').
+-- one; none found is 14'; document 02, A4, in place of 01's order of channels of equal rank).
 use Prim.Native.Nat.{ℕ, _+_}
 use mathlib.Core.Bool.{Bool, _&&_}
 use mathlib.Core.List.{List, [], _∷_}
@@ -16,10 +16,10 @@ use Rattle.channel.specs.declared.answer.Refusal.the-variants as refusal
 use Rattle.channel.specs.declared.record.Prefix.{Prefix}
 use Rattle.channel.specs.Record.{sends, receives}
 use Rattle.channel.specs.Prefixes.{samePrefix, noPrefix}
-use Rattle.sender_packets.specs.HandingOut.{rankOf}
 use Rattle.table.specs.declared.looking.Look.{Look}
 use Rattle.table.specs.declared.looking.Sought.{Sought}
-use Rattle.table.specs.declared.looking.Sought.the-variants.{Index, Packet, Ready, Nobody}
+use Rattle.table.specs.declared.looking.Sought.the-variants.{Index, Asked, Packet, Ready, Nobody}
+use Rattle.table.specs.Waiting.{gradeAt}
 
 -- the direction of the record that a packet of a kind looks for
 abbrev pub looksFor : Kind → ℕ
@@ -42,48 +42,46 @@ same a f q =
 abbrev pub seeking : Sought → Look
 seeking sought = record { sought = sought; prefix = noPrefix }
 
--- ---- how well a record suits: 0 best, 3 not at all
+-- ---- how well a record suits: 0 best, 48 not at all
 
 abbrev pub indexed : ℕ → ℕ → ℕ
-indexed i j = if eqb i j then 0 else 3
+indexed i j = if eqb i j then 0 else 48
 
 abbrev pub addressed : Fields → Prefix → Addresses → ℕ
-addressed f q a = if same a f q then 0 else 3
+addressed f q a = if same a f q then 0 else 48
 
--- Control before resent Data before new Data; a receiver hands out nothing
-abbrev pub readied : Channel → ℕ
-readied c = if eqb (c .addresses .direction) sends then rankOf c else 3
+-- the record at index j; the packet that goes next is of the channel whose turn it is by the lines
+abbrev pub gradedBy : Sought → Prefix → List ℕ → ℕ → Channel → ℕ
+gradedBy (Index i) q lines j c = indexed i j
+gradedBy (Asked i) q lines j c = indexed i j
+gradedBy (Packet f start x) q lines j c = addressed f q (c .addresses)
+gradedBy Ready q lines j c = gradeAt j c lines
+gradedBy (Nobody why) q lines j c = 48
 
--- the record at index j
-abbrev pub gradedBy : Sought → Prefix → ℕ → Channel → ℕ
-gradedBy (Index i) q j c = indexed i j
-gradedBy (Packet f start x) q j c = addressed f q (c .addresses)
-gradedBy Ready q j c = readied c
-gradedBy (Nobody why) q j c = 3
-
-abbrev pub graded : Look → ℕ → Channel → ℕ
-graded look j c = gradedBy (look .sought) (look .prefix) j c
+abbrev pub graded : Look → List ℕ → ℕ → Channel → ℕ
+graded look lines j c = gradedBy (look .sought) (look .prefix) lines j c
 
 -- the index of the record that suits best, the lowest among equals, and how well it does
 pub record Chosen : Type 0 where
   pub at : ℕ
-  pub rank : ℕ
+  pub grade : ℕ
 
-unfoldable pub chosenFrom : Look → ℕ → List Channel → Chosen
-chosenFrom look j [] = record { at = j; rank = 3 }
-chosenFrom look j (c ∷ t) =
-    if leb (graded look j c) (chosenFrom look (j + 1) t .rank) then record { at = j; rank = graded look j c }
-    else chosenFrom look (j + 1) t
+unfoldable pub chosenFrom : Look → List ℕ → ℕ → List Channel → Chosen
+chosenFrom look lines j [] = record { at = j; grade = 48 }
+chosenFrom look lines j (c ∷ t) =
+    if leb (graded look lines j c) (chosenFrom look lines (j + 1) t .grade) then record { at = j; grade = graded look lines j c }
+    else chosenFrom look lines (j + 1) t
 
-abbrev pub chosen : Look → List Channel → Chosen
-chosen look t = chosenFrom look 0 t
+abbrev pub chosen : Look → List ℕ → List Channel → Chosen
+chosen look lines t = chosenFrom look lines 0 t
 
 abbrev pub isFound : Chosen → Bool
-isFound x = ltb (x .rank) 3
+isFound x = ltb (x .grade) 48
 
 -- the refusal where none suits: 14, for the next packet 12
 abbrev pub missing : Sought → Refusal
 missing (Index i) = refusal.NoChannel
+missing (Asked i) = refusal.NoChannel
 missing (Packet f start x) = refusal.NoChannel
 missing Ready = refusal.Nothing
 missing (Nobody why) = why

@@ -17,7 +17,9 @@ use Rattle.channel.specs.Record.{madeOf}
 use Rattle.channel.specs.Prefixes.{noPrefix}
 use Rattle.table.specs.declared.looking.Look.{Look}
 use Rattle.table.specs.declared.deciding.Told.{Told}
-use Rattle.table.specs.Looking.{chosen, isFound, missing}
+use Rattle.table.specs.declared.looking.Sought.{Sought}
+use Rattle.table.specs.Waiting.{rankIn, moved}
+use Rattle.table.specs.Looking.{Chosen, chosen, isFound, missing}
 use Rattle.table.specs.Lent.{areaOf, partOf, slotAt, octetAt, passes}
 
 -- any settings, and a channel made of them: what `getD` gives past the end of a table, where nothing looks
@@ -46,24 +48,33 @@ ownLens t i lens = partOf (slotAt t i) (recordAt t i .limits .slots) lens
 abbrev pub Step : Type 0
 Step = Channel → ℕ → List ℕ → List ℕ → List ℕ → Worked Stepped
 
--- the table, the memory, the lengths and the lines once the channel at an index has been stepped
-unfoldable pub stored : List Channel → List ℕ → List ℕ → List ℕ → ℕ → Worked Stepped → Called Answer Channel
-stored t mem lens lines i w =
-    leaves (w .made .answer) (set t i (w .made .channel)) (laid mem (octetAt t i) (w .mem)) (laid lens (slotAt t i) (w .lens)) lines (w .out)
+-- the table, the memory, the lengths and the lines once the channel that was chosen has been stepped
+unfoldable pub stored : Sought → List Channel → List ℕ → List ℕ → List ℕ → Chosen → Worked Stepped → Called Answer Channel
+stored sought t mem lens lines x w =
+    leaves
+    (w .made .answer)
+    (set t (x .at) (w .made .channel))
+    (laid mem (octetAt t (x .at)) (w .mem))
+    (laid lens (slotAt t (x .at)) (w .lens))
+    (moved sought (rankIn (x .grade)) (x .at) (w .made) lines)
+    (w .out)
+
+-- the step of the channel that was chosen, on its record, its octets and its lengths
+abbrev pub worked : Step → List Channel → List ℕ → List ℕ → List ℕ → Chosen → Worked Stepped
+worked step t mem lens out x = step (recordAt t (x .at)) (rankIn (x .grade)) (ownMem t (x .at) mem) (ownLens t (x .at) lens) out
 
 unfoldable pub serveOne : Look → Step → List Channel → List ℕ → List ℕ → List ℕ → List ℕ → Called Answer Channel
 serveOne look step t mem lens lines out =
     if not (passes t mem lens lines) then leaves (Refused refusal.Settings) t mem lens lines out
-    else if not (isFound (chosen look t)) then leaves (Refused (missing (look .sought))) t mem lens lines out
-    else stored t mem lens lines (chosen look t .at)
-    (step (recordAt t (chosen look t .at)) (chosen look t .rank) (ownMem t (chosen look t .at) mem) (ownLens t (chosen look t .at) lens) out)
+    else if not (isFound (chosen look lines t)) then leaves (Refused (missing (look .sought))) t mem lens lines out
+    else stored (look .sought) t mem lens lines (chosen look lines t) (worked step t mem lens out (chosen look lines t))
 
 -- the index of the channel that is served; as many as the table has records where none is
 unfoldable pub indexServed : Look → List Channel → List ℕ → List ℕ → List ℕ → ℕ
 indexServed look t mem lens lines =
     if not (passes t mem lens lines) then length t
-    else if not (isFound (chosen look t)) then length t
-    else chosen look t .at
+    else if not (isFound (chosen look lines t)) then length t
+    else chosen look lines t .at
 
 abbrev pub toldOf : ℕ → Answer → Told
 toldOf index answer = record { answer = answer; index = index }

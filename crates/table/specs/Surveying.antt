@@ -9,7 +9,7 @@ use Rattle.laws.specs.Choice.{if_then_else_}
 use Rattle.slots.specs.Slots.{Sized, laid}
 use Rattle.walks.specs.Fold.{foldFrom}
 use Rattle.lines.specs.Lines.{noLines}
-use Rattle.lines.specs.Fit.{fitLines}
+use Rattle.lines.specs.Fit.{fitLines, Fit}
 use Rattle.walks.specs.Serving.{Roles, Worked, Performed, works, performs}
 use Rattle.channel.specs.declared.record.Channel.{Channel}
 use Rattle.channel.specs.declared.answer.Answer.the-variants.{Refused}
@@ -24,6 +24,7 @@ use Rattle.table.specs.declared.deciding.Told.{Told}
 use Rattle.table.specs.declared.deciding.Placed.{Placed}
 use Rattle.table.specs.declared.deciding.Decision.{Decision}
 use Rattle.table.specs.declared.deciding.Verdict.{Verdict}
+use Rattle.table.specs.Waiting.{rankIn, moved}
 use Rattle.table.specs.Looking.{graded, missing}
 use Rattle.table.specs.Lent.{areaOf, partOf}
 use Rattle.table.specs.Serving.{Step, blank, toldOf}
@@ -32,7 +33,7 @@ use Rattle.table.specs.Serving.{Step, blank, toldOf}
 
 abbrev pub started : Look → List ℕ → Bool → Survey
 started look lines sound =
-    record { look = look; lines = lines; sound = sound; slots = 0; octets = 0; spot = record { at = 0; slot = 0; octet = 0; rank = 3 } }
+    record { look = look; lines = lines; sound = sound; slots = 0; octets = 0; spot = record { at = 0; slot = 0; octet = 0; grade = 48 } }
 
 -- lines that are none make it unsound at once, and are not kept
 abbrev pub begun : Look → List ℕ → Survey
@@ -42,10 +43,10 @@ abbrev pub unsound : Survey → Survey
 unsound v = record { look = v .look; lines = v .lines; sound = false; slots = v .slots; octets = v .octets; spot = v .spot }
 
 abbrev pub better : Spot → Spot → Spot
-better old new = if ltb (new .rank) (old .rank) then new else old
+better old new = if ltb (new .grade) (old .grade) then new else old
 
 abbrev pub spotHere : Survey → Channel → ℕ → Spot
-spotHere v c j = record { at = j; slot = v .slots; octet = v .octets; rank = graded (v .look) j c }
+spotHere v c j = record { at = j; slot = v .slots; octet = v .octets; grade = graded (v .look) (v .lines) j c }
 
 abbrev pub noted : Survey → Channel → ℕ → Survey
 noted v c j =
@@ -88,7 +89,7 @@ servedBy v = record { at = v .spot .at; told = toldOf (v .spot .at) (Refused ref
 unfoldable pub decided : Survey → ℕ → ℕ → ℕ → Decision
 decided v n m l =
     if not (isSound v n m l) then refusedBy v n refusal.Settings
-    else if ltb (v .spot .rank) 3 then servedBy v
+    else if ltb (v .spot .grade) 48 then servedBy v
     else refusedBy v n (missing (v .look .sought))
 
 abbrev pub judged : Survey → ℕ → ℕ → ℕ → Verdict
@@ -101,7 +102,12 @@ toldRoles = record { at = λ d. d .at; unserved = λ d. d .told; stored = λ s. 
 -- what the step of a call leaves: the channel as it is stored, the answer with its index, and the lines
 abbrev pub placed : Decision → List ℕ → Worked Stepped → Performed Placed
 placed d lines w =
-    performs (record { channel = w .made .channel; told = toldOf (d .told .index) (w .made .answer) }) (w .mem) (w .lens) lines (w .out)
+    performs
+    (record { channel = w .made .channel; told = toldOf (d .told .index) (w .made .answer) })
+    (w .mem)
+    (w .lens)
+    (moved (d .look .sought) (rankIn (d .spot .grade)) (d .spot .at) (w .made) lines)
+    (w .out)
 
 -- ---- the step of the channel that is served, over the whole of the lent slices
 
@@ -115,13 +121,20 @@ abbrev pub wholly : Decision → List ℕ → List ℕ → Worked Stepped → Wo
 wholly d mem lens w = works (w .made) (laid mem (d .spot .octet) (w .mem)) (laid lens (d .spot .slot) (w .lens)) (w .out)
 
 abbrev pub stepping : Step → Channel → Decision → List ℕ → List ℕ → List ℕ → Worked Stepped
-stepping step c d mem lens out = wholly d mem lens (step c (d .spot .rank) (mine c d mem) (mineLens c d lens) out)
+stepping step c d mem lens out = wholly d mem lens (step c (rankIn (d .spot .grade)) (mine c d mem) (mineLens c d lens) out)
 
--- what such a step asks of its caller: the record stands with its own lengths, its parts lie within what is lent, and it suits
+-- what such a step asks of its caller: the record stands with its own lengths, its parts lie within what is lent, and it suits, by
+-- some lines
 pub record Served (c : Channel) (d : Decision) (mem lens : List ℕ) : Type 0 where
   pub standing : Standing c (mineLens c d lens)
   pub sized : Sized (c .limits .slots) (c .limits .payload) (mine c d mem) (mineLens c d lens)
   pub slots : d .spot .slot + c .limits .slots ≤ length lens
   pub octets : d .spot .octet + areaOf (c .limits) ≤ length mem
-  pub suits : d .spot .rank ≡ graded (d .look) (d .spot .at) c
-  pub found : d .spot .rank < 3
+  pub lines : List ℕ
+  pub suits : d .spot .grade ≡ graded (d .look) lines (d .spot .at) c
+  pub found : d .spot .grade < 48
+
+-- and what moving that channel in the lines asks
+pub record Lined (d : Decision) (lines : List ℕ) : Type 0 where
+  pub fit : Fit 16 lines
+  pub at : d .spot .at < 16

@@ -64,6 +64,7 @@ fn refusal(sought: Sought) -> Refusal
 {
     match sought {
         Sought::Index(_) => Refusal::NoChannel,
+        Sought::Asked(_) => Refusal::NoChannel,
         Sought::Packet {
             fields: _,
             start: _,
@@ -113,7 +114,7 @@ pub fn decide(v: Survey, n: usize, m: usize, l: usize) -> Decision
     if !is_sound(v, n, m, l) {
         return refuse(v, n, Refusal::Settings);
     }
-    if v.spot.rank < UNFIT {
+    if v.spot.grade < UNFIT {
         return serve(v);
     }
     let look = v.look;

@@ -4,6 +4,7 @@ pub mod beginning;
 pub mod deciding;
 pub mod looking;
 pub mod surveying;
+pub mod waiting;
 
 pub use deciding::Decision;
 pub use deciding::Placed;

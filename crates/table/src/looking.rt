@@ -8,22 +8,25 @@ use channel::record::RECEIVES;
 use channel::record::SENDS;
 use packet::Fields;
 use packet::Kind;
+use crate::waiting::waiting;
 use packet::kinds::kind_of;
-use sender_packets::rank_of;
 ghost use mathlib.Core.Path.{_≡_};
-ghost use Rattle.channel.specs.Asked.{Ringed};
-ghost use Rattle.table.specs.Looking.{looksFor, same, seeking, indexed, addressed, readied, graded};
+ghost use Prim.Native.Nat.{_<_};
+ghost use Rattle.table.specs.Looking.{looksFor, same, seeking, indexed, addressed, graded};
+ghost use Rattle.table.specs.Waiting.{gradeAt};
 
 pub enum Sought {
     // A request names its channel.
     Index(usize),
+    // So does a question, which moves nobody in the lines.
+    Asked(usize),
     // A packet that was read, with where its payload begins and how many octets it has.
     Packet {
         fields: Fields,
         start: usize,
         length: usize,
     },
-    // The packet that goes next.
+    // The packet that goes next, by the lines.
     Ready,
     // The call is refused whatever the table holds.
     Nobody(Refusal),
@@ -49,7 +52,7 @@ pub fn seek(sought: Sought) -> Look
 }
 
 // The grade of a record that does not suit.
-pub const UNFIT: usize = 3;
+pub const UNFIT: usize = 48;
 
 // Acks look for a record that sends, Data and Control for one that receives.
 fn looks_for(kind: Kind) -> u8
@@ -93,31 +96,30 @@ fn grade_packet(f: Fields, prefix: Prefix, a: Addresses) -> usize
     if is_same(a, f, prefix) { 0 } else { UNFIT }
 }
 
-// Only a sender hands out packets.
-fn grade_ready(c: Channel) -> usize
-    requires { ⌜ Ringed (c .limits) (c .window) ⌝ }
-    ensures { λ r. ⌜ r ≡ readied c ⌝ }
+// Whose turn it is by the lines.
+fn grade_ready(lines: [u8; 51], j: usize, c: Channel) -> usize
+    requires { ⌜ j < 16 ⌝ }
+    ensures { λ r. ⌜ r ≡ gradeAt j c lines ⌝ }
 {
-    if c.addresses.direction != SENDS {
-        return UNFIT;
-    }
-    rank_of(c)
+    let w = waiting(c);
+    lines::grade(&lines, j, w.control, w.again, w.fresh)
 }
 
 // How well the record at index j suits: 0 best, UNFIT not at all.
-pub fn grade(look: Look, j: usize, c: Channel) -> usize
-    requires { ⌜ Ringed (c .limits) (c .window) ⌝ }
-    ensures { λ r. ⌜ r ≡ graded look j c ⌝ }
+pub fn grade(look: Look, lines: [u8; 51], j: usize, c: Channel) -> usize
+    requires { ⌜ j < 16 ⌝ }
+    ensures { λ r. ⌜ r ≡ graded look lines j c ⌝ }
 {
     let sought = look.sought;
     match sought {
         Sought::Index(i) => grade_index(i, j),
+        Sought::Asked(i) => grade_index(i, j),
         Sought::Packet {
             fields,
             start: _,
             length: _,
         } => grade_packet(fields, look.prefix, c.addresses),
-        Sought::Ready => grade_ready(c),
+        Sought::Ready => grade_ready(lines, j, c),
         Sought::Nobody(_) => UNFIT,
     }
 }

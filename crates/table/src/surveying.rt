@@ -8,11 +8,10 @@ use condition::stands;
 use lines::is_fit;
 use lines::read;
 ghost use mathlib.Core.Path.{_≡_};
-ghost use Prim.Native.Nat.{_*_, _≤_};
+ghost use Prim.Native.Nat.{_*_, _≤_, _<_};
 ghost use Rattle.table.specs.Surveying.{lookedAt, started, begun, unsound, better, noted, surveyOne};
 ghost use lib.ListN.{take, drop};
 ghost use Rattle.channel.specs.Standing.{standing};
-ghost use Rattle.channel.specs.Asked.{Ringed};
 
 // The most records of a table.
 pub const MOST_RECORDS: usize = 16;
@@ -36,7 +35,7 @@ pub struct Spot {
     pub at: usize,
     pub slot: usize,
     pub octet: usize,
-    pub rank: usize,
+    pub grade: usize,
 }
 
 // What the records so far have shown: what is looked for, the lines, whether all stand, how many slots and octets they have together, and the best.
@@ -70,7 +69,7 @@ fn start(look: Look, lines: [u8; 51], sound: bool) -> Survey
             at: 0,
             slot: 0,
             octet: 0,
-            rank: UNFIT,
+            grade: UNFIT,
         },
     }
 }
@@ -120,24 +119,24 @@ fn stands_at(c: Channel, lens: &[u16], slot: usize) -> bool
 fn choose(old: Spot, new: Spot) -> Spot
     ensures { λ r. ⌜ r ≡ better old new ⌝ }
 {
-    if new.rank < old.rank { new } else { old }
+    if new.grade < old.grade { new } else { old }
 }
 
 // The record at index j stands: it is counted, and it is the best if it suits better than those before it.
 fn note(v: Survey, c: Channel, j: usize) -> Survey
-    requires { ⌜ (Ringed (c .limits) (c .window)) × (c .limits .slots ≤ 128) × (c .limits .payload ≤ 1024) × (v .slots ≤ 4294967296) × (v .octets ≤ 2097152) ⌝ }
+    requires { ⌜ (j < 16) × (c .limits .slots ≤ 128) × (c .limits .payload ≤ 1024) × (v .slots ≤ 4294967296) × (v .octets ≤ 2097152) ⌝ }
     ensures { λ r. ⌜ r ≡ noted v c j ⌝ }
 {
     let look = v.look;
-    let rank = grade(look, j, c);
+    let lines = v.lines;
+    let suits = grade(look, lines, j, c);
     let here = Spot {
         at: j,
         slot: v.slots,
         octet: v.octets,
-        rank,
+        grade: suits,
     };
     let spot = choose(v.spot, here);
-    let lines = v.lines;
     Survey {
         look,
         lines,

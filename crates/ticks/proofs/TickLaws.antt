@@ -11,8 +11,8 @@ use Rattle.channel.specs.Record.{sends}
 use Rattle.sender.specs.Ticking.{tickStep as senderTick}
 use Rattle.receiver.specs.Receiving as receiver
 use Rattle.ticks.specs.declared.ticking.Ticked.{Ticked}
-use Rattle.ticks.specs.declared.ticking.Round.{Round}
-use Rattle.ticks.specs.Ticking.{tickedBy, quiet, roundBy}
+use Rattle.ticks.specs.declared.ticking.First.{First}
+use Rattle.ticks.specs.Ticking.{tickedBy, quiet, firstBy}
 
 pub tick-sends : (c : Channel) → c .addresses .direction ≡ sends
     → tickedBy c ≡ record { channel = senderTick c .channel; inactive = senderTick c .inactive }
@@ -24,20 +24,20 @@ pub tick-receives : (c : Channel) → (c .addresses .direction ≡ sends → ⊥
 unfolding tickedBy
 tick-receives c e = passed-by (eqb (c .addresses .direction) sends) _ _ (ne-eqb _ _ e)
 
-module _ (x : Ticked) (r : Round) where
-  pub round-told : r .any ≡ true → roundBy x r ≡ r
-  unfolding roundBy
+module _ (x : Ticked) (r : First) where
+  pub round-told : r .any ≡ true → firstBy x r ≡ r
+  unfolding firstBy
   round-told e = simp (e)
 
   module _ (none : r .any ≡ false) where
-    pub round-first : x .inactive ≡ true → roundBy x r ≡ record { index = r .index; reason = x .channel .phase .reason; any = true }
-    unfolding roundBy
+    pub round-first : x .inactive ≡ true → firstBy x r ≡ record { index = r .index; reason = x .channel .phase .reason; any = true }
+    unfolding firstBy
     round-first e = simp (none, e)
 
-    pub round-on : x .inactive ≡ false → r .index < 16 → roundBy x r ≡ quiet (r .index + 1)
-    unfolding roundBy
+    pub round-on : x .inactive ≡ false → r .index < 16 → firstBy x r ≡ quiet (r .index + 1)
+    unfolding firstBy
     round-on e h = simp (none, e, lt-ltb (r .index) 16 h)
 
-    pub round-full : x .inactive ≡ false → 16 ≤ r .index → roundBy x r ≡ quiet (r .index)
-    unfolding roundBy
+    pub round-full : x .inactive ≡ false → 16 ≤ r .index → firstBy x r ≡ quiet (r .index)
+    unfolding firstBy
     round-full e h = simp (none, e, le-ltb (r .index) 16 h)

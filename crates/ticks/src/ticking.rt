@@ -3,6 +3,9 @@ use channel::Answer;
 use channel::Channel;
 use channel::Refusal;
 use channel::record::SENDS;
+use lines::read;
+use lines::relisted;
+use lines::write;
 use table::Sought;
 use table::Survey;
 use table::Told;
@@ -10,18 +13,21 @@ use table::beginning::survey;
 use table::deciding::judge;
 use table::looking::seek;
 use table::surveying::begin;
+use table::waiting::waiting;
 ghost use mathlib.Core.Path.{_≡_};
 ghost use Rattle.channel.specs.Asked.{Ringed};
-ghost use Rattle.ticks.specs.Ticking.{tickedBy, roundBy, turnedBy, quiet};
+ghost use Rattle.ticks.specs.Ticking.{tickedBy, firstBy, nextAt, linedBy, roundBy, turnedBy, quiet};
 ghost use Rattle.walks.specs.Sweep.{Every};
 ghost use Rattle.walks.specs.Serving.{changes, telling};
+ghost use Rattle.laws.specs.Choice.{if_then_else_};
+ghost use Rattle.channel.specs.declared.answer.Answer.the-variants.{Done, Inactive};
 ghost use Rattle.channel.specs.declared.answer.Refusal.the-variants as refusal;
 ghost use Rattle.channel.specs.declared.record.Channel.{Channel as Record};
 ghost use Rattle.table.specs.declared.looking.Sought.the-variants as sought;
 ghost use Rattle.table.specs.Looking.{seeking};
 ghost use Rattle.table.specs.Serving.{blank, toldOf};
 ghost use Rattle.table.specs.Surveying.{begun};
-ghost use Rattle.ticks.specs.Ticks.{ticks, sweptTable, sweptRound, tickEnd, tickIndex, ticked};
+ghost use Rattle.ticks.specs.Ticks.{ticks, sweptTable, sweptRound, tickStart, tickEnd, endLines, tickIndex, ticked};
 
 // The channel after the tick, and whether it went inactive in it.
 pub struct Ticked {
@@ -31,10 +37,17 @@ pub struct Ticked {
 
 // Of the channels ticked so far: whether any went inactive, the lowest index of those that did, and its reason. While none did, the index is that
 // of the next channel.
-pub struct Round {
+pub struct First {
     pub index: usize,
     pub reason: u8,
     pub any: bool,
+}
+
+// The first that went inactive; the index of the next channel, and the lines, by value.
+pub struct Round {
+    pub first: First,
+    pub at: usize,
+    pub lines: [u8; 51],
 }
 
 // A channel after the tick, and the round with it.
@@ -44,6 +57,7 @@ pub struct Turned {
 }
 
 const MOST_RECORDS: usize = 16;
+const LINES: usize = 51;
 
 fn tick_one(c: Channel) -> Ticked
     requires { ⌜ Ringed (c .limits) (c .window) ⌝ }
@@ -64,31 +78,59 @@ fn tick_one(c: Channel) -> Ticked
 }
 
 // The first that goes inactive is told; those after it do not change that.
-fn round_by(x: Ticked, r: Round) -> Round
-    ensures { λ s. ⌜ s ≡ roundBy x r ⌝ }
+fn first_by(x: Ticked, r: First) -> First
+    ensures { λ s. ⌜ s ≡ firstBy x r ⌝ }
 {
     if r.any {
         return r;
     }
     let channel = x.channel;
     if x.inactive {
-        return Round {
+        return First {
             index: r.index,
             reason: channel.phase.reason,
             any: true,
         };
     }
     if r.index < MOST_RECORDS {
-        return Round {
+        return First {
             index: r.index + 1,
             reason: 0,
             any: false,
         };
     }
-    Round {
+    First {
         index: r.index,
         reason: 0,
         any: false,
+    }
+}
+
+fn next_at(at: usize) -> usize
+    ensures { λ r. ⌜ r ≡ nextAt at ⌝ }
+{
+    if at < MOST_RECORDS { at + 1 } else { at }
+}
+
+// The channel joins and leaves by what the tick has left of it.
+fn line_by(lines: [u8; 51], at: usize, c: Channel) -> [u8; 51]
+    ensures { λ r. ⌜ r ≡ linedBy at c lines ⌝ }
+{
+    let w = waiting(c);
+    relisted(lines, at, w.control, w.again, w.fresh)
+}
+
+fn round_by(x: Ticked, r: Round) -> Round
+    ensures { λ s. ⌜ s ≡ roundBy x r ⌝ }
+{
+    let first = first_by(x, r.first);
+    let before = r.lines;
+    let channel = x.channel;
+    let lines = line_by(before, r.at, channel);
+    Round {
+        first,
+        at: next_at(r.at),
+        lines,
     }
 }
 
@@ -110,19 +152,33 @@ fn tick_begin(lines: &[u8]) -> Survey
     begin(seek(Sought::Nobody(Refusal::NoChannel)), lines)
 }
 
-fn tick_start(lines: &[u8]) -> Round
-    ensures { λ r. ⌜ r ≡ quiet 0 ⌝ }
+fn start_with(lines: [u8; 51]) -> Round
+    ensures { λ r. ⌜ r ≡ record { first = quiet 0; at = 0; lines = lines } ⌝ }
 {
     Round {
-        index: 0,
-        reason: 0,
-        any: false,
+        first: First {
+            index: 0,
+            reason: 0,
+            any: false,
+        },
+        at: 0,
+        lines,
     }
 }
 
+fn tick_start(lines: &[u8]) -> Round
+    ensures { λ r. ⌜ r ≡ tickStart (now (lines .entry)) ⌝ }
+{
+    if lines.len() != LINES {
+        let none = [0u8; 51];
+        return start_with(none);
+    }
+    start_with(read(lines))
+}
+
 // 9 if some channel went inactive, with the reason and the index of the first.
-fn tick_end(r: Round, lines: &mut [u8]) -> Told
-    ensures { λ s. ⌜ (s ≡ tickEnd r) × (now (lines .exit) ≡ now (lines .entry)) ⌝ }
+fn tell(r: First) -> Told
+    ensures { λ s. ⌜ s ≡ toldOf (r .index) (if r .any then Inactive (r .reason) else Done 0 0) ⌝ }
 {
     if r.any {
         return Told {
@@ -137,6 +193,17 @@ fn tick_end(r: Round, lines: &mut [u8]) -> Told
         },
         index: r.index,
     }
+}
+
+fn tick_end(r: Round, lines: &mut [u8]) -> Told
+    ensures { λ s. ⌜ (s ≡ tickEnd r) × (now (lines .exit) ≡ endLines r (now (lines .entry))) ⌝ }
+{
+    if lines.len() != LINES {
+        return tell(r.first);
+    }
+    let after = r.lines;
+    write(lines, after);
+    tell(r.first)
 }
 
 fn tick_all(t: &mut [Channel], start: Round) -> Round

@@ -8,6 +8,7 @@ use Rattle.walks.specs.Serving.{works, Worked}
 use Rattle.channel.specs.declared.step.Stepped.{Stepped}
 use Rattle.channel.specs.declared.answer.Refusal.the-variants as refusal
 use Rattle.channel.specs.Steps.{refusing}
+use Rattle.table.specs.Waiting.{rankIn}
 use Rattle.table.specs.Surveying.{mine, mineLens, wholly}
 use Rattle.table.proofs.Parts.{quiet}
 use Rattle.arrivals.specs.Arriving.{Replies, arriveBy}
@@ -42,7 +43,7 @@ returns c =
     let small = subst (λ (n : ℕ). length (a .out .now) < n) wanted (c .before .if1 .taken) in
     ap (λ (x : Stepped). works x (a .mem .now) (a .lens .now) (a .out .now)) (c .refused .ensures ∙ ap (λ (n : ℕ). refusing (a .c) (refusal.Small n)) wanted)
     ∙ quiet (arriveBy (a .node) (a .f) (a .length) (payloadIn (a .packet .now))) (a .c) (a .d) (a .mem .now) (a .lens .now) (a .out .now) _ (a .out .now)
-    (by-small (a .node) (a .f) (a .length) (payloadIn (a .packet .now)) (a .c) (a .d .spot .rank) (mine (a .c) (a .d) (a .mem .now)) (mineLens (a .c) (a .d) (a .lens .now)) (a .out .now) _ (sym kind) small)
+    (by-small (a .node) (a .f) (a .length) (payloadIn (a .packet .now)) (a .c) (rankIn (a .d .spot .grade)) (mine (a .c) (a .d) (a .mem .now)) (mineLens (a .c) (a .d) (a .lens .now)) (a .out .now) _ (sym kind) small)
     ∙ arrival-by (a .node) (a .f) (a .length) (a .packet .now) (a .c) (a .d) (a .mem .now) (a .lens .now) (a .out .now) (g .fields) (g .count)
 
 is-unfit-requires : tie.Need-is-unfit-requires
@@ -60,7 +61,7 @@ returns-2 c =
     let u = sym (c .before .before .is-unfit .ensures) ∙ c .before .if2 .taken in
     ap (λ (x : Stepped). works x (a .mem .now) (a .lens .now) (a .out .now)) (c .refused2 .ensures)
     ∙ quiet (arriveBy (a .node) (a .f) (a .length) (payloadIn (a .packet .now))) (a .c) (a .d) (a .mem .now) (a .lens .now) (a .out .now) (refusing (a .c) refusal.Strange) (a .out .now)
-    (by-unfit (a .node) (a .f) (a .length) (payloadIn (a .packet .now)) (a .c) (a .d .spot .rank) (mine (a .c) (a .d) (a .mem .now)) (mineLens (a .c) (a .d) (a .lens .now)) (a .out .now) room u)
+    (by-unfit (a .node) (a .f) (a .length) (payloadIn (a .packet .now)) (a .c) (rankIn (a .d .spot .grade)) (mine (a .c) (a .d) (a .mem .now)) (mineLens (a .c) (a .d) (a .lens .now)) (a .out .now) room u)
     ∙ arrival-by (a .node) (a .f) (a .length) (a .packet .now) (a .c) (a .d) (a .mem .now) (a .lens .now) (a .out .now) (g .fields) (g .count)
 
 arrive-as-requires : tie.Need-arrive-as-requires
@@ -89,7 +90,7 @@ returns-3 c =
     c .before .before .before .before .before .before .arrive-as .ensures
     ∙ ap (λ (w : Worked Stepped). wholly (a .d) (a .mem .now) (a .lens .now) w)
     (sym
-    (by-kind (a .node) (a .f) (a .length) (payloadIn (a .packet .now)) (a .c) (a .d .spot .rank) (mine (a .c) (a .d) (a .mem .now)) (mineLens (a .c) (a .d) (a .lens .now)) (a .out .now)
+    (by-kind (a .node) (a .f) (a .length) (payloadIn (a .packet .now)) (a .c) (rankIn (a .d .spot .grade)) (mine (a .c) (a .d) (a .mem .now)) (mineLens (a .c) (a .d) (a .lens .now)) (a .out .now)
     room u _ (sym (c .before .before .before .before .before .before .before .before .before .before .before .before .before .before .kind-of .ensures))))
     ∙ arrival-by (a .node) (a .f) (a .length) (a .packet .now) (a .c) (a .d) (a .mem .now) (a .lens .now) (a .out .now) (g .fields) (g .count)
 

@@ -15,7 +15,7 @@ use Rattle.lines.proofs.line.join.Lts as lts
 use Rattle.lines.proofs.line.place.Reads as place-reads
 
 place-requires : tie.Need-place-requires
-place-requires c κs = search needs
+place-requires c κs = fit.counted (c .before .before .args .line .now) (c .before .before .pre .0) .size
 
 same-length : tie.Need-same-length
 same-length c = search needs

@@ -21,7 +21,7 @@ returns c =
     let s = c .before .before .before in
     let a = s .args in
     let e = c .before .grade-in .ensures in
-    e ∙ grade.first-rank (a .i) (a .r0) (a .r1) (a .r2) (a .lines .now) 16 (s .pre .0) (omega (arith, e, c .if1 .taken))
+    e ∙ grade.first-rank (a .i) (a .r0) (a .r1) (a .r2) (a .lines .now) (omega (arith, e, c .if1 .taken))
 
 grade-in-requires-2 : tie.Need-grade-in-requires-2
 grade-in-requires-2 c κs = search needs
@@ -32,7 +32,7 @@ returns-2 c =
     let a = s .args in
     let d = c .before .before .before .grade-in .ensures in
     let e = c .before .grade-in2 .ensures in
-    e ∙ grade.second-rank (a .i) (a .r0) (a .r1) (a .r2) (a .lines .now) 16 (s .pre .0) (omega (arith, d, c .before .before .if1 .left)) (omega (arith, e, c .if2 .taken))
+    e ∙ grade.second-rank (a .i) (a .r0) (a .r1) (a .r2) (a .lines .now) (omega (arith, d, c .before .before .if1 .left)) (omega (arith, e, c .if2 .taken))
 
 grade-in-requires-3 : tie.Need-grade-in-requires-3
 grade-in-requires-3 c κs = search needs
@@ -43,7 +43,7 @@ returns-3 c =
     let a = s .args in
     let d = c .before .before .before .before .grade-in .ensures in
     let e = c .before .before .grade-in2 .ensures in
-    c .grade-in3 .ensures ∙ grade.third-rank (a .i) (a .r0) (a .r1) (a .r2) (a .lines .now) 16 (s .pre .0) (omega (arith, d, c .before .before .before .if1 .left)) (omega (arith, e, c .before .if2 .left))
+    c .grade-in3 .ensures ∙ grade.third-rank (a .i) (a .r0) (a .r1) (a .r2) (a .lines .now) (omega (arith, d, c .before .before .before .if1 .left)) (omega (arith, e, c .before .if2 .left))
 
 pub grade-spec : {M : Type 1} → statement M
 grade-spec =

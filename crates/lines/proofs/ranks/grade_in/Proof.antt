@@ -35,7 +35,7 @@ part-place-end c = search needs
 place-requires : tie.Need-place-requires
 place-requires c κs =
     let s = c .before .before .before in
-    code.lent-fit (s .args .lines .now) (s .args .rank) (s .pre .0) (s .pre .1)
+    code.lent-size (s .args .lines .now) (s .args .rank) (s .pre .0) (s .pre .1)
 
 mul-result : tie.Need-mul-result
 mul-result c = search needs
@@ -47,13 +47,13 @@ returns-2 : tie.Need-returns-2
 returns-2 c =
     let s = c .before .before .before .before .before in
     let a = s .args in
-    code.graded (a .lines .now) (s .pre .0) (a .rank) (s .pre .1) (a .i) (a .ready) (not-false _ (c .before .before .before .if1 .left)) (c .before .place .result) (c .before .place .ensures) (c .if2 .taken)
+    code.graded (a .lines .now) (a .rank) (a .i) (a .ready) (not-false _ (c .before .before .before .if1 .left)) (c .before .place .result) (c .before .place .ensures) (c .if2 .taken)
 
 returns-3 : tie.Need-returns-3
 returns-3 c =
     let s = c .before .before .before .before .before in
     let a = s .args in
-    code.not-graded (a .lines .now) (s .pre .0) (a .rank) (s .pre .1) (a .i) (a .ready) (not-false _ (c .before .before .before .if1 .left)) (c .before .place .result) (c .before .place .ensures) (c .if2 .left)
+    code.not-graded (a .lines .now) (a .rank) (a .i) (a .ready) (not-false _ (c .before .before .before .if1 .left)) (c .before .place .result) (c .before .place .ensures) (c .if2 .left)
 
 pub grade-in-spec : {M : Type 1} → statement M
 grade-in-spec =

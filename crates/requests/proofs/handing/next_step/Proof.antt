@@ -1,12 +1,14 @@
 -- `requests::handing::next_step` meets its contract: the parts are cut out and read; a packet of that rank is ready.
 -- Assumes nothing.
-use mathlib.Core.Path.{refl, ap, _∙_}
-use Prim.Native.Nat.{_+_, _-_}
+use mathlib.Core.Path.{refl, sym, ap, _∙_, subst}
+use Prim.Native.Nat.{ℕ, _+_, _-_}
 use native.Mathlib.Omega.{arith}
-use lib.ListN.{length}
+use lib.ListN.{length, take, drop}
 use Rattle.channel.proofs.SettingsLaws.{fit-is}
 use Rattle.sender_packets.specs.HandingOut.{handStep, handOut}
 use Rattle.table.proofs.Parts.{own-asked, parts-read}
+use Rattle.sender_packets.specs.Asked.{Ready}
+use Rattle.table.specs.Waiting.{rankIn}
 use Rattle.requests.specs.Handing.{nextFor}
 use Rattle.requests.proofs.HandLaws.{ready-is}
 use Rattle.table.specs.declared.looking.Look.{Look}
@@ -18,6 +20,7 @@ use Rattle.requests.proofs.handing.next_step.Reads as reads
 use Rattle.requests.proofs.handing.next_step.Lts as lts
 use Rattle.sender_packets.proofs.hand_step.Reads as hand-step-reads
 use Rattle.table.proofs.surveying.area.Reads as area-reads
+use Rattle.table.proofs.waiting.rank_in.Reads as rank-in-reads
 
 area-requires : tie.Need-area-requires
 area-requires c κs = search needs
@@ -49,15 +52,39 @@ part-hand-step-start-2 c = search needs
 part-hand-step-end-2 : tie.Need-part-hand-step-end-2
 part-hand-step-end-2 c = search needs
 
+rank-in-requires : tie.Need-rank-in-requires
+rank-in-requires c κs = search needs
+
 hand-step-requires : tie.Need-hand-step-requires
-hand-step-requires c κs = let a = c .before .before .before .before .before .before .before .before .args in let s = c .before .before .before .before .before .before .before .before .pre .0 in let f = fit-is (a .c .limits) (s .standing .fit) in let r = ready-is (a .c) (a .d .spot .rank) (s .suits ∙ ap (λ (l : Look). graded l (a .d .spot .at) (a .c)) (c .before .before .before .before .before .before .before .before .pre .1)) (s .found) in (own-asked (a .c) (a .d) (a .mem .now) (a .lens .now) (a .d .spot .octet + c .before .before .before .before .area .result - a .d .spot .octet) (a .d .spot .slot + a .c .limits .slots - a .d .spot .slot) (omega (arith, c .before .before .before .before .area .ensures .0)) (omega arith) s, r .1)
+hand-step-requires c κs =
+    let a = c .before .before .before .before .before .before .before .before .before .args in
+    let p = c .before .before .before .before .before .before .before .before .before .pre in
+    let s = p .0 in
+    let f = fit-is (a .c .limits) (s .standing .fit) in
+    let r = ready-is (a .d .spot .at) (a .c) (s .lines) (a .d .spot .grade) (s .suits ∙ ap (λ (l : Look). graded l (s .lines) (a .d .spot .at) (a .c)) (p .1)) (s .found) in (
+      own-asked (a .c) (a .d) (a .mem .now) (a .lens .now) (a .d .spot .octet + c .before .before .before .before .before .area .result - a .d .spot .octet) (a .d .spot .slot + a .c .limits .slots - a .d .spot .slot) (omega (arith, c .before .before .before .before .before .area .ensures .0)) (omega arith) s,
+      subst (λ (k : ℕ). Ready (a .c) k) (sym (c .before .rank-in .ensures)) (r .1),
+    )
 
 same-length : tie.Need-same-length
 same-length c = search needs
 
 returns : tie.Need-returns
 unfolding nextFor
-returns c = let a = c .before .before .before .before .before .before .before .before .before .before .before .args in parts-read (nextFor (a .node)) (a .c) (a .d) (a .mem .now) (a .lens .now) (a .out .now) (a .d .spot .octet + c .before .before .before .before .before .before .before .area .result - a .d .spot .octet) (a .d .spot .slot + a .c .limits .slots - a .d .spot .slot) (omega (arith, c .before .before .before .before .before .before .before .area .ensures .0)) (omega arith) (λ l. handStep (a .c) l (a .d .spot .rank) (length (a .out .now))) (λ l m. handOut (a .node) (a .c) l m (a .d .spot .rank) (a .out .now)) _ _ (c .before .before .hand-step .ensures .0) (c .before .before .hand-step .ensures .1) refl
+returns c =
+    let a = c .before .before .before .before .before .before .before .before .before .before .before .before .args in
+    let h = c .before .before .hand-step .ensures in
+    let m = a .mem .now in
+    let l = a .lens .now in
+    let k = c .before .before .before .before .rank-in .ensures in
+    let octets = a .d .spot .octet + c .before .before .before .before .before .before .before .before .area .result - a .d .spot .octet in
+    let slots = a .d .spot .slot + a .c .limits .slots - a .d .spot .slot in
+    let rank = rankIn (a .d .spot .grade) in
+    parts-read (nextFor (a .node)) (a .c) (a .d) m l (a .out .now) octets slots (omega (arith, c .before .before .before .before .before .before .before .before .area .ensures .0)) (omega arith)
+    (λ lens. handStep (a .c) lens rank (length (a .out .now))) (λ lens mem. handOut (a .node) (a .c) lens mem rank (a .out .now)) _ _
+    (h .0 ∙ ap (λ (r : ℕ). handStep (a .c) (take slots (drop (a .d .spot .slot) l)) r (length (a .out .now))) k)
+    (h .1 ∙ ap (λ (r : ℕ). handOut (a .node) (a .c) (take slots (drop (a .d .spot .slot) l)) (take octets (drop (a .d .spot .octet) m)) r (a .out .now)) k)
+    refl
 
 pub next-step-spec : {M : Type 1} → statement M
 next-step-spec =
@@ -73,6 +100,7 @@ next-step-spec =
     sub-hand-step-2
     part-hand-step-start-2
     part-hand-step-end-2
+    rank-in-requires
     hand-step-requires
     same-length
     returns)

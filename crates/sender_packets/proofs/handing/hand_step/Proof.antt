@@ -39,7 +39,7 @@ returns c =
     )
 
 again-at-requires : tie.Need-again-at-requires
-again-at-requires c κs = ringed (c .before .before .before .before .before .args .c) (c .before .before .before .before .before .args .lens .now) (c .before .before .before .before .before .pre .0 .standing)
+again-at-requires c κs = search needs
 
 again-out-requires : tie.Need-again-out-requires
 again-out-requires c κs =

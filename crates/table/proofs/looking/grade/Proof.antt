@@ -21,6 +21,12 @@ grade-index-requires c κs = search needs
 enum-known-sought-2 : tie.Need-enum-known-sought-2
 enum-known-sought-2 c = search needs
 
+grade-index-requires-2 : tie.Need-grade-index-requires-2
+grade-index-requires-2 c κs = search needs
+
+enum-known-sought-3 : tie.Need-enum-known-sought-3
+enum-known-sought-3 c = search needs
+
 grade-packet-requires : tie.Need-grade-packet-requires
 grade-packet-requires c κs = search needs
 
@@ -34,16 +40,29 @@ enum-told-2 : tie.Need-enum-told-2
 enum-told-2 c = search needs
 
 returns : tie.Need-returns
-returns c = let a = c .before .before .before .before .args in c .grade-index .ensures ∙ sym (ap (λ (z : Sought). gradedBy z (a .look .prefix) (a .j) (a .c)) (c .before .before .sought .given .1))
+returns c =
+    let a = c .before .before .before .before .args in
+    c .grade-index .ensures ∙ sym (ap (λ (z : Sought). gradedBy z (a .look .prefix) (a .lines) (a .j) (a .c)) (c .before .before .sought .given .1))
 
 returns-2 : tie.Need-returns-2
-returns-2 c = let a = c .before .before .before .before .args in c .grade-packet .ensures ∙ sym (ap (λ (z : Sought). gradedBy z (a .look .prefix) (a .j) (a .c)) (c .before .before .sought2 .given .1))
+returns-2 c =
+    let a = c .before .before .before .before .args in
+    c .grade-index2 .ensures ∙ sym (ap (λ (z : Sought). gradedBy z (a .look .prefix) (a .lines) (a .j) (a .c)) (c .before .before .sought2 .given .1))
 
 returns-3 : tie.Need-returns-3
-returns-3 c = let a = c .before .before .before .args in c .grade-ready .ensures ∙ sym (ap (λ (z : Sought). gradedBy z (a .look .prefix) (a .j) (a .c)) (c .before .enum-told .given .1))
+returns-3 c =
+    let a = c .before .before .before .before .args in
+    c .grade-packet .ensures ∙ sym (ap (λ (z : Sought). gradedBy z (a .look .prefix) (a .lines) (a .j) (a .c)) (c .before .before .sought3 .given .1))
 
 returns-4 : tie.Need-returns-4
-returns-4 c = let a = c .before .before .args in sym (ap (λ (z : Sought). gradedBy z (a .look .prefix) (a .j) (a .c)) (c .enum-told2 .given .1))
+returns-4 c =
+    let a = c .before .before .before .args in
+    c .grade-ready .ensures ∙ sym (ap (λ (z : Sought). gradedBy z (a .look .prefix) (a .lines) (a .j) (a .c)) (c .before .enum-told .given .1))
+
+returns-5 : tie.Need-returns-5
+returns-5 c =
+    let a = c .before .before .args in
+    sym (ap (λ (z : Sought). gradedBy z (a .look .prefix) (a .lines) (a .j) (a .c)) (c .enum-told2 .given .1))
 
 pub grade-spec : {M : Type 1} → statement M
 grade-spec =
@@ -52,6 +71,8 @@ grade-spec =
     enum-known-sought
     grade-index-requires
     enum-known-sought-2
+    grade-index-requires-2
+    enum-known-sought-3
     grade-packet-requires
     enum-told
     grade-ready-requires
@@ -59,4 +80,5 @@ grade-spec =
     returns
     returns-2
     returns-3
-    returns-4)
+    returns-4
+    returns-5)

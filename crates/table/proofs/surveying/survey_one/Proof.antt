@@ -49,7 +49,7 @@ returns-5 : tie.Need-returns-5
 returns-5 c = let a = c .before .before .before .before .before .before .before .before .before .before .before .args in let s : standing (a .c) (partOf (a .v .slots) (a .c .limits .slots) (a .lens .now)) ≡ false = sym (c .before .before .stands-at .ensures) ∙ not-true _ (c .before .if5 .taken) in c .spoilt4 .ensures ∙ sym (one-lacks (a .v) (a .c) (a .lens .now) (a .j) (not-false _ (c .before .before .before .before .before .before .before .before .if1 .left)) (c .before .before .before .before .before .before .before .if2 .left) (c .before .before .before .before .before .if3 .left) (c .before .before .before .if4 .left) s)
 
 note-requires : tie.Need-note-requires
-note-requires c κs = let a = c .before .before .before .before .before .before .before .before .before .before .args in let s : standing (a .c) (partOf (a .v .slots) (a .c .limits .slots) (a .lens .now)) ≡ true = sym (c .before .stands-at .ensures) ∙ not-false _ (c .if5 .left) in let h = stands-is (a .c) _ s in let f = fit-is (a .c .limits) (h .fit) in (ringed (a .c) _ h, f .most, f .payload, omega (arith, c .before .before .before .before .if3 .left), c .before .before .if4 .left)
+note-requires c κs = let a = c .before .before .before .before .before .before .before .before .before .before .args in let s : standing (a .c) (partOf (a .v .slots) (a .c .limits .slots) (a .lens .now)) ≡ true = sym (c .before .stands-at .ensures) ∙ not-false _ (c .if5 .left) in let h = stands-is (a .c) _ s in let f = fit-is (a .c .limits) (h .fit) in (c .before .before .before .before .before .before .if2 .left, f .most, f .payload, omega (arith, c .before .before .before .before .if3 .left), c .before .before .if4 .left)
 
 returns-6 : tie.Need-returns-6
 returns-6 c = let a = c .before .before .before .before .before .before .before .before .before .before .before .args in let s : standing (a .c) (partOf (a .v .slots) (a .c .limits .slots) (a .lens .now)) ≡ true = sym (c .before .before .stands-at .ensures) ∙ not-false _ (c .before .if5 .left) in c .note .ensures ∙ sym (one-stands (a .v) (a .c) (a .lens .now) (a .j) (not-false _ (c .before .before .before .before .before .before .before .before .if1 .left)) (c .before .before .before .before .before .before .before .if2 .left) (c .before .before .before .before .before .if3 .left) (c .before .before .before .if4 .left) s)

@@ -1,27 +1,34 @@
--- `ticks::ticking::round_by` meets its contract: a law of `roundBy` for each case.
+-- `ticks::ticking::round_by` meets its contract: it is what the three calls give together.
 -- Assumes nothing.
-use mathlib.Core.Path.{sym}
-use Rattle.ticks.proofs.TickLaws.{round-told, round-first, round-on, round-full}
+use mathlib.Core.Path.{ap, ap₂, _∙_}
+use mathlib.Core.List.{List}
+use Prim.Native.Nat.{ℕ}
+use Rattle.ticks.specs.declared.ticking.First.{First}
+use Rattle.ticks.specs.Ticking.{firstBy}
 use borrow.Author.Needs.{needs}
 use Rattle.ticks.proofs.ticking.round_by.Statement.{statement}
 use Rattle.ticks.proofs.ticking.round_by.Tie as tie
 use Rattle.ticks.proofs.ticking.round_by.Reads as reads
 use Rattle.ticks.proofs.ticking.round_by.Lts as lts
+use Rattle.ticks.proofs.ticking.first_by.Reads as first-by-reads
+use Rattle.ticks.proofs.ticking.line_by.Reads as line-by-reads
+use Rattle.ticks.proofs.ticking.next_at.Reads as next-at-reads
+
+first-by-requires : tie.Need-first-by-requires
+first-by-requires c κs = search needs
+
+line-by-requires : tie.Need-line-by-requires
+line-by-requires c κs = search needs
+
+next-at-requires : tie.Need-next-at-requires
+next-at-requires c κs = search needs
 
 returns : tie.Need-returns
-returns c = let a = c .before .args in sym (round-told (a .x) (a .r) (c .if1 .taken))
-
-returns-2 : tie.Need-returns-2
-returns-2 c = let a = c .before .before .before .args in sym (round-first (a .x) (a .r) (c .before .before .if1 .left) (c .if2 .taken))
-
-add-t5 : tie.Need-add-t5
-add-t5 c = search needs
-
-returns-3 : tie.Need-returns-3
-returns-3 c = let a = c .before .before .before .before .before .before .args in sym (round-on (a .x) (a .r) (c .before .before .before .before .before .if1 .left) (c .before .before .before .if2 .left) (c .before .if3 .taken))
-
-returns-4 : tie.Need-returns-4
-returns-4 c = let a = c .before .before .before .before .before .args in sym (round-full (a .x) (a .r) (c .before .before .before .before .if1 .left) (c .before .before .if2 .left) (c .if3 .left))
+returns c =
+    let a = c .before .before .before .before .before .args in
+    let lines = c .before .line-by .result in
+    ap (λ (f : First). record { first = f; at = c .next-at .result; lines = lines }) (c .before .before .before .before .first-by .ensures)
+    ∙ ap₂ (λ (n : ℕ) (l : List ℕ). record { first = firstBy (a .x) (a .r .first); at = n; lines = l }) (c .next-at .ensures) (c .before .line-by .ensures)
 
 pub round-by-spec : {M : Type 1} → statement M
-round-by-spec = tie.close (tie.spec returns returns-2 add-t5 returns-3 returns-4)
+round-by-spec = tie.close (tie.spec first-by-requires line-by-requires next-at-requires returns)

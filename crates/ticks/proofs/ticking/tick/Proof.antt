@@ -10,8 +10,8 @@ use Rattle.table.specs.Looking.{seeking}
 use Rattle.walks.specs.Serving.{telling}
 use Rattle.table.specs.Serving.{blank, toldOf}
 use Rattle.table.specs.Surveying.{begun, surveyed, judged}
-use Rattle.ticks.specs.Ticking.{quiet, turnedBy}
-use Rattle.ticks.specs.Ticks.{ticks, tickEnd, tickIndex, ticked}
+use Rattle.ticks.specs.Ticking.{turnedBy}
+use Rattle.ticks.specs.Ticks.{ticks, tickStart, tickEnd, endLines, tickIndex, ticked}
 use Rattle.table.proofs.Types.{tested, carried}
 use Rattle.ticks.proofs.Types.{round, stepped, swept, summed}
 use Rattle.ticks.proofs.SweepLaws.{may-tick, tick-agreed}
@@ -44,7 +44,7 @@ tick-spec 𝓤 H 𝓜 𝓖 𝓡 =
     entered 𝓤 H (tripleOf 𝓤 H (𝓖 .A) this.signature (this.spec 𝓤 H (𝓖 .A) (𝓜 .mem) (𝓡 .run)))
     (tables 𝓤 H 𝓜 𝓡 code.env .C) (tables 𝓤 H 𝓜 𝓡 code.env .Λ) #ticks·ticking·tick code.function (code.unfolded 𝓤 H 𝓜 𝓡)
     (sweeping-meets tested carried round
-    (sweeping tested (of carried) round stepped swept summed blank (λ li. begun (seeking (Nobody refusal.NoChannel)) li) surveyed judged (λ li. quiet 0) true ticks turnedBy tickEnd (λ z li. li) (λ ys m l li. telling (toldOf (tickIndex ys m l li)) (ticked ys m l li)) may-tick tick-agreed)
+    (sweeping tested (of carried) round stepped swept summed blank (λ li. begun (seeking (Nobody refusal.NoChannel)) li) surveyed judged tickStart true ticks turnedBy tickEnd endLines (λ ys m l li. telling (toldOf (tickIndex ys m l li)) (ticked ys m l li)) may-tick tick-agreed)
     tick-begin-def.name survey-def.name judge-def.name tick-start-def.name tick-all-def.name tick-end-def.name 𝓤 H (𝓖 .A) (givenOf 𝓤 H 𝓜 𝓖) (tablesOf 𝓤 H 𝓜 (tables 𝓤 H 𝓜 𝓡 code.env))
     (cited 𝓤 H (tripleOf 𝓤 H (𝓖 .A) tick-begin.signature (tick-begin.spec 𝓤 H (𝓖 .A) (𝓜 .mem) (𝓡 .run))) 𝓜 𝓡 code.env tick-begin-def.name tick-begin-def.routine code.calls-ticks·ticking·tick-begin (tick-begin-thm.met 𝓤 H 𝓜 𝓖 𝓡))
     (cited 𝓤 H (tripleOf 𝓤 H (𝓖 .A) survey.signature (survey.spec 𝓤 H (𝓖 .A) (𝓜 .mem) (𝓡 .run))) 𝓜 𝓡 code.env survey-def.name survey-def.routine code.calls-table·beginning·survey (survey-thm.met 𝓤 H 𝓜 𝓖 𝓡))

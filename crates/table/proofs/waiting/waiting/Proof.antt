@@ -1,0 +1,22 @@
+-- `table::waiting::waiting` meets its contract: by the direction.
+-- Assumes nothing.
+use mathlib.Core.Path.{_∙_}
+use Rattle.table.proofs.WaitingLaws.{waits-sender, waits-receiver}
+use borrow.Author.Needs.{needs}
+use Rattle.table.proofs.waiting.waiting.Statement.{statement}
+use Rattle.table.proofs.waiting.waiting.Tie as tie
+use Rattle.table.proofs.waiting.waiting.Reads as reads
+use Rattle.table.proofs.waiting.waiting.Lts as lts
+use Rattle.sender_packets.proofs.ranks_of.Reads as ranks-of-reads
+
+returns : tie.Need-returns
+returns c = waits-receiver (c .before .before .args .c) (c .if1 .taken)
+
+ranks-of-requires : tie.Need-ranks-of-requires
+ranks-of-requires c κs = search needs
+
+returns-2 : tie.Need-returns-2
+returns-2 c = c .ranks-of .ensures ∙ waits-sender (c .before .before .before .args .c) (c .before .if1 .left)
+
+pub waiting-spec : {M : Type 1} → statement M
+waiting-spec = tie.close (tie.spec returns ranks-of-requires returns-2)
