@@ -38,7 +38,7 @@ use Rattle.receiver_data.specs.Data.{dataStep}
 use Rattle.ends.proofs.ReceiverCases.{take-cases}
 use Rattle.ends.proofs.ReceiverRefusals as received
 use Rattle.table.specs.declared.looking.Look.{Look}
-use Rattle.table.specs.declared.looking.Sought.the-variants.{Index, Ready}
+use Rattle.table.specs.declared.looking.Sought.the-variants.{Index, Asked, Ready, Nobody}
 use Rattle.table.specs.Looking.{seeking}
 use Rattle.table.specs.Looking.{chosen as choice}
 use Rattle.table.specs.declared.looking.Sought.{Sought}
@@ -46,7 +46,7 @@ use Rattle.table.specs.Waiting.{rankIn, mayMove, moved}
 use Rattle.table.proofs.WaitingLaws.{moves-not}
 use Rattle.table.specs.Lent.{areaOf, slotAt, octetAt, passes}
 use Rattle.table.specs.Serving.{blank, recordAt, ownMem, ownLens, Step, alone, stored, serveOne}
-use Rattle.requests.specs.Requests.{openedBy, closedBy, transferFor, takeFor, reclaimFor}
+use Rattle.requests.specs.Requests.{openedBy, closedBy, transferFor, askedBy, takeFor, reclaimFor}
 use Rattle.requests.specs.Handing.{nextFor}
 use Rattle.arrivals.specs.Finding.{lookOf}
 use Rattle.arrivals.specs.Data.{replyLength, unfit, dataFor}
@@ -55,7 +55,9 @@ use Rattle.arrivals.specs.Arriving.{arriveAs, arriveBy, arrivalFor}
 use Rattle.packet.specs.Layout.{payloadIn}
 use Rattle.table.proofs.Parts.{laid-own}
 use Rattle.ticks.specs.Ticks.{tickOf, anyInactive, firstInactive, ticked, relistedFrom}
-use Rattle.node.specs.Calls.{openCall, closeCall, transferCall, takeCall, reclaimCall, nextPacketCall, arrivalCall}
+use Rattle.node.specs.declared.request.Request.{Request}
+use Rattle.node.specs.declared.request.Request.the-variants.{Open, Close, Transfer, WouldTransfer, Take, Reclaim, Arrival, NextPacket, Unknown}
+use Rattle.node.specs.Calls.{served, openCall, closeCall, transferCall, takeCall, reclaimCall, nextPacketCall, arrivalCall}
 use Rattle.keeps.specs.Keeping.{MayChange, RefusalsChangeNothing, RefusalsChangeNoRecord, NineWritesNothing}
 use Rattle.keeps.proofs.Serving.{servedAt, worked, serve-cases}
 
@@ -290,6 +292,22 @@ module _ (t : List Channel) (mem lens lines : List ℕ) where
 
   pub reclaim-refusals-change-nothing : (index : ℕ) (out : List ℕ) → RefusalsChangeNothing t mem lens lines out (reclaimCall t mem lens lines index out)
   reclaim-refusals-change-nothing index out = serve-still (seeking (Index index)) reclaimFor t mem lens lines out (λ c rank m l. reclaim-still c rank m l out)
+
+  -- whatever is asked
+  pub served-refusals-change-nothing : (n : Request) (x out : List ℕ) → RefusalsChangeNothing t mem lens lines out (served t mem lens lines n x out)
+  unfolding askedBy
+  served-refusals-change-nothing (Open index) x out = serve-still (seeking (Index index)) (alone openedBy) t mem lens lines out (λ c rank m l. open-still c rank m l out)
+  served-refusals-change-nothing (Close index) x out = serve-still (seeking (Index index)) (alone closedBy) t mem lens lines out (λ c rank m l. close-still c rank m l out)
+  served-refusals-change-nothing (Transfer index) x out = serve-still (seeking (Index index)) (transferFor x) t mem lens lines out (λ c rank m l. transfer-still c rank m l out x)
+  served-refusals-change-nothing (WouldTransfer index count) x out =
+      serve-still (seeking (Asked index)) (alone (askedBy count)) t mem lens lines out (λ c rank m l n. (refl, refl, refl, refl))
+  served-refusals-change-nothing (Take index) x out = serve-still (seeking (Index index)) takeFor t mem lens lines out (λ c rank m l. take-still c rank m l out)
+  served-refusals-change-nothing (Reclaim index) x out = serve-still (seeking (Index index)) reclaimFor t mem lens lines out (λ c rank m l. reclaim-still c rank m l out)
+  served-refusals-change-nothing (Arrival node) x out =
+      serve-still (lookOf node x (length out)) (arrivalFor node x) t mem lens lines out (λ c rank m l. arrival-still node x c rank m l out)
+  served-refusals-change-nothing (NextPacket node) x out = serve-still (seeking Ready) (nextFor node) t mem lens lines out (λ c rank m l. next-still c rank m l out node)
+  served-refusals-change-nothing Unknown x out =
+      serve-still (seeking (Nobody refusal.NoChannel)) (alone (λ c. refusing c refusal.NoChannel)) t mem lens lines out (λ c rank m l n. (refl, refl, refl, refl))
 
   -- a tick answers 0 or 9, or 13
   pub tick-refusals-change-nothing : RefusalsChangeNoRecord t lines (ticked t mem lens lines)

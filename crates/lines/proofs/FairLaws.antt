@@ -1,22 +1,20 @@
--- Nobody waits for ever: whoever is relisted, c's place is never raised; and whoever stands before c and is served lowers it by one.
+-- Why nobody waits for ever: whoever is relisted, c's place is never raised; and whoever stands before c and is served lowers it by one.
 -- Assumes nothing.
 use mathlib.Core.Path.{_≡_, refl, sym, ap, _∙_}
 use mathlib.Core.Bool.{Bool, true, false, true≢false, false≢true}
-use mathlib.Core.Logic.{_⊎_, inl, inr, ⊎-elim}
+use mathlib.Core.Logic.{_⊎_, ⊎-elim}
 use mathlib.Core.List.{List, [], _∷_, _++_}
-use Prim.Native.Nat.{ℕ, suc, _+_, _≤_, _<_, zero-le}
+use Prim.Native.Nat.{ℕ, suc, _≤_, _<_}
 use native.Mathlib.Nat.{le-refl, le-of-eq}
 use native.Mathlib.Omega.{arith}
-use Rattle.lines.specs.Lines.{stands, joined, without, relisted, before, lineAt, ofRank, relistAll, servedFrom}
-use Rattle.lines.specs.Fit.{apart, Fit}
-use Rattle.lines.specs.Fair.{Step, call, handOut, after, handOuts, Waits, Fifteen}
+use Rattle.lines.specs.Lines.{stands, joined, without, relisted, before}
+use Rattle.lines.specs.Fit.{apart}
 use Rattle.lines.proofs.LineLaws as line
-use Rattle.lines.proofs.FitLaws as fit
 
 -- ---- c's place
 
 -- whoever joins stands behind c
-joiner-behind : (c : ℕ) (l t : List ℕ) → stands c l ≡ true → before c (l ++ t) ≡ before c l
+pub joiner-behind : (c : ℕ) (l t : List ℕ) → stands c l ≡ true → before c (l ++ t) ≡ before c l
 unfolding stands before
 joiner-behind c [] t e = absurd (false≢true e)
 joiner-behind c (x ∷ l) t e =
@@ -96,47 +94,3 @@ hand-out-lowers c j ready l a e h =
     (λ r.
     one-lower c j l a h
     ∙ ap (λ (t : List ℕ). suc (before c t)) (sym (line.without-none j (without j l) (line.gone j l))))
-
--- ---- any list of steps
-
--- nothing more happens, or c stands
-goes-on : (c : ℕ) (steps : List Step) (l : List ℕ) → Waits c steps l → (handOuts steps ≡ 0) ⊎ (stands c l ≡ true)
-goes-on c [] l w = inl refl
-goes-on c (step ∷ t) l w = inr (w .0)
-
-as-many : (c : ℕ) (steps : List Step) (l : List ℕ) → apart l ≡ true → Waits c steps l → handOuts steps ≤ before c l
-as-many c [] l a w = zero-le
-as-many c (call j ready ∷ t) l a w =
-    ⊎-elim
-    (λ z. omega arith)
-    (λ s.
-    omega (arith, never-raised c j ready l (w .0) s, as-many c t (relisted j ready l) (line.apart-relisted j ready l a) (w .2)))
-    (goes-on c t (relisted j ready l) (w .2))
-as-many c (handOut j ready ∷ t) l a w =
-    omega
-    (arith, hand-out-lowers c j ready l a (w .0) (w .1), as-many c t (relisted j ready (without j l)) (line.apart-relisted j ready (without j l) (line.apart-without j l a)) (w .2))
-
-pub fifteen : Fifteen
-fifteen n c l steps few h w =
-    let p = as-many c steps l (h .once) w in
-    ⊎-elim
-    (λ z. record { places = p; channels = omega arith; fifteen = omega arith })
-    (λ e.
-    let b = line.before-lt c l e in
-    let m = line.at-most n l h in
-    record { places = p; channels = omega arith; fifteen = omega arith })
-    (goes-on c steps l w)
-
--- ---- what a call does to the lines is a step of each
-
-pub relist-step : (n : ℕ) (s : List ℕ) → Fit n s → (i : ℕ) → i < n → (r0 r1 r2 : Bool) (rank : ℕ) → rank < 3
-    → lineAt rank (relistAll i r0 r1 r2 s) ≡ after (call i (ofRank rank r0 r1 r2)) (lineAt rank s)
-relist-step n s f i b r0 r1 r2 rank known = fit.relisted-line n s f i b r0 r1 r2 rank known
-
-module _ (n : ℕ) (s : List ℕ) (f : Fit n s) (rank : ℕ) (known : rank < 3) (i : ℕ) (b : i < n) (r0 r1 r2 : Bool) where
-  pub serve-step : lineAt rank (servedFrom rank i r0 r1 r2 s) ≡ after (handOut i (ofRank rank r0 r1 r2)) (lineAt rank s)
-  serve-step = fit.served-here n s f rank known i b r0 r1 r2
-
-  pub serve-step-elsewhere : (q : ℕ) → q < 3 → (q ≡ rank → ⊥)
-      → lineAt q (servedFrom rank i r0 r1 r2 s) ≡ after (call i (ofRank q r0 r1 r2)) (lineAt q s)
-  serve-step-elsewhere = fit.served-elsewhere n s f rank known i b r0 r1 r2

@@ -1,13 +1,11 @@
--- Three channels in one line, computed: what a hand-out, a call and a leaver do, and that the bound is met.
+-- Three channels in one line, computed: what a hand-out, a call and a leaver do.
 -- Assumes nothing.
 use Prim.Native.Nat.{ℕ}
 use mathlib.Core.Path.{_≡_, refl}
 use mathlib.Core.Bool.{true, false}
 use mathlib.Core.List.{List, [], _∷_}
-use lib.Dec.{lit<}
 use Rattle.slots.specs.Slots.{laid}
-use Rattle.lines.specs.Lines.{stands, joined, without, relisted, before, lineOctets, lineIn, partAt, lineAt, withLine, noLines, relistAll, servedFrom}
-use Rattle.lines.specs.Fair.{Step, handOut, handOuts, Waits}
+use Rattle.lines.specs.Lines.{stands, joined, without, relisted, lineOctets, lineIn, partAt, lineAt, withLine, noLines, relistAll, servedFrom}
 
 -- channels 0, 1 and 2 wait with new Data
 unfoldable three : List ℕ
@@ -32,11 +30,3 @@ stays = refl
 moves : (lineAt 0 (relistAll 1 true false false three) ≡ 1 ∷ []) × (lineAt 2 (relistAll 1 true false false three) ≡ 0 ∷ 2 ∷ [])
 unfolding three relistAll relisted joined without stands lineIn partAt withLine laid lineOctets
 moves = (refl, refl)
-
--- channel 2 waits for two others, who have more, and no longer
-abbrev two : List Step
-two = handOut 0 true ∷ handOut 1 true ∷ []
-
-bound-met : Waits 2 two (0 ∷ 1 ∷ 2 ∷ []) × (handOuts two ≡ before 2 (0 ∷ 1 ∷ 2 ∷ []))
-unfolding relisted joined without stands before
-bound-met = ((refl, lit< tt, (refl, lit< tt, tt)), refl)

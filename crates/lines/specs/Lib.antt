@@ -1,4 +1,3 @@
 pub mod Lines
 pub mod Fit
 pub mod Grades
-pub mod Fair

@@ -1,4 +1,5 @@
 // Which record of the table a call is for: the one with an index, the one that a packet is for, or the one whose packet goes next.
+use crate::waiting::waiting;
 use channel::Addresses;
 use channel::Channel;
 use channel::Prefix;
@@ -8,7 +9,6 @@ use channel::record::RECEIVES;
 use channel::record::SENDS;
 use packet::Fields;
 use packet::Kind;
-use crate::waiting::waiting;
 use packet::kinds::kind_of;
 ghost use mathlib.Core.Path.{_≡_};
 ghost use Prim.Native.Nat.{_<_};

@@ -57,6 +57,7 @@ pub struct Turned {
 }
 
 const MOST_RECORDS: usize = 16;
+
 const LINES: usize = 51;
 
 fn tick_one(c: Channel) -> Ticked

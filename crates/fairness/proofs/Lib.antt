@@ -1,0 +1,6 @@
+pub mod Chosen
+pub mod Moving
+pub mod Ticking
+pub mod Standing
+pub mod Fair
+pub mod Order
