@@ -66,22 +66,19 @@ impl Window {
         used_up
     }
 
-    /// The packet to be handed out next: "resent Data before new Data", and of
-    /// these "the lowest segment".
-    pub(super) fn next_ready(&self, window: u32) -> Option<(Rank, u64)> {
+    /// Of this rank the packet to be handed out next: "within a channel the
+    /// lowest segment".
+    pub(super) fn next_ready(&self, window: u32, rank: Rank) -> Option<u64> {
+        let of_rank = |course: &Course| Rank::of_data(course.was_sent()) == rank;
         self.in_window(window)
-            .filter(|(_, course)| course.is_ready())
-            .map(|(segment, course)| {
-                let resent = course.was_sent();
-                (Rank::of_data(resent), segment)
-            })
-            .min()
+            .find(|(_, course)| course.is_ready() && of_rank(course))
+            .map(|(segment, _)| segment)
     }
 
     /// Hands out the packet of [`Window::next_ready`].
-    pub(super) fn hand_out(&mut self, window: u32, timeout: u32) {
-        let next = self.next_ready(window);
-        let course = next.and_then(|(_, segment)| self.waiting.get_mut(&segment));
+    pub(super) fn hand_out(&mut self, window: u32, rank: Rank, timeout: u32) {
+        let next = self.next_ready(window, rank);
+        let course = next.and_then(|segment| self.waiting.get_mut(&segment));
         if let Some(course) = course {
             course.hand_out(timeout);
         }
