@@ -170,7 +170,7 @@ impl SendingEnd {
         let Phase::Open(window) = &mut self.phase else {
             return Err(Refusal::State);
         };
-        window.acknowledge(number, self.settings.window)?;
+        window.acknowledge(number)?;
         let start = window.start();
         let is_passed = |unit: &&Vec<Segment>| unit.iter().all(|segment| segment.number < start);
         let confirmed = self.held.iter().take_while(is_passed).count();
@@ -236,14 +236,6 @@ impl SendingEnd {
 impl Rank {
     /// "Control before resent Data before new Data."
     pub(crate) const ALL: [Rank; 3] = [Rank::Control, Rank::ResentData, Rank::NewData];
-
-    fn of_data(resent: bool) -> Rank {
-        if resent {
-            Rank::ResentData
-        } else {
-            Rank::NewData
-        }
-    }
 }
 
 impl<'a> Offer<'a> {

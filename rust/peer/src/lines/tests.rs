@@ -2,9 +2,11 @@ use super::*;
 
 /// Lines that hold these, each from the head on.
 fn lines(queues: [&[usize]; 3]) -> Lines {
-    Lines {
-        queues: queues.map(|queue| queue.iter().copied().collect()),
+    let mut lines = Lines::default();
+    for (line, queue) in lines.0.iter_mut().zip(queues) {
+        queue.iter().for_each(|&index| line.join(index));
     }
+    lines
 }
 
 /// "3 x (1 + 16) octets": of each line a count, then the indexes, then zeros.
