@@ -20,10 +20,12 @@ pub type Passed = [[usize; 16]; 3];
 
 impl Twin {
     /// Lines of the caller's making are lent to both, and they go on from there.
+    /// Whoever waits begins anew.
     pub fn write_lines(&mut self, lines: Vec<u8>) {
         self.peer.lines_mut().clone_from(&lines);
         self.lines = lines;
         self.written = true;
+        self.passed = Passed::default();
     }
 
     /// After a call that both answered alike: what the order must be.

@@ -3,7 +3,7 @@
 
 use std::thread;
 
-use compare::bounds::{check_bounds, ACCEPTED, COUNTS, REFUSED, STORAGE};
+use compare::bounds::{check_bounds, ACCEPTED, COUNTS, OTHER_LINES, REFUSED, STORAGE};
 use compare::order::ORDERS;
 use compare::sizes::WRONGS;
 use compare::strays::CLAUSES;
@@ -125,6 +125,7 @@ fn all_cases() -> Vec<&'static str> {
     let mut cases = [&CASES[..], &PREFIXES, &ORDERS, &WRITTEN].concat();
     cases.extend(bounds.iter().map(|(name, _)| *name));
     cases.extend(COUNTS.map(|(name, _, _)| name));
+    cases.push(OTHER_LINES);
     cases.extend(CLAUSES.map(|(name, _)| name));
     cases.extend(WRONGS.map(|(name, _)| name));
     cases

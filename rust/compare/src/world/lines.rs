@@ -11,14 +11,19 @@ const SOUND: &str = "written lines: sound ones, and both go on from there";
 const SPOILT: &str = "written lines: others, and both answer 13";
 
 impl World {
-    /// Lines of another order, or with others in them, or any octet of them.
+    /// Lines of another order, or with others in them; or one octet of them is
+    /// another, or one too many, or one too few.
     pub(super) fn write_lines(&mut self, node: usize) {
         let twin = &mut self.twins[node];
         let mut lines = other_lines(&twin.lines, twin.table.len(), &mut self.noise);
-        if self.noise.one_in(3) {
-            let place = self.noise.below(lines.len());
-            let small = self.noise.below(18) as u8;
-            lines[place] = self.noise.one_of(&[small, small, 255]);
+        let place = self.noise.below(lines.len());
+        let small = self.noise.below(18) as u8;
+        match self.noise.below(12) {
+            0..=2 => lines[place] = small,
+            3 => lines[place] = 255,
+            4 => lines.push(0),
+            5 => lines.truncate(place),
+            _ => {}
         }
         if !are_lines(&lines, twin.table.len()) {
             return self.refuse_lines(node, lines);
