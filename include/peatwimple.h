@@ -8,20 +8,20 @@
  *   - the stack has room: 16 KB do. Up to 13.8 KB was measured for a call (tests/c/stack.c), which is no proved bound.
  * Any octets, any records, any counts may be lent: what is wrong is refused by number and never undefined.
  *
- * A node is lent in four parts, the same ones in every call:
+ * A node is lent in four parts, the same ones in every call; PeatLent, below, holds all four:
  *   table    1 to 16 records, one for each channel; a call's index counts from 0
  *   memory   exactly slots * payload octets for each record, one after another in table order
  *   lengths  exactly one 16-bit number for each slot, in table order
  *   lines    exactly 51 octets, 17 for each of three ranks (Control, resent Data, new Data): how many channels stand in that line, 0 to 16,
- *            then their indexes from the head on, none of them twice, then zeros. peat_settings empties them. So far nobody stands in
- *            them, and the next packet does not go by them
+ *            then their indexes from the head on, none of them twice, then zeros. peat_settings empties them; a call that answers 0, 9 or
+ *            15 puts its own channel into a line or takes it out, a tick any channel. 13 and the next packet alone depend on them
  * Every call but peat_settings first tests these sizes, the lines, and the standing condition of each record (docs/CONDITION.md): else 13.
  *
  * A refusal is any answer but 0, 9 and 15. It leaves table, memory, lengths, lines and buffer as they were, to the last octet. A call that
  * writes a packet, a reply or a unit writes it at the front of the lent buffer and leaves the octets past its end. No call but peat_settings
- * and peat_tick changes another channel than the one it serves, whose index the answer tells. peat_transfer and peat_arrival alone change
- * memory or lengths: the other calls that take them without const go through the same function, and leave them as they were. So far
- * peat_settings alone changes the lines.
+ * and peat_tick changes another channel than the one it serves, whose index the answer tells, or puts another into a line or takes it out.
+ * peat_transfer and peat_arrival alone change memory or lengths: the other calls that take them without const go through the same function,
+ * and leave them as they were. peat_would_transfer changes nothing at all, the lines neither.
  *
  * With 11 the answer's length says how many octets were wanted, and none was written: what is to be read from a buffer, or sent, is told
  * by 0 and 15 alone.
@@ -97,11 +97,17 @@ PeatSaid peat_take(PeatChannel *table, size_t records, uint8_t *memory, size_t o
 PeatSaid peat_reclaim(PeatChannel *table, size_t records, uint8_t *memory, size_t octets, uint16_t *lengths, size_t slots, uint8_t *lines,
                       size_t line_octets, size_t index, uint8_t *out, size_t count);
 
-/* The packet that goes out next: Control before resent Data before new Data; among channels of equal rank the lowest index; within a
- * channel the lowest segment. 12 + N + P octets hold any packet of a channel whose own prefix has N.
+/* The packet that goes out next: Control before resent Data before new Data; of a rank that of the first in its line who has one ready;
+ * within a channel the lowest segment. A sender joins the line of a rank at the tail when it has a packet of that rank ready and had none
+ * before; those that join in one tick stand by index. It leaves when it has none any more. When its packet is handed out it goes to the tail
+ * if it has another of that rank ready. So of lines that the calls alone have written: who has a packet ready stands in its line, and while it
+ * stands there at most 15 packets of that rank go out before its own. Lines that a caller has written into count as they are: who stands
+ * there with nothing ready is passed over, who has something ready and does not stand is not served, until a call that serves it, or a tick,
+ * puts that right. 12 + N + P octets hold any packet of a channel whose own prefix has N.
  *   13      as above
- *   12      no sender has a packet ready; the index is that of no channel
- *   11      the one that goes next is longer than the buffer, and is still ready: length tells its octets, index whose it is
+ *   12      no sender that stands in a line has a packet of its rank ready; the index is that of no channel
+ *   11      the one that goes next is longer than the buffer, and is still ready: length tells its octets, index whose it is. Its channel
+ *           keeps its place
  *   0       the packet at the front of out, its octets counted by length; its timer runs from the timeout on */
 PeatSaid peat_next_packet(PeatChannel *table, size_t records, uint8_t *memory, size_t octets, uint16_t *lengths, size_t slots,
                           uint8_t *lines, size_t line_octets, PeatNode node, uint8_t *out, size_t count);
@@ -153,6 +159,60 @@ PeatReading peat_read_packet(const uint8_t *packet, size_t count);
  * octets past it as they were. */
 PeatWriting peat_write_packet(PeatFields fields, const uint8_t *prefix, size_t prefix_count, const uint8_t *payload, size_t payload_count,
                               uint8_t *out, size_t count);
+
+/* ---- what is lent, written once ----
+ * A caller who lends the same node in every call writes it down once, in a PeatLent. peat_lent_NAME is peat_NAME with that struct for the eight
+ * arguments it holds: it answers the same, and leaves the same. The struct itself is only read. */
+
+typedef struct PeatLent {
+    PeatChannel *table;
+    size_t records;
+    uint8_t *memory;
+    size_t octets;
+    uint16_t *lengths;
+    size_t slots; /* of the whole table: as many as there are lengths */
+    uint8_t *lines;
+    size_t line_octets;
+} PeatLent;
+
+#define PEAT_LENT lent->table, lent->records, lent->memory, lent->octets, lent->lengths, lent->slots, lent->lines, lent->line_octets
+
+static inline PeatSaid peat_lent_settings(const PeatLent *lent, const PeatSettings *settings, size_t count) {
+    return peat_settings(PEAT_LENT, settings, count);
+}
+
+static inline PeatSaid peat_lent_open(const PeatLent *lent, size_t index) { return peat_open(PEAT_LENT, index); }
+
+static inline PeatSaid peat_lent_close(const PeatLent *lent, size_t index) { return peat_close(PEAT_LENT, index); }
+
+static inline PeatSaid peat_lent_transfer(const PeatLent *lent, size_t index, const uint8_t *unit, size_t count) {
+    return peat_transfer(PEAT_LENT, index, unit, count);
+}
+
+static inline PeatSaid peat_lent_would_transfer(const PeatLent *lent, size_t index, size_t count) {
+    return peat_would_transfer(PEAT_LENT, index, count);
+}
+
+static inline PeatSaid peat_lent_take(const PeatLent *lent, size_t index, uint8_t *out, size_t count) {
+    return peat_take(PEAT_LENT, index, out, count);
+}
+
+static inline PeatSaid peat_lent_reclaim(const PeatLent *lent, size_t index, uint8_t *out, size_t count) {
+    return peat_reclaim(PEAT_LENT, index, out, count);
+}
+
+static inline PeatSaid peat_lent_next_packet(const PeatLent *lent, PeatNode node, uint8_t *out, size_t count) {
+    return peat_next_packet(PEAT_LENT, node, out, count);
+}
+
+static inline PeatSaid peat_lent_arrival(const PeatLent *lent, PeatNode node, const uint8_t *packet, size_t packet_count, uint8_t *reply,
+                                         size_t reply_count) {
+    return peat_arrival(PEAT_LENT, node, packet, packet_count, reply, reply_count);
+}
+
+static inline PeatSaid peat_lent_tick(const PeatLent *lent) { return peat_tick(PEAT_LENT); }
+
+#undef PEAT_LENT
 
 #ifdef __cplusplus
 }

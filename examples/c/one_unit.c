@@ -9,16 +9,15 @@
 
 enum { SLOTS = 8, PAYLOAD = 16, PACKET = PAYLOAD + 12 };
 
-/* A node with all that it lends. */
+/* A node with all that it lends, and that written down once. */
 typedef struct End {
     PeatNode node;
     PeatChannel table[1];
     uint8_t memory[SLOTS * PAYLOAD];
     uint16_t lengths[SLOTS];
     uint8_t lines[PEAT_LINES];
+    PeatLent lent;
 } End;
-
-#define LENT(end) (end)->table, 1, (end)->memory, sizeof (end)->memory, (end)->lengths, SLOTS, (end)->lines, PEAT_LINES
 
 static PeatSaid expect(const char *what, PeatSaid said) {
     if (said.number != PEAT_DONE) {
@@ -30,18 +29,20 @@ static PeatSaid expect(const char *what, PeatSaid said) {
 
 static void make(End *end, uint8_t own, uint8_t remote, uint8_t direction) {
     PeatSettings settings = {{7, remote, direction, PEAT_NO_PREFIX, PEAT_NO_PREFIX}, {4, SLOTS, PAYLOAD, 4, 10, 50, 2}};
+    PeatLent lent = {end->table, 1, end->memory, sizeof end->memory, end->lengths, SLOTS, end->lines, PEAT_LINES};
+    end->lent = lent;
     end->node.address = own;
     end->node.protocol = PEAT_PROTOCOL;
-    expect("settings", peat_settings(LENT(end), &settings, 1));
-    expect("open", peat_open(LENT(end), 0));
+    expect("settings", peat_lent_settings(&end->lent, &settings, 1));
+    expect("open", peat_lent_open(&end->lent, 0));
 }
 
 /* One packet from one end to the other, and the ack back. Gives how many units the ack confirmed. */
 static size_t exchange(End *from, End *to, const char *what) {
     uint8_t packet[PACKET], ack[PEAT_ACK_OCTETS];
-    PeatSaid out = expect("next packet", peat_next_packet(LENT(from), from->node, packet, sizeof packet));
-    PeatSaid in = expect("arrival", peat_arrival(LENT(to), to->node, packet, out.length, ack, sizeof ack));
-    PeatSaid back = expect("arrival of the ack", peat_arrival(LENT(from), from->node, ack, in.length, packet, sizeof packet));
+    PeatSaid out = expect("next packet", peat_lent_next_packet(&from->lent, from->node, packet, sizeof packet));
+    PeatSaid in = expect("arrival", peat_lent_arrival(&to->lent, to->node, packet, out.length, ack, sizeof ack));
+    PeatSaid back = expect("arrival of the ack", peat_lent_arrival(&from->lent, from->node, ack, in.length, packet, sizeof packet));
     printf("%s: %zu octets over the link, acknowledged\n", what, out.length);
     return back.confirmed;
 }
@@ -57,19 +58,19 @@ int main(void) {
     make(&station, 65, 64, PEAT_RECEIVES);
     exchange(&host, &station, "Open");
 
-    expect("transfer", peat_transfer(LENT(&host), 0, event, sizeof event - 1));
+    expect("transfer", peat_lent_transfer(&host.lent, 0, event, sizeof event - 1));
     printf("the host publishes '%s'\n", (const char *)event);
     confirmed = exchange(&host, &station, "first segment");
     printf("units confirmed: %zu\n", confirmed);
     confirmed = exchange(&host, &station, "last segment");
     printf("units confirmed: %zu\n", confirmed);
 
-    said = expect("take", peat_take(LENT(&station), 0, unit, sizeof unit));
+    said = expect("take", peat_lent_take(&station.lent, 0, unit, sizeof unit));
     printf("the station takes '%.*s'\n", (int)said.length, (const char *)unit);
 
-    expect("close", peat_close(LENT(&host), 0));
+    expect("close", peat_lent_close(&host.lent, 0));
     exchange(&host, &station, "Close");
-    said = peat_reclaim(LENT(&host), 0, unit, sizeof unit);
+    said = peat_lent_reclaim(&host.lent, 0, unit, sizeof unit);
     printf("nothing is left to reclaim: answer %u\n", (unsigned)said.number);
     return said.number == PEAT_NOTHING ? 0 : 1;
 }

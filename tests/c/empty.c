@@ -50,14 +50,13 @@ static void never_set(int octet) {
 }
 
 #undef LENT
-#define LENT table, 2, memory, sizeof memory, lengths, 4, lines, PEAT_LINES
 
 /* The next packet to the node itself, and its ack. Gives how many units that confirmed. */
-static size_t exchange(PeatChannel *table, uint8_t memory[4], uint16_t *lengths, uint8_t *lines) {
+static size_t exchange(const PeatLent *lent) {
     uint8_t packet[16], ack[12];
-    PeatSaid out = peat_next_packet(table, 2, memory, 4, lengths, 4, lines, PEAT_LINES, NODE, packet, sizeof packet);
-    PeatSaid there = peat_arrival(table, 2, memory, 4, lengths, 4, lines, PEAT_LINES, NODE, packet, out.length, ack, sizeof ack);
-    PeatSaid back = peat_arrival(table, 2, memory, 4, lengths, 4, lines, PEAT_LINES, NODE, ack, there.length, packet, sizeof packet);
+    PeatSaid out = peat_lent_next_packet(lent, NODE, packet, sizeof packet);
+    PeatSaid there = peat_lent_arrival(lent, NODE, packet, out.length, ack, sizeof ack);
+    PeatSaid back = peat_lent_arrival(lent, NODE, ack, there.length, packet, sizeof packet);
     CHECK(out.number == PEAT_DONE && there.number == PEAT_DONE && back.number == PEAT_DONE);
     return back.confirmed;
 }
@@ -68,17 +67,18 @@ static void an_empty_unit(void) {
         {{1, 64, PEAT_RECEIVES, PEAT_NO_PREFIX, PEAT_NO_PREFIX}, {1, 2, 1, 1, 9, 9, 0}},
     };
     static PeatChannel table[2];
-    uint8_t memory[4] = {0}, lines[PEAT_LINES] = {0};
-    uint16_t lengths[4] = {0};
+    static uint8_t memory[4], lines[PEAT_LINES];
+    static uint16_t lengths[4];
+    static const PeatLent lent = {table, 2, memory, sizeof memory, lengths, 4, lines, sizeof lines};
 
-    CHECK(says(peat_settings(LENT, settings, 2), PEAT_DONE, 2));
-    CHECK(says(peat_open(LENT, 0), PEAT_DONE, 0));
-    CHECK(says(peat_open(LENT, 1), PEAT_DONE, 1));
-    CHECK(exchange(table, memory, lengths, lines) == 0);
-    CHECK(says(peat_transfer(LENT, 0, NULL, 0), PEAT_DONE, 0));
-    CHECK(exchange(table, memory, lengths, lines) == 1);
-    CHECK(says(peat_take(LENT, 1, NULL, 0), PEAT_DONE, 1));
-    CHECK(says(peat_take(LENT, 1, NULL, 0), PEAT_NOTHING, 1));
+    CHECK(says(peat_lent_settings(&lent, settings, 2), PEAT_DONE, 2));
+    CHECK(says(peat_lent_open(&lent, 0), PEAT_DONE, 0));
+    CHECK(says(peat_lent_open(&lent, 1), PEAT_DONE, 1));
+    CHECK(exchange(&lent) == 0);
+    CHECK(says(peat_lent_transfer(&lent, 0, NULL, 0), PEAT_DONE, 0));
+    CHECK(exchange(&lent) == 1);
+    CHECK(says(peat_lent_take(&lent, 1, NULL, 0), PEAT_DONE, 1));
+    CHECK(says(peat_lent_take(&lent, 1, NULL, 0), PEAT_NOTHING, 1));
 }
 
 int main(void) {

@@ -1,5 +1,5 @@
 /* The lines (document 02, A4): settings empty them, whatever they held; lines of another size, and lines in which this table's channels
- * cannot stand so, are refused with 13, and all that is lent stays. Sound ones stay too: so far no call puts anybody into them. */
+ * cannot stand so, are refused with 13, and all that is lent stays. Sound ones count as they are. The order that they make is in order.c. */
 #include <string.h>
 
 #include "check.h"
@@ -24,7 +24,8 @@ typedef struct Lent {
 static Lent lent, before;
 
 #define LENT_WITH(octets) lent.table, RECORDS, lent.memory, OCTETS, lent.lengths, LENGTHS, lent.lines, (octets)
-#define LENT LENT_WITH(PEAT_LINES)
+
+static const PeatLent LENT = {LENT_WITH(PEAT_LINES)};
 
 static int untouched(void) { return memcmp(&lent, &before, sizeof lent) == 0; }
 
@@ -37,8 +38,8 @@ static void settings_empty_them(void) {
     CHECK(is_refused(peat_settings(LENT_WITH(PEAT_LINES - 1), SETTINGS, RECORDS)));
     CHECK(is_refused(peat_settings(LENT_WITH(PEAT_LINES + 1), SETTINGS, RECORDS)));
     CHECK(is_refused(peat_settings(LENT_WITH(0), SETTINGS, RECORDS)));
-    CHECK(is_refused(peat_settings(LENT, SETTINGS, RECORDS - 1)));
-    CHECK(peat_settings(LENT, SETTINGS, RECORDS).number == PEAT_DONE);
+    CHECK(is_refused(peat_lent_settings(&LENT, SETTINGS, RECORDS - 1)));
+    CHECK(peat_lent_settings(&LENT, SETTINGS, RECORDS).number == PEAT_DONE);
     CHECK(memcmp(lent.lines, clear, PEAT_LINES) == 0 && lent.lines[PEAT_LINES] == 255);
 }
 
@@ -82,17 +83,31 @@ static void spoilt_in(size_t rank) {
     every_call_refuses(PEAT_LINES);
 }
 
-/* Two stand in a line, and then one: an Open directive leaves them there. */
+/* These stand in a line, and nobody else. */
+static int is_line(size_t rank, uint8_t count, uint8_t first, uint8_t second) {
+    uint8_t line[LINE] = {0};
+    line[0] = count;
+    line[1] = first;
+    line[2] = second;
+    return memcmp(lent.lines + rank * LINE, line, LINE) == 0;
+}
+
+/* The receiver and the sender stand in a line, where nothing of theirs is ready: nobody is served. Each Open directive puts its own channel
+ * right, and that alone: the sender has an Open ready then, the receiver never has anything. */
 static void sound_in(size_t rank) {
-    CHECK(peat_settings(LENT, SETTINGS, RECORDS).number == PEAT_DONE);
+    uint8_t out[16];
+    size_t other;
+    CHECK(peat_lent_settings(&LENT, SETTINGS, RECORDS).number == PEAT_DONE);
     stand(rank, 2, 1, 0, 0);
-    memcpy(&before, &lent, sizeof lent);
-    CHECK(peat_open(LENT, 0).number == PEAT_DONE);
-    CHECK(memcmp(lent.lines, before.lines, sizeof lent.lines) == 0);
-    stand(rank, 1, 1, 0, 0);
-    memcpy(&before, &lent, sizeof lent);
-    CHECK(peat_open(LENT, 1).number == PEAT_DONE);
-    CHECK(memcmp(lent.lines, before.lines, sizeof lent.lines) == 0);
+    CHECK(peat_lent_next_packet(&LENT, NODE, out, sizeof out).number == PEAT_NOTHING);
+    CHECK(is_line(rank, 2, 1, 0));
+    CHECK(peat_lent_open(&LENT, 0).number == PEAT_DONE);
+    for (other = 1; other < 3; other++) {
+        CHECK(other == rank ? is_line(other, 1, 1, 0) : is_line(other, 0, 0, 0));
+    }
+    CHECK(rank == 0 ? is_line(0, 2, 1, 0) : is_line(0, 1, 0, 0));
+    CHECK(peat_lent_open(&LENT, 1).number == PEAT_DONE);
+    CHECK(is_line(0, 1, 0, 0) && is_line(1, 0, 0, 0) && is_line(2, 0, 0, 0));
 }
 
 int main(void) {

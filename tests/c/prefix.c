@@ -18,7 +18,8 @@ static uint8_t memory[OCTETS];
 static uint16_t lengths[LENGTHS];
 static uint8_t lines[PEAT_LINES];
 
-#define LENT table, RECORDS, memory, OCTETS, lengths, LENGTHS, lines, PEAT_LINES
+static const PeatLent LENT = {table, RECORDS, memory, OCTETS, lengths, LENGTHS, lines, PEAT_LINES};
+
 #define FAR_PREFIX {2, {7, 0}}
 #define OWN_PREFIX {OWN, {1, 2, 3}}
 #define LIMITS {1, SLOTS, PAYLOAD, 1, 9, 9, 0}
@@ -48,7 +49,7 @@ static uint32_t settings_with(PeatSettings one) {
     PeatSettings settings[RECORDS];
     memcpy(settings, SETTINGS, sizeof settings);
     settings[1] = one;
-    return peat_settings(LENT, settings, RECORDS).number;
+    return peat_lent_settings(&LENT, settings, RECORDS).number;
 }
 
 static void which_records_are_apart(void) {
@@ -74,12 +75,12 @@ static void room_for_a_reply(void) {
     uint8_t packet[64], reply[ALONE], clear[ALONE] = {0};
     size_t count = from(FAR, 1, PEAT_DATA, 1, packet);
     memset(reply, 0, sizeof reply);
-    CHECK(says(peat_arrival(LENT, NODE, packet, count, reply, 11), PEAT_SMALL, 12, RECORDS));
-    CHECK(says(peat_arrival(LENT, NODE, packet, count, reply, 12), PEAT_NO_CHANNEL, 0, RECORDS));
+    CHECK(says(peat_lent_arrival(&LENT, NODE, packet, count, reply, 11), PEAT_SMALL, 12, RECORDS));
+    CHECK(says(peat_lent_arrival(&LENT, NODE, packet, count, reply, 12), PEAT_NO_CHANNEL, 0, RECORDS));
     count = from(FAR, 2, PEAT_DATA, 1, packet);
-    CHECK(says(peat_arrival(LENT, NODE, packet, count, reply, 11), PEAT_SMALL, 12, RECORDS));
-    CHECK(says(peat_arrival(LENT, NODE, packet, count, reply, ALONE - 1), PEAT_SMALL, ALONE, 1));
-    CHECK(says(peat_arrival(LENT, NODE, packet, count, reply, ALONE), PEAT_STATE, 0, 1));
+    CHECK(says(peat_lent_arrival(&LENT, NODE, packet, count, reply, 11), PEAT_SMALL, 12, RECORDS));
+    CHECK(says(peat_lent_arrival(&LENT, NODE, packet, count, reply, ALONE - 1), PEAT_SMALL, ALONE, 1));
+    CHECK(says(peat_lent_arrival(&LENT, NODE, packet, count, reply, ALONE), PEAT_STATE, 0, 1));
     CHECK(memcmp(reply, clear, sizeof reply) == 0);
 }
 
@@ -88,36 +89,36 @@ static void whose_packet_it_is(void) {
     static const uint8_t head[13] = {65, PEAT_PROTOCOL, 0x5F, 0, 0, 0, 1, 0, OWN, 1, 2, 3, 64};
     uint8_t packet[64], reply[ALONE], unit[PAYLOAD];
     size_t count = from(FAR, 2, PEAT_OPEN_COMMAND, 0, packet);
-    CHECK(says(peat_open(LENT, 0), PEAT_DONE, 0, 0) && says(peat_open(LENT, 1), PEAT_DONE, 0, 1));
-    CHECK(says(peat_arrival(LENT, NODE, packet, count, reply, sizeof reply), PEAT_DONE, ALONE, 1));
+    CHECK(says(peat_lent_open(&LENT, 0), PEAT_DONE, 0, 0) && says(peat_lent_open(&LENT, 1), PEAT_DONE, 0, 1));
+    CHECK(says(peat_lent_arrival(&LENT, NODE, packet, count, reply, sizeof reply), PEAT_DONE, ALONE, 1));
     CHECK(memcmp(reply, head, sizeof head) == 0 && reply[13] * 256 + reply[14] == peat_crc(reply, 13));
     count = from(NULL, 0, PEAT_OPEN_COMMAND, 0, packet);
-    CHECK(says(peat_arrival(LENT, NODE, packet, count, reply, 12), PEAT_DONE, 12, 0));
+    CHECK(says(peat_lent_arrival(&LENT, NODE, packet, count, reply, 12), PEAT_DONE, 12, 0));
     count = from(FAR, 2, PEAT_DATA, 1, packet);
-    CHECK(says(peat_arrival(LENT, NODE, packet, count, reply, sizeof reply), PEAT_DONE, ALONE, 1));
-    CHECK(says(peat_arrival(LENT, NODE, packet, count, reply, sizeof reply), PEAT_REPEATED, ALONE, 1));
-    CHECK(says(peat_take(LENT, 0, unit, sizeof unit), PEAT_NOTHING, 0, 0));
-    CHECK(says(peat_take(LENT, 1, unit, sizeof unit), PEAT_DONE, 5, 1) && memcmp(unit, "event", 5) == 0);
+    CHECK(says(peat_lent_arrival(&LENT, NODE, packet, count, reply, sizeof reply), PEAT_DONE, ALONE, 1));
+    CHECK(says(peat_lent_arrival(&LENT, NODE, packet, count, reply, sizeof reply), PEAT_REPEATED, ALONE, 1));
+    CHECK(says(peat_lent_take(&LENT, 0, unit, sizeof unit), PEAT_NOTHING, 0, 0));
+    CHECK(says(peat_lent_take(&LENT, 1, unit, sizeof unit), PEAT_DONE, 5, 1) && memcmp(unit, "event", 5) == 0);
 }
 
 /* What a sender hands out has its own prefix, and the Acks for it are found by the remote one. They need 12 octets for no reply. */
 static void a_sender(void) {
     uint8_t packet[64], none[12];
     size_t count;
-    CHECK(says(peat_open(LENT, 2), PEAT_DONE, 0, 2));
-    CHECK(says(peat_next_packet(LENT, NODE, packet, ALONE - 1), PEAT_SMALL, ALONE, 2));
-    CHECK(says(peat_next_packet(LENT, NODE, packet, ALONE), PEAT_DONE, ALONE, 2));
+    CHECK(says(peat_lent_open(&LENT, 2), PEAT_DONE, 0, 2));
+    CHECK(says(peat_lent_next_packet(&LENT, NODE, packet, ALONE - 1), PEAT_SMALL, ALONE, 2));
+    CHECK(says(peat_lent_next_packet(&LENT, NODE, packet, ALONE), PEAT_DONE, ALONE, 2));
     count = from(NULL, 0, PEAT_CONTROL_ACK, 0, packet);
-    CHECK(says(peat_arrival(LENT, NODE, packet, count, none, sizeof none), PEAT_NO_CHANNEL, 0, RECORDS));
+    CHECK(says(peat_lent_arrival(&LENT, NODE, packet, count, none, sizeof none), PEAT_NO_CHANNEL, 0, RECORDS));
     count = from(FAR, 2, PEAT_CONTROL_ACK, 0, packet);
-    CHECK(says(peat_arrival(LENT, NODE, packet, count, none, sizeof none), PEAT_DONE, 0, 2));
-    CHECK(says(peat_transfer(LENT, 2, (const uint8_t *)"event", 5), PEAT_DONE, 0, 2));
-    CHECK(says(peat_next_packet(LENT, NODE, packet, ALONE + 4), PEAT_SMALL, ALONE + 5, 2));
-    CHECK(says(peat_next_packet(LENT, NODE, packet, ALONE + 5), PEAT_DONE, ALONE + 5, 2));
+    CHECK(says(peat_lent_arrival(&LENT, NODE, packet, count, none, sizeof none), PEAT_DONE, 0, 2));
+    CHECK(says(peat_lent_transfer(&LENT, 2, (const uint8_t *)"event", 5), PEAT_DONE, 0, 2));
+    CHECK(says(peat_lent_next_packet(&LENT, NODE, packet, ALONE + 4), PEAT_SMALL, ALONE + 5, 2));
+    CHECK(says(peat_lent_next_packet(&LENT, NODE, packet, ALONE + 5), PEAT_DONE, ALONE + 5, 2));
     CHECK(packet[8] == OWN && packet[11] == 3 && packet[12] == 64 && memcmp(packet + 13, "event", 5) == 0);
     count = from(FAR, 2, PEAT_DATA_ACK, 1, packet);
-    CHECK(peat_arrival(LENT, NODE, packet, count, none, sizeof none).confirmed == 1);
-    CHECK(says(peat_arrival(LENT, NODE, packet, count, none, sizeof none), PEAT_IGNORED, 0, 2));
+    CHECK(peat_lent_arrival(&LENT, NODE, packet, count, none, sizeof none).confirmed == 1);
+    CHECK(says(peat_lent_arrival(&LENT, NODE, packet, count, none, sizeof none), PEAT_IGNORED, 0, 2));
 }
 
 /* A prefix as long as can be said is written; one octet more is 4, before all else. */
@@ -135,7 +136,7 @@ static void the_writer(void) {
 
 int main(void) {
     which_records_are_apart();
-    CHECK(peat_settings(LENT, SETTINGS, RECORDS).number == PEAT_DONE);
+    CHECK(peat_lent_settings(&LENT, SETTINGS, RECORDS).number == PEAT_DONE);
     room_for_a_reply();
     whose_packet_it_is();
     a_sender();

@@ -14,7 +14,7 @@ static uint8_t memory[OCTETS];
 static uint16_t lengths[LENGTHS];
 static uint8_t lines[PEAT_LINES];
 
-#define LENT table, RECORDS, memory, OCTETS, lengths, LENGTHS, lines, PEAT_LINES
+static const PeatLent LENT = {table, RECORDS, memory, OCTETS, lengths, LENGTHS, lines, PEAT_LINES};
 
 static int says(PeatSaid said, uint32_t number, size_t index) {
     return said.number == number && said.index == index;
@@ -35,8 +35,8 @@ static void make(void) {
     }
     settings[3].addresses.channel = 3;
     settings[3].addresses.direction = PEAT_RECEIVES;
-    CHECK(says(peat_settings(LENT, settings, RECORDS), PEAT_DONE, RECORDS));
-    CHECK(says(peat_settings(LENT, settings, RECORDS - 1), PEAT_SETTINGS, RECORDS));
+    CHECK(says(peat_lent_settings(&LENT, settings, RECORDS), PEAT_DONE, RECORDS));
+    CHECK(says(peat_lent_settings(&LENT, settings, RECORDS - 1), PEAT_SETTINGS, RECORDS));
 }
 
 /* The Ack that the other end of this sender's channel would write. */
@@ -51,19 +51,19 @@ static void ack_of(size_t index, uint8_t kind, uint8_t number, uint8_t ack[PEAT_
 static void open_all(void) {
     uint8_t packet[12 + PAYLOAD], ack[PEAT_ACK_OCTETS], none[PEAT_ACK_OCTETS];
     size_t index;
-    CHECK(says(peat_next_packet(LENT, NODE, packet, sizeof packet), PEAT_NOTHING, RECORDS));
+    CHECK(says(peat_lent_next_packet(&LENT, NODE, packet, sizeof packet), PEAT_NOTHING, RECORDS));
     for (index = 0; index < RECORDS; index++) {
-        CHECK(says(peat_open(LENT, index), PEAT_DONE, index));
-        CHECK(says(peat_open(LENT, index), PEAT_STATE, index));
+        CHECK(says(peat_lent_open(&LENT, index), PEAT_DONE, index));
+        CHECK(says(peat_lent_open(&LENT, index), PEAT_STATE, index));
     }
-    CHECK(says(peat_open(LENT, RECORDS + 1), PEAT_NO_CHANNEL, RECORDS));
+    CHECK(says(peat_lent_open(&LENT, RECORDS + 1), PEAT_NO_CHANNEL, RECORDS));
     for (index = 0; index < 3; index++) {
-        CHECK(says(peat_next_packet(LENT, NODE, packet, sizeof packet), PEAT_DONE, index));
+        CHECK(says(peat_lent_next_packet(&LENT, NODE, packet, sizeof packet), PEAT_DONE, index));
         ack_of(index, PEAT_CONTROL_ACK, 0, ack);
-        CHECK(says(peat_arrival(LENT, NODE, ack, sizeof ack, none, sizeof none), PEAT_DONE, index));
+        CHECK(says(peat_lent_arrival(&LENT, NODE, ack, sizeof ack, none, sizeof none), PEAT_DONE, index));
     }
     /* The last Open is for the receiver here. */
-    CHECK(says(peat_arrival(LENT, NODE, packet, 12, ack, sizeof ack), PEAT_DONE, 3));
+    CHECK(says(peat_lent_arrival(&LENT, NODE, packet, 12, ack, sizeof ack), PEAT_DONE, 3));
 }
 
 /* Each of three senders has a unit out; their acks come in another order. */
@@ -72,30 +72,30 @@ static void whose_unit_was_confirmed(void) {
     uint8_t packet[12 + PAYLOAD], ack[PEAT_ACK_OCTETS], none[PEAT_ACK_OCTETS];
     size_t index, turn;
     for (index = 0; index < 3; index++) {
-        CHECK(says(peat_transfer(LENT, index, (const uint8_t *)"event", 5), PEAT_DONE, index));
-        CHECK(wants(peat_next_packet(LENT, NODE, packet, 16), 17, index));
-        CHECK(says(peat_next_packet(LENT, NODE, packet, sizeof packet), PEAT_DONE, index));
+        CHECK(says(peat_lent_transfer(&LENT, index, (const uint8_t *)"event", 5), PEAT_DONE, index));
+        CHECK(wants(peat_lent_next_packet(&LENT, NODE, packet, 16), 17, index));
+        CHECK(says(peat_lent_next_packet(&LENT, NODE, packet, sizeof packet), PEAT_DONE, index));
     }
-    CHECK(wants(peat_arrival(LENT, NODE, packet, 17, ack, 11), 12, RECORDS));
-    CHECK(says(peat_arrival(LENT, NODE, packet, 16, ack, sizeof ack), PEAT_SHORT, RECORDS));
-    CHECK(says(peat_arrival(LENT, NODE, packet, 17, ack, sizeof ack), PEAT_DONE, 3));
-    CHECK(says(peat_arrival(LENT, NODE, packet, 17, ack, sizeof ack), PEAT_REPEATED, 3));
+    CHECK(wants(peat_lent_arrival(&LENT, NODE, packet, 17, ack, 11), 12, RECORDS));
+    CHECK(says(peat_lent_arrival(&LENT, NODE, packet, 16, ack, sizeof ack), PEAT_SHORT, RECORDS));
+    CHECK(says(peat_lent_arrival(&LENT, NODE, packet, 17, ack, sizeof ack), PEAT_DONE, 3));
+    CHECK(says(peat_lent_arrival(&LENT, NODE, packet, 17, ack, sizeof ack), PEAT_REPEATED, 3));
     for (turn = 0; turn < 3; turn++) {
         PeatSaid said;
         ack_of(order[turn], PEAT_DATA_ACK, 1, ack);
-        said = peat_arrival(LENT, NODE, ack, sizeof ack, none, sizeof none);
+        said = peat_lent_arrival(&LENT, NODE, ack, sizeof ack, none, sizeof none);
         CHECK(says(said, PEAT_DONE, order[turn]) && said.confirmed == 1 && said.length == 0);
-        CHECK(says(peat_arrival(LENT, NODE, ack, sizeof ack, none, sizeof none), PEAT_IGNORED, order[turn]));
+        CHECK(says(peat_lent_arrival(&LENT, NODE, ack, sizeof ack, none, sizeof none), PEAT_IGNORED, order[turn]));
     }
 }
 
 static void units_wanted(void) {
     uint8_t unit[5] = {0};
-    CHECK(wants(peat_take(LENT, 3, unit, 4), 5, 3));
-    CHECK(wants(peat_take(LENT, 3, NULL, 0), 5, 3));
-    CHECK(says(peat_take(LENT, 3, unit, 5), PEAT_DONE, 3) && memcmp(unit, "event", 5) == 0);
-    CHECK(says(peat_take(LENT, 3, unit, 5), PEAT_NOTHING, 3));
-    CHECK(says(peat_take(LENT, 0, unit, 5), PEAT_STATE, 0));
+    CHECK(wants(peat_lent_take(&LENT, 3, unit, 4), 5, 3));
+    CHECK(wants(peat_lent_take(&LENT, 3, NULL, 0), 5, 3));
+    CHECK(says(peat_lent_take(&LENT, 3, unit, 5), PEAT_DONE, 3) && memcmp(unit, "event", 5) == 0);
+    CHECK(says(peat_lent_take(&LENT, 3, unit, 5), PEAT_NOTHING, 3));
+    CHECK(says(peat_lent_take(&LENT, 0, unit, 5), PEAT_STATE, 0));
 }
 
 /* Of a count of octets: the question, and then the transfer. */
@@ -103,18 +103,18 @@ static void asked(size_t count, uint32_t number) {
     static PeatChannel before[RECORDS];
     static const uint8_t unit[64];
     memcpy(before, table, sizeof table);
-    CHECK(says(peat_would_transfer(LENT, 1, count), number, 1));
+    CHECK(says(peat_lent_would_transfer(&LENT, 1, count), number, 1));
     CHECK(memcmp(before, table, sizeof table) == 0);
-    CHECK(says(peat_transfer(LENT, 1, unit, count), number, 1));
+    CHECK(says(peat_lent_transfer(&LENT, 1, unit, count), number, 1));
 }
 
 static void the_question(void) {
     uint8_t memory_before[OCTETS];
     memcpy(memory_before, memory, OCTETS);
-    CHECK(says(peat_would_transfer(LENT, 0, SIZE_MAX), PEAT_LONG, 0));
-    CHECK(says(peat_would_transfer(LENT, 0, 16), PEAT_DONE, 0));
-    CHECK(says(peat_would_transfer(LENT, 3, 0), PEAT_STATE, 3));
-    CHECK(says(peat_would_transfer(LENT, SIZE_MAX, 0), PEAT_NO_CHANNEL, RECORDS));
+    CHECK(says(peat_lent_would_transfer(&LENT, 0, SIZE_MAX), PEAT_LONG, 0));
+    CHECK(says(peat_lent_would_transfer(&LENT, 0, 16), PEAT_DONE, 0));
+    CHECK(says(peat_lent_would_transfer(&LENT, 3, 0), PEAT_STATE, 3));
+    CHECK(says(peat_lent_would_transfer(&LENT, SIZE_MAX, 0), PEAT_NO_CHANNEL, RECORDS));
     CHECK(says(peat_would_transfer(table, 3, memory, OCTETS, lengths, LENGTHS, lines, PEAT_LINES, 0, 0), PEAT_SETTINGS, 3));
     CHECK(memcmp(memory_before, memory, OCTETS) == 0);
     asked(17, PEAT_LONG);
@@ -129,18 +129,18 @@ static void the_question(void) {
 static void a_tick(void) {
     uint8_t packet[12 + PAYLOAD], unit[16];
     PeatSaid said;
-    CHECK(says(peat_transfer(LENT, 2, NULL, 0), PEAT_DONE, 2));
-    while (peat_next_packet(LENT, NODE, packet, sizeof packet).number == PEAT_DONE) {
+    CHECK(says(peat_lent_transfer(&LENT, 2, NULL, 0), PEAT_DONE, 2));
+    while (peat_lent_next_packet(&LENT, NODE, packet, sizeof packet).number == PEAT_DONE) {
     }
-    said = peat_tick(LENT);
+    said = peat_lent_tick(&LENT);
     CHECK(says(said, PEAT_INACTIVE, 1) && said.reason == PEAT_RETRIES && said.length == 0);
-    CHECK(says(peat_would_transfer(LENT, 0, 0), PEAT_DONE, 0));
-    CHECK(says(peat_would_transfer(LENT, 1, 0), PEAT_STATE, 1));
-    CHECK(says(peat_would_transfer(LENT, 2, 0), PEAT_STATE, 2));
-    CHECK(says(peat_tick(LENT), PEAT_DONE, RECORDS));
-    CHECK(wants(peat_reclaim(LENT, 1, unit, 8), 9, 1));
-    CHECK(says(peat_reclaim(LENT, 1, unit, sizeof unit), PEAT_DONE, 1));
-    CHECK(says(peat_open(LENT, 1), PEAT_UNTAKEN, 1));
+    CHECK(says(peat_lent_would_transfer(&LENT, 0, 0), PEAT_DONE, 0));
+    CHECK(says(peat_lent_would_transfer(&LENT, 1, 0), PEAT_STATE, 1));
+    CHECK(says(peat_lent_would_transfer(&LENT, 2, 0), PEAT_STATE, 2));
+    CHECK(says(peat_lent_tick(&LENT), PEAT_DONE, RECORDS));
+    CHECK(wants(peat_lent_reclaim(&LENT, 1, unit, 8), 9, 1));
+    CHECK(says(peat_lent_reclaim(&LENT, 1, unit, sizeof unit), PEAT_DONE, 1));
+    CHECK(says(peat_lent_open(&LENT, 1), PEAT_UNTAKEN, 1));
 }
 
 int main(void) {

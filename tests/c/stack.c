@@ -18,30 +18,30 @@ static PeatChannel table[RECORDS];
 static uint8_t memory[OCTETS];
 static uint16_t lengths[LENGTHS];
 static uint8_t lines[PEAT_LINES];
+static const PeatLent LENT = {table, RECORDS, memory, OCTETS, lengths, LENGTHS, lines, PEAT_LINES};
 static uint8_t packet[12 + PEAT_PREFIX + PAYLOAD], reply[PEAT_ACK_OCTETS + PEAT_PREFIX], unit[3 * PAYLOAD];
 
 /* What the last call answered, and the octets of the packet that was handed out last. */
 static uint32_t answer;
 static size_t packet_octets;
 
-#define LENT table, RECORDS, memory, OCTETS, lengths, LENGTHS, lines, PEAT_LINES
 #define LONGEST {PEAT_PREFIX, {1, 2, 3, 4, 5, 6, 7, 8, 9, 10, 11, 12, 13, 14, 15}}
 
 /* The last record sends to the first, and what they exchange goes through every step that files, sends, acknowledges and gathers. */
-static void settle(void) { answer = peat_settings(LENT, settings, RECORDS).number; }
-static void open_sender(void) { answer = peat_open(LENT, RECORDS - 1).number; }
-static void open_receiver(void) { answer = peat_open(LENT, 0).number; }
-static void close_sender(void) { answer = peat_close(LENT, RECORDS - 1).number; }
-static void ask(void) { answer = peat_would_transfer(LENT, RECORDS - 1, sizeof unit).number; }
-static void transfer(void) { answer = peat_transfer(LENT, RECORDS - 1, unit, sizeof unit).number; }
-static void take(void) { answer = peat_take(LENT, 0, unit, sizeof unit).number; }
-static void reclaim(void) { answer = peat_reclaim(LENT, RECORDS - 1, unit, sizeof unit).number; }
-static void tick(void) { answer = peat_tick(LENT).number; }
-static void arrive(void) { answer = peat_arrival(LENT, NODE, packet, packet_octets, reply, sizeof reply).number; }
-static void acknowledge(void) { answer = peat_arrival(LENT, NODE, reply, sizeof reply, packet, sizeof packet).number; }
+static void settle(void) { answer = peat_lent_settings(&LENT, settings, RECORDS).number; }
+static void open_sender(void) { answer = peat_lent_open(&LENT, RECORDS - 1).number; }
+static void open_receiver(void) { answer = peat_lent_open(&LENT, 0).number; }
+static void close_sender(void) { answer = peat_lent_close(&LENT, RECORDS - 1).number; }
+static void ask(void) { answer = peat_lent_would_transfer(&LENT, RECORDS - 1, sizeof unit).number; }
+static void transfer(void) { answer = peat_lent_transfer(&LENT, RECORDS - 1, unit, sizeof unit).number; }
+static void take(void) { answer = peat_lent_take(&LENT, 0, unit, sizeof unit).number; }
+static void reclaim(void) { answer = peat_lent_reclaim(&LENT, RECORDS - 1, unit, sizeof unit).number; }
+static void tick(void) { answer = peat_lent_tick(&LENT).number; }
+static void arrive(void) { answer = peat_lent_arrival(&LENT, NODE, packet, packet_octets, reply, sizeof reply).number; }
+static void acknowledge(void) { answer = peat_lent_arrival(&LENT, NODE, reply, sizeof reply, packet, sizeof packet).number; }
 
 static void hand_out(void) {
-    PeatSaid said = peat_next_packet(LENT, NODE, packet, sizeof packet);
+    PeatSaid said = peat_lent_next_packet(&LENT, NODE, packet, sizeof packet);
     answer = said.number;
     packet_octets = said.length;
 }

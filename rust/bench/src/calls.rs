@@ -15,7 +15,7 @@ pub const PAYLOAD: usize = 64;
 const COPIES: usize = 16;
 
 /// What is timed, in the order of docs/PROMISES.md, then the test for 13.
-pub const NAMES: [&str; 15] = [
+pub const NAMES: [&str; 17] = [
     "settings",
     "open",
     "close",
@@ -24,7 +24,9 @@ pub const NAMES: [&str; 15] = [
     "reclaim",
     "tick, nothing in flight",
     "tick, 64 in flight",
+    "tick, 64 in flight in every channel",
     "next_packet",
+    "next_packet, every channel in line",
     "arrival of Data",
     "arrival of a Data Ack",
     "13 alone: open answered 14, nothing held",
@@ -36,18 +38,10 @@ pub const NAMES: [&str; 15] = [
 /// Nanoseconds of each, once round.
 pub fn round<S: Side>(channels: usize) -> [f64; NAMES.len()] {
     let mut pair = Pair::<S>::new(channels, PAYLOAD);
-    let closed = S::new(64, &table(Direction::Sending, 65, channels, PAYLOAD));
-    let settings = settings_of(closed.clone());
-    let open = once(&closed, |side| side.open(0).number);
-    let close = once(&pair.host, |side| side.close(0).number);
+    let [settings, open, close] = changes_of_state(&pair.host, channels);
     let quiet = ticks(&mut pair.host);
-    let nothing = refused(&mut pair.host, 14, |side| side.open(99).number);
-    let slot = refused(&mut slotless(channels), 14, |side: &mut S| {
-        side.open(99).number
-    });
-    let idle = refused(&mut pair.host, 12, |side| {
-        side.next_packet(&mut [0; 12]).number
-    });
+    let [nothing, idle] = tests_alone(&mut pair.host);
+    let [slot, _] = tests_alone(&mut slotless::<S>(channels));
     let transfer = pair.transfers();
     let next_packet = pair.packets();
     let busy = ticks(&mut pair.host);
@@ -56,6 +50,7 @@ pub fn round<S: Side>(channels: usize) -> [f64; NAMES.len()] {
     let ack = pair.acks();
     let take = pair.takes();
     let reclaim = pair.reclaims();
+    let [from_line, busiest] = crowded::<S>(channels);
     [
         settings,
         open,
@@ -65,7 +60,9 @@ pub fn round<S: Side>(channels: usize) -> [f64; NAMES.len()] {
         reclaim,
         quiet,
         busy,
+        busiest,
         next_packet,
+        from_line,
         data,
         ack,
         nothing,
@@ -73,6 +70,33 @@ pub fn round<S: Side>(channels: usize) -> [f64; NAMES.len()] {
         slot,
         idle,
     ]
+}
+
+/// Settings, the Open directive of a closed channel, and the Close of an open one.
+fn changes_of_state<S: Side>(host: &S, channels: usize) -> [f64; 3] {
+    let closed = S::new(64, &table(Direction::Sending, 65, channels, PAYLOAD));
+    let settings = settings_of(closed.clone());
+    let open = once(&closed, |side| side.open(0).number);
+    let close = once(host, |side| side.close(0).number);
+    [settings, open, close]
+}
+
+/// Calls that are refused after the test for 13: a request with 14, the next
+/// packet with 12.
+fn tests_alone<S: Side>(side: &mut S) -> [f64; 2] {
+    let request = refused(side, 14, |side| side.open(99).number);
+    let packet = refused(side, 12, |side| side.next_packet(&mut [0; 12]).number);
+    [request, packet]
+}
+
+/// The next packet while every channel stands in line (document 02, A4), and a
+/// tick when each has a whole window in flight.
+fn crowded<S: Side>(channels: usize) -> [f64; 2] {
+    let mut pair = Pair::<S>::new(channels, PAYLOAD);
+    pair.queue();
+    let from_line = pair.packets();
+    pair.drain();
+    [from_line, ticks(&mut pair.host)]
 }
 
 /// A node whose records have but one slot each, to tell the cost of looking at

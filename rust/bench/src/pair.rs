@@ -92,11 +92,7 @@ impl<S: Side> Pair<S> {
     /// nanoseconds for each unit.
     pub fn flow(&mut self) -> f64 {
         let start = Instant::now();
-        for index in 0..self.channels {
-            for _ in 0..WINDOW {
-                assert_eq!(self.host.transfer(index, &self.unit).number, 0);
-            }
-        }
+        self.queue();
         self.exchange();
         for index in 0..self.channels {
             for _ in 0..WINDOW {
@@ -105,6 +101,20 @@ impl<S: Side> Pair<S> {
             }
         }
         start.elapsed().as_nanos() as f64 / (WINDOW * self.channels) as f64
+    }
+
+    /// A batch of units is accepted in every channel.
+    pub fn queue(&mut self) {
+        for index in 0..self.channels {
+            for _ in 0..WINDOW {
+                assert_eq!(self.host.transfer(index, &self.unit).number, 0);
+            }
+        }
+    }
+
+    /// Every packet that is ready is handed out, and stays in flight.
+    pub fn drain(&mut self) {
+        while self.host.next_packet(&mut self.out).number == 0 {}
     }
 
     /// A batch of units is accepted in channel 0.

@@ -180,6 +180,7 @@ pub fn check_bounds(noise: &mut Noise, tally: &mut Tally) {
         tally.case(name);
     }
     check_storage(noise, tally);
+    check_lines(noise, tally);
     check_prefixes(noise, tally);
     check_unsayable(noise, tally);
 }
@@ -214,6 +215,21 @@ pub const STORAGE: [Bound; 2] = [
         table[0].most_payload *= 2;
     }),
 ];
+
+/// A case of [`check_lines`].
+pub const OTHER_LINES: &str = "settings: lines of another size";
+
+/// Settings over lines of another size: these stay, and there is no node.
+fn check_lines(noise: &mut Noise, tally: &mut Tally) {
+    let settings = good(1, noise);
+    for octets in [0, 17, 50, 52] {
+        let mut twin = Twin::new(NODE, 1, &settings, noise);
+        twin.write_lines(noise.octets(octets));
+        let answer = twin.call(Call::Settings(&settings), 0, tally).said.number;
+        assert_eq!(answer, 13, "{octets} octets");
+        tally.case(OTHER_LINES);
+    }
+}
 
 /// A field of settings, set to what the peer's cannot say.
 type Unsayable = fn(&mut proved::record::Settings, usize);

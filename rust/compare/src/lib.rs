@@ -11,6 +11,8 @@ pub mod condition;
 pub mod counts;
 pub mod damage;
 pub mod faults;
+pub mod lines;
+pub mod order;
 pub mod overwriting;
 pub mod packets;
 pub mod records;

@@ -1,12 +1,15 @@
 //! Records and lines overwritten by the caller. The peer keeps no such record,
 //! so the answer is held against docs/CONDITION.md: 13 exactly if a record lacks
-//! its condition or the lines are not sound, and then nothing has changed.
+//! its condition or the lines are not sound, and then nothing has changed. Else
+//! the records as they are decide who stands in a line and who is served.
 
 use link::Noise;
-use proved::record::{Channel, LINES};
+use proved::record::Channel;
+use proved::Said;
 
 use crate::call::{unlawful, Call};
 use crate::condition::{are_lines, is_lawful};
+use crate::lines::{after, next, other_lines};
 use crate::strays::from_other_end;
 use crate::tally::Tally;
 use crate::twin::Twin;
@@ -45,9 +48,6 @@ const FIELDS: [Field; 28] = [
     |record, number| record.timers.left[(number >> 16) as usize % 128] = number as u16,
 ];
 
-/// Octets of one line.
-const LINE: usize = LINES / 3;
-
 /// Numbers at the edges of what the fields may hold.
 const EDGES: [u64; 20] = [
     0,
@@ -72,17 +72,24 @@ const EDGES: [u64; 20] = [
     u64::MAX,
 ];
 
+/// Table, memory, lengths and lines.
+type Kept = (Vec<Channel>, Vec<u8>, Vec<u16>, Vec<u8>);
+
+fn kept(twin: &Twin) -> Kept {
+    (
+        twin.table.clone(),
+        twin.memory.clone(),
+        twin.lengths.clone(),
+        twin.lines.clone(),
+    )
+}
+
 /// Overwrites something, makes any call of the proved library, looks at the
 /// answer, and puts everything back.
 pub fn overwrite_and_call(twin: &mut Twin, noise: &mut Noise, tally: &mut Tally) {
     let index = noise.below(twin.table.len());
     let packet = from_other_end(twin, index, 30, noise);
-    let kept = (
-        twin.table.clone(),
-        twin.memory.clone(),
-        twin.lengths.clone(),
-        twin.lines.clone(),
-    );
+    let kept = kept(twin);
     for _ in 0..1 + noise.below(2) {
         overwrite(twin, noise);
     }
@@ -116,35 +123,42 @@ fn overwrite(twin: &mut Twin, noise: &mut Noise) {
         let slot = noise.below(twin.lengths.len());
         twin.lengths[slot] = number as u16;
     } else if noise.one_in(8) {
-        overwrite_line(twin, number, noise);
+        overwrite_lines(twin, number, noise);
     } else {
         let record = noise.below(twin.table.len());
         noise.one_of(&FIELDS)(&mut twin.table[record], number);
     }
 }
 
-/// One stands in a line, or, as often, any octet of it is another: what stands
-/// there may then be no channel, or past those who stand.
-fn overwrite_line(twin: &mut Twin, number: u64, noise: &mut Noise) {
-    let line = noise.below(3) * LINE;
+/// Others stand in the lines, or, as often, any octet of them is another: what
+/// stands there may then be no channel, or past those who stand.
+fn overwrite_lines(twin: &mut Twin, number: u64, noise: &mut Noise) {
     if noise.one_in(2) {
-        twin.lines[line] = 1;
-        twin.lines[line + 1] = number as u8;
+        twin.lines = other_lines(&twin.lines, twin.table.len(), noise);
     } else {
-        twin.lines[line + noise.below(LINE)] = number as u8;
+        let place = noise.below(twin.lines.len());
+        twin.lines[place] = number as u8;
     }
 }
 
-/// The lines as they must be after a call that was not refused: settings empty
-/// them, and so far no other call changes them.
-fn check_lines(twin: &Twin, call: &Call, before: &[u8], tally: &mut Tally) {
-    if let Call::Settings(_) = call {
-        assert_eq!(twin.lines, [0; LINES], "settings empty the lines");
-        return;
+/// The order after a call that was not answered 13: whose packet was next, and
+/// the lines.
+fn check_order(twin: &Twin, call: &Call, said: Said, before: &Kept, tally: &mut Tally) {
+    let (table, _, _, lines) = before;
+    let chosen = match call {
+        Call::NextPacket => next(lines, table),
+        _ => None,
+    };
+    if let Call::NextPacket = call {
+        let index = chosen.map_or(table.len(), |next| next.index);
+        assert_eq!(said.index, index, "another than the lines choose");
+        assert_eq!(said.number == 12, chosen.is_none());
     }
-    assert_eq!(twin.lines, before, "{call:?} changed the lines");
-    if before.iter().any(|octet| *octet != 0) {
-        tally.case("13: overwritten lines are sound, and stay");
+    let out = chosen.filter(|_| said.number == 0);
+    let expected = after(call, said, lines, &twin.table, out);
+    assert_eq!(twin.lines, expected, "{call:?}: {said:?}");
+    if lines != twin.peer.lines() {
+        tally.case("13: overwritten lines are sound, and count");
     }
 }
 
@@ -156,12 +170,7 @@ fn is_sound(twin: &Twin) -> bool {
 /// Makes a call of the proved library alone over what is lent as it is.
 fn check(twin: &mut Twin, call: Call, tally: &mut Tally) {
     let lawful = is_sound(twin);
-    let before = (
-        twin.table.clone(),
-        twin.memory.clone(),
-        twin.lengths.clone(),
-        twin.lines.clone(),
-    );
+    let before = kept(twin);
     let mut out = [0xA5; 64];
     let said = call.of_proved(twin.lent(&mut out));
     tally.alone += 1;
@@ -176,16 +185,19 @@ fn check(twin: &mut Twin, call: Call, tally: &mut Tally) {
         assert_ne!(said.number, 13, "{call:?}");
         tally.case("13: an overwritten record has its condition, and keeps it");
     } else {
-        tally.case(match are_lines(&before.3, before.0.len()) {
-            true => "13: an overwritten record lacks its condition",
-            false => "13: overwritten lines are not sound",
-        });
-        assert_eq!(said, unlawful(twin.table.len()), "{call:?}");
-        assert!(twin.table == before.0, "a refusal changed a record");
-        assert!(twin.memory == before.1 && twin.lengths == before.2 && twin.lines == before.3);
         assert_eq!(out, [0xA5; 64]);
-        return;
+        return check_refused(twin, &call, said, &before, tally);
     }
-    check_lines(twin, &call, &before.3, tally);
+    check_order(twin, &call, said, &before, tally);
     assert!(is_sound(twin), "{call:?} did not keep the condition");
+}
+
+/// 13, and nothing has changed.
+fn check_refused(twin: &Twin, call: &Call, said: Said, before: &Kept, tally: &mut Tally) {
+    tally.case(match are_lines(&before.3, before.0.len()) {
+        true => "13: an overwritten record lacks its condition",
+        false => "13: overwritten lines are not sound",
+    });
+    assert_eq!(said, unlawful(twin.table.len()), "{call:?}");
+    assert!(kept(twin) == *before, "a refusal changed something");
 }

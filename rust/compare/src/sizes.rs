@@ -43,8 +43,11 @@ pub const WRONGS: [Wrong; 13] = [
     ("13: an index in a line that no record has", |lent| {
         lent.lines[17..19].copy_from_slice(&[1, lent.table.len() as u8]);
     }),
-    ("13: an index twice in a line", |lent| lent.lines[34] = 2),
+    ("13: an index twice in a line", |lent| {
+        lent.lines[34..37].copy_from_slice(&[2, 0, 0]);
+    }),
     ("13: an octet past those who stand in a line", |lent| {
+        lent.lines[34] = lent.lines[34].min(15);
         lent.lines[50] = 1;
     }),
     ("13: no record", |lent| {

@@ -17,33 +17,43 @@ pub enum Size {
     Small,
     /// Up to 16 records.
     Wide,
+    /// 12 to 16 records that all send at one node, and so stand in line there.
+    Crowded,
     /// Windows up to 128, slots up to 128, payloads up to 1,024 octets.
     Large,
 }
 
-/// The tables of both nodes: as many records in each, in another order.
-pub fn two_tables(size: Size, noise: &mut Noise) -> [Vec<Settings>; 2] {
-    let records = match size {
+/// How many records a table has.
+fn records(size: Size, noise: &mut Noise) -> usize {
+    match size {
         Size::Small => 1 + noise.below(4),
         Size::Wide => 5 + noise.below(12),
+        Size::Crowded => 12 + noise.below(5),
         Size::Large => 1 + noise.below(2),
-    };
+    }
+}
+
+/// The tables of both nodes: as many records in each, in another order.
+pub fn two_tables(size: Size, noise: &mut Noise) -> [Vec<Settings>; 2] {
+    let records = records(size, noise);
     let mut tables = [Vec::new(), Vec::new()];
     let first_sender = noise.below(2);
     // Two in a row share a number, and differ in direction; or four do, and the
-    // other two differ in the remote prefix alone.
-    let sharing = noise.one_of(&[2, 2, 4]);
+    // other two differ in the remote prefix alone. Where one node sends all, none
+    // do.
+    let crowded = size == Size::Crowded;
+    let sharing = if crowded { 1 } else { noise.one_of(&[2, 2, 4]) };
     for place in 0..records {
-        let sender = (first_sender + place) % 2;
+        let turn = if crowded { 0 } else { place };
+        let sender = (first_sender + turn) % 2;
         let absent = noise.one_in(6);
         let sending = limits(size, noise);
         let receiving = other_end(sending, noise);
         let prefixes = [0, 1].map(|_| prefix(place % 4 / 2 == 1, noise));
         for node in [0, 1] {
-            let (direction, settings) = if node == sender {
-                (Direction::Sending, sending)
-            } else {
-                (Direction::Receiving, receiving)
+            let (direction, settings) = match node == sender {
+                true => (Direction::Sending, sending),
+                false => (Direction::Receiving, receiving),
             };
             let remote = if absent { ABSENT } else { ADDRESSES[1 - node] };
             tables[node].push(Settings {

@@ -40,6 +40,9 @@ pub struct Tally {
     pub calls: u64,
     /// Calls made of the proved library alone, where the peer cannot be asked.
     pub alone: u64,
+    /// The most packets of a rank that were handed out before that of a channel
+    /// which waited in its line.
+    pub waited: usize,
     lines: BTreeMap<&'static str, [u64; NUMBERS]>,
     cases: BTreeMap<&'static str, u64>,
 }
@@ -60,6 +63,7 @@ impl Tally {
     pub fn add(&mut self, other: &Tally) {
         self.calls += other.calls;
         self.alone += other.alone;
+        self.waited = self.waited.max(other.waited);
         for (line, counts) in &other.lines {
             let sums = self.lines.entry(line).or_default();
             for (sum, count) in sums.iter_mut().zip(counts) {

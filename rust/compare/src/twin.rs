@@ -10,6 +10,7 @@ use proved::record::{Channel, Node, LINES};
 use proved::Said;
 
 use crate::call::{to_proved, Call, Lent};
+use crate::order::Passed;
 use crate::records::{assert_same, reason_number, state_number};
 use crate::tally::Tally;
 
@@ -32,9 +33,15 @@ pub struct Twin {
     pub lines: Vec<u8>,
     /// The node's own address and protocol ID.
     pub node: Node,
+    /// The records before the last call.
+    pub(crate) before: Vec<Channel>,
+    /// The lines before it.
+    pub(crate) lines_before: Vec<u8>,
+    /// Whether the caller wrote into the lines since a tick or settings.
+    pub(crate) written: bool,
+    /// What was handed out before the packets of those who wait.
+    pub(crate) passed: Passed,
     proved_settings: Vec<proved::record::Settings>,
-    before: Vec<Channel>,
-    lines_before: Vec<u8>,
     by_proved: Vec<u8>,
     by_peer: Vec<u8>,
 }
@@ -60,15 +67,19 @@ impl Twin {
             protocol: node.protocol,
         };
         let table = vec![Channel::blank(); records];
+        let lines = vec![0xA5; LINES];
+        let storage = (memory.clone(), lengths.clone());
         Twin {
             settings: Vec::new(),
-            peer: peer::node::Node::new(own, records, memory.clone(), lengths.clone()),
+            peer: peer::node::Node::new(own, records, storage.0, storage.1, lines.clone()),
             before: table.clone(),
             table,
             memory,
             lengths,
-            lines: vec![0xA5; LINES],
-            lines_before: vec![0xA5; LINES],
+            lines_before: lines.clone(),
+            lines,
+            written: false,
+            passed: Passed::default(),
             node,
             proved_settings: Vec::new(),
             by_proved: Vec::new(),
@@ -126,7 +137,7 @@ impl Twin {
     /// Makes a call of both with a buffer of this size, and compares.
     pub fn call(&mut self, call: Call, room: usize, tally: &mut Tally) -> Outcome {
         self.before.copy_from_slice(&self.table);
-        self.lines_before.copy_from_slice(&self.lines);
+        self.lines_before.clone_from(&self.lines);
         let quiet = tally.calls as u8;
         let mut by_proved = renewed(&mut self.by_proved, room, quiet);
         let mut by_peer = renewed(&mut self.by_peer, room, quiet);
@@ -140,6 +151,7 @@ impl Twin {
         tally.calls += 1;
         tally.answer(call.name(), said.number);
         self.compare(&call, said, answer);
+        self.check_order(&call, said, tally);
         assert!(by_proved == by_peer, "the octets written differ");
         let octets = by_proved[lent][..said.written()].to_vec();
         (self.by_proved, self.by_peer) = (by_proved, by_peer);
@@ -154,7 +166,7 @@ impl Twin {
         assert_eq!(said.index, served, "the index");
         assert!(self.lengths == self.peer.lengths(), "the lengths differ");
         assert!(self.memory == self.peer.memory(), "the memory differs");
-        self.compare_lines(call, said);
+        assert!(self.lines == self.peer.lines(), "the lines differ");
         let records = 0..self.table.len();
         let changed = records.filter(|&index| self.table[index] != self.before[index]);
         let changed: Vec<usize> = changed.collect();
@@ -171,16 +183,6 @@ impl Twin {
         };
         assert_eq!(said.reason, u32::from(reason), "the reason");
         self.compare_records();
-    }
-
-    /// Settings empty the lines. So far no other call changes them; the peer has
-    /// none.
-    fn compare_lines(&self, call: &Call, said: Said) {
-        let expected = match (said.number, call) {
-            (0, Call::Settings(_)) => &[0; LINES][..],
-            _ => &self.lines_before,
-        };
-        assert!(self.lines == expected, "the lines changed");
     }
 
     /// Every record, if there are settings: before them no record has a

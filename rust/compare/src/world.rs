@@ -6,7 +6,7 @@ use peer::settings::{Direction, Settings};
 use peer::state::State;
 use proved::record::Node;
 
-use crate::call::Call;
+use crate::call::{unlawful, Call};
 use crate::damage;
 use crate::overwriting::overwrite_and_call;
 use crate::sizes::lend_wrongly;
@@ -18,9 +18,11 @@ use crate::twin::{Outcome, Twin};
 
 mod applications;
 mod cases;
+mod lines;
 mod prefixes;
 
 pub use cases::CASES;
+pub use lines::WRITTEN;
 pub use prefixes::PREFIXES;
 
 /// Two nodes and what goes on between them.
@@ -35,6 +37,8 @@ pub struct World {
     packet_room: usize,
     /// Nodes that had nothing to hand out, and nothing happened since.
     idle: [bool; 2],
+    /// How long the link from a node still takes no packet.
+    jams: [usize; 2],
 }
 
 impl World {
@@ -66,6 +70,7 @@ impl World {
             noise,
             packet_room,
             idle: [false; 2],
+            jams: [0; 2],
         }
     }
 
@@ -86,6 +91,7 @@ impl World {
             97 => overwrite_and_call(&mut self.twins[node], &mut self.noise, &mut self.tally),
             98 => self.lend_wrongly(node),
             _ if self.noise.one_in(8) => self.settings(node),
+            _ if self.noise.one_in(2) => self.write_lines(node),
             _ => self.any_request(node),
         }
     }
@@ -111,10 +117,20 @@ impl World {
         }
     }
 
+    /// Now and then a link takes no packet for a while: so channels come to
+    /// stand in lines.
+    fn is_jammed(&mut self, node: usize) -> bool {
+        if self.jams[node] == 0 && self.noise.one_in(100) {
+            self.jams[node] = self.noise.below(60);
+        }
+        self.jams[node] = self.jams[node].saturating_sub(1);
+        self.jams[node] > 0
+    }
+
     /// The next packet goes on the link. A node that has none is mostly left
     /// in peace, and its application asked for something.
     fn hand_out(&mut self, node: usize) {
-        if self.idle[node] && !self.noise.one_in(16) {
+        if self.is_jammed(node) || self.idle[node] && !self.noise.one_in(16) {
             return self.sending_application(node);
         }
         let room = self.room(self.packet_room);
@@ -159,6 +175,10 @@ impl World {
         if said.number == 9 && said.index > 0 {
             self.tally
                 .case("index: a tick names another than the first");
+        }
+        // Some may wait to be resent now, and for new Data too.
+        if self.noise.one_in(30) {
+            self.write_lines(node);
         }
     }
 

@@ -3,13 +3,14 @@
 
 use std::thread;
 
-use compare::bounds::{check_bounds, ACCEPTED, COUNTS, REFUSED, STORAGE};
+use compare::bounds::{check_bounds, ACCEPTED, COUNTS, OTHER_LINES, REFUSED, STORAGE};
+use compare::order::ORDERS;
 use compare::sizes::WRONGS;
 use compare::strays::CLAUSES;
 use compare::tables::Size;
 use compare::tally::Tally;
 use compare::trouble::Trouble;
-use compare::world::{World, CASES, PREFIXES};
+use compare::world::{World, CASES, PREFIXES, WRITTEN};
 use link::{Noise, Weather, FAIR};
 
 /// Calls compared when PEAT_CALLS does not ask for more.
@@ -65,6 +66,7 @@ fn plan(seed: u64) -> (Size, Trouble, u64) {
     let long = if trouble.breaking == 0 { 6 } else { 1 };
     match seed / 2 % 32 {
         3 | 11 | 22 => (Size::Wide, trouble, 1_500),
+        5 | 13 | 27 => (Size::Crowded, trouble, 1_500),
         7 => (Size::Large, trouble, 1_500 * long),
         _ => (Size::Small, trouble, 2_000 * long),
     }
@@ -120,9 +122,10 @@ fn calls_wanted() -> u64 {
 /// Every case that some list names.
 fn all_cases() -> Vec<&'static str> {
     let bounds = [&REFUSED[..], &ACCEPTED, &STORAGE].concat();
-    let mut cases = [&CASES[..], &PREFIXES].concat();
+    let mut cases = [&CASES[..], &PREFIXES, &ORDERS, &WRITTEN].concat();
     cases.extend(bounds.iter().map(|(name, _)| *name));
     cases.extend(COUNTS.map(|(name, _, _)| name));
+    cases.push(OTHER_LINES);
     cases.extend(CLAUSES.map(|(name, _)| name));
     cases.extend(WRONGS.map(|(name, _)| name));
     cases
@@ -143,6 +146,8 @@ fn every_call_answers_as_the_peers() {
     let Tally { calls, alone, .. } = tally;
     println!("{calls} calls compared, and {alone} of the proved library alone");
     print!("{tally}");
+    let waited = tally.waited;
+    println!("no channel waited in a line for more than {waited} packets of its rank");
     assert!(calls >= calls_wanted());
     tally.assert_complete(&all_cases());
 }

@@ -2,7 +2,7 @@
 
 use crate::answer::Refusal;
 use crate::receiving::ReceivingEnd;
-use crate::sending::SendingEnd;
+use crate::sending::{Rank, SendingEnd};
 use crate::settings::{Direction, Settings};
 use crate::sight::Sight;
 use crate::state::{Reason, State};
@@ -79,6 +79,15 @@ impl Channel {
         match self {
             Channel::Receiving(end) => Ok(end),
             Channel::Sending(_) => Err(Refusal::State),
+        }
+    }
+
+    /// Whether a packet of this rank is ready. A receive end has but acks, and
+    /// these are written as their packets arrive.
+    pub(crate) fn is_ready(&self, rank: Rank) -> bool {
+        match self {
+            Channel::Sending(end) => end.is_ready(rank),
+            Channel::Receiving(_) => false,
         }
     }
 

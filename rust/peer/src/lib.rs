@@ -16,6 +16,7 @@ pub mod answer;
 mod channel;
 mod course;
 pub mod crc;
+pub mod lines;
 pub mod node;
 pub mod packet;
 pub mod prefix;

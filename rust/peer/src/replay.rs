@@ -2,6 +2,7 @@
 
 use std::fmt::Write;
 
+use crate::lines::LINE_OCTETS;
 use crate::node::Node;
 use crate::prefix::Prefix;
 use crate::settings::{storage, Direction, NodeSettings, Settings};
@@ -91,7 +92,8 @@ fn node() -> Node {
         own: 64,
         protocol: 238,
     };
-    let mut node = Node::new(settings, table.len(), vec![0; octets], vec![0; lengths]);
+    let (memory, lengths) = (vec![0; octets], vec![0; lengths]);
+    let mut node = Node::new(settings, table.len(), memory, lengths, vec![0; LINE_OCTETS]);
     let answer = node.settings(&table);
     debug_assert_eq!(answer.number, 0);
     node

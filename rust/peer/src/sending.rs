@@ -37,8 +37,8 @@ pub(crate) struct SendingEnd {
     held: VecDeque<Vec<Segment>>,
 }
 
-/// "Control before resent Data before new Data", in this order.
-#[derive(Clone, Copy, Debug, PartialEq, Eq, PartialOrd, Ord)]
+/// What a packet is handed out as.
+#[derive(Clone, Copy, Debug, PartialEq, Eq)]
 pub(crate) enum Rank {
     Control,
     ResentData,
@@ -48,7 +48,6 @@ pub(crate) enum Rank {
 /// A packet that an end would hand out.
 #[derive(Clone, Copy, Debug, PartialEq, Eq)]
 pub(crate) struct Offer<'a> {
-    pub(crate) rank: Rank,
     pub(crate) kind: u8,
     pub(crate) flags: u8,
     pub(crate) number: u8,
@@ -171,7 +170,7 @@ impl SendingEnd {
         let Phase::Open(window) = &mut self.phase else {
             return Err(Refusal::State);
         };
-        window.acknowledge(number, self.settings.window)?;
+        window.acknowledge(number)?;
         let start = window.start();
         let is_passed = |unit: &&Vec<Segment>| unit.iter().all(|segment| segment.number < start);
         let confirmed = self.held.iter().take_while(is_passed).count();
@@ -195,45 +194,48 @@ impl SendingEnd {
         used_up
     }
 
-    /// The packet that this end would hand out next, if any.
-    pub(crate) fn offer(&self) -> Option<Offer<'_>> {
-        let control = |course: &Course, kind| {
-            let ready = course.is_ready();
-            ready.then(|| Offer::control(kind))
-        };
+    /// Whether a packet of this rank is ready.
+    pub(crate) fn is_ready(&self, rank: Rank) -> bool {
+        match &self.phase {
+            Phase::Closed(_) => false,
+            Phase::Enabled { open: course, .. } | Phase::Closing { close: course } => {
+                rank == Rank::Control && course.is_ready()
+            }
+            Phase::Open(window) => window.next_ready(self.settings.window, rank).is_some(),
+        }
+    }
+
+    /// The packet of this rank that this end would hand out next, if any.
+    pub(crate) fn offer(&self, rank: Rank) -> Option<Offer<'_>> {
+        let control = |kind| self.is_ready(rank).then(|| Offer::control(kind));
         match &self.phase {
             Phase::Closed(_) => None,
-            Phase::Enabled { open, .. } => control(open, kind::OPEN),
-            Phase::Closing { close } => control(close, kind::CLOSE),
+            Phase::Enabled { .. } => control(kind::OPEN),
+            Phase::Closing { .. } => control(kind::CLOSE),
             Phase::Open(window) => {
-                let (rank, number) = window.next_ready(self.settings.window)?;
+                let number = window.next_ready(self.settings.window, rank)?;
                 let mut segments = self.held.iter().flatten();
                 let segment = segments.find(|segment| segment.number == number)?;
-                Some(Offer::data(rank, segment))
+                Some(Offer::data(segment))
             }
         }
     }
 
     /// Notes that the packet of [`SendingEnd::offer`] was handed out.
-    pub(crate) fn hand_out(&mut self) {
+    pub(crate) fn hand_out(&mut self, rank: Rank) {
         let timeout = self.settings.timeout;
         match &mut self.phase {
             Phase::Closed(_) => {}
             Phase::Enabled { open, .. } => open.hand_out(timeout),
-            Phase::Open(window) => window.hand_out(self.settings.window, timeout),
+            Phase::Open(window) => window.hand_out(self.settings.window, rank, timeout),
             Phase::Closing { close } => close.hand_out(timeout),
         }
     }
 }
 
 impl Rank {
-    fn of_data(resent: bool) -> Rank {
-        if resent {
-            Rank::ResentData
-        } else {
-            Rank::NewData
-        }
-    }
+    /// "Control before resent Data before new Data."
+    pub(crate) const ALL: [Rank; 3] = [Rank::Control, Rank::ResentData, Rank::NewData];
 }
 
 impl<'a> Offer<'a> {
@@ -241,7 +243,6 @@ impl<'a> Offer<'a> {
     /// 4.2.3.4.4 and 4.2.4.1).
     fn control(kind: u8) -> Offer<'a> {
         Offer {
-            rank: Rank::Control,
             kind,
             flags: flags::WHOLE,
             number: 0,
@@ -249,9 +250,8 @@ impl<'a> Offer<'a> {
         }
     }
 
-    fn data(rank: Rank, segment: &'a Segment) -> Offer<'a> {
+    fn data(segment: &'a Segment) -> Offer<'a> {
         Offer {
-            rank,
             kind: kind::DATA,
             flags: segment.flags,
             number: sequence_number(segment.number),

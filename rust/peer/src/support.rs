@@ -2,6 +2,7 @@
 //! calls is checked for what document 01 says of all calls.
 
 use crate::answer::Answer;
+use crate::lines::LINE_OCTETS;
 use crate::node::Node;
 use crate::packet::{self, flags, kind, Fields};
 use crate::prefix::Prefix;
@@ -95,8 +96,8 @@ pub(crate) fn kind_and_number(packet: &[u8]) -> (u8, u8) {
 /// A node over storage that is full of noise.
 pub(crate) fn unset_node(table: &[Settings]) -> Node {
     let (octets, lengths) = storage(table);
-    let memory = vec![NOISE; octets];
-    Node::new(HERE, table.len(), memory, vec![NOISE_LENGTH; lengths])
+    let (memory, lengths) = (vec![NOISE; octets], vec![NOISE_LENGTH; lengths]);
+    Node::new(HERE, table.len(), memory, lengths, vec![NOISE; LINE_OCTETS])
 }
 
 /// A node and the checks of all its calls.

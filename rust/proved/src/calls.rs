@@ -4,7 +4,8 @@
 //! or lines that were spoilt, and slices of another size, are refused with 13. Calls
 //! that serve one channel are lent memory and lengths to write, as one function
 //! serves them all; only a transfer and an arrival change an octet or a length
-//! there. So far settings alone change the lines.
+//! there. Settings empty the lines; a call that answers 0, 9 or 15 puts its own
+//! channel into a line or takes it out, a tick any, and the question none.
 //!
 //! Every `unsafe` here is sound for one reason: each pointer goes with the count
 //! of its own slice, a slice that is only read is lent as shared, and those that
@@ -196,7 +197,8 @@ pub fn reclaim(
     }
 }
 
-/// The packet that goes out next: 0, 11, 12 or 13.
+/// The packet that goes out next: 0, 11, 12 or 13. Of each rank it is that of the
+/// first in its line who has one ready.
 pub fn next_packet(
     table: &mut [Channel],
     memory: &mut [u8],

@@ -1,6 +1,6 @@
 //! The lines (document 02, A4): settings empty them; lines of another size, and
 //! such as no channels can stand in, are refused with 13, and all that is lent
-//! stays. Sound ones stay too: so far no call puts anybody into them.
+//! stays. Sound ones count as they are. The order that they make is in `order`.
 
 mod ends;
 
@@ -106,14 +106,30 @@ fn lines_that_are_not_sound() {
     }
 }
 
+/// The channel stands in a line and has nothing ready: it is not served, and its
+/// Open directive puts it where it belongs.
 #[test]
-fn sound_lines_stay() {
+fn sound_lines_count() {
     for rank in 0..3 {
         let mut end = made();
         end.lines = with(rank, &[1, 0]);
-        assert_eq!(end.open(), done(0, 0));
-        assert_eq!(end.packet().len(), 12);
-        assert_eq!(end.tick(), unserved(0));
+        assert_eq!(end.next().0, unserved(12));
         assert_eq!(end.lines, with(rank, &[1, 0]));
+        assert_eq!(end.open(), done(0, 0));
+        assert_eq!(end.lines, with(0, &[1, 0]));
+        assert_eq!(end.packet().len(), 12);
+        assert_eq!(end.lines, [0; LINES]);
     }
+}
+
+/// It has an Open ready and stands in no line: it is not served before a tick.
+#[test]
+fn a_tick_puts_them_right() {
+    let mut end = made();
+    assert_eq!(end.open(), done(0, 0));
+    end.lines = with(2, &[1, 0]);
+    assert_eq!(end.next().0, unserved(12));
+    assert_eq!(end.tick(), unserved(0));
+    assert_eq!(end.lines, with(0, &[1, 0]));
+    assert_eq!(end.packet().len(), 12);
 }

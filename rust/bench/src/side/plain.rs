@@ -1,5 +1,6 @@
 //! The plain Rust peer.
 
+use peer::lines::LINE_OCTETS;
 use peer::settings::{storage, NodeSettings, Settings};
 
 use super::{Given, Side};
@@ -25,7 +26,9 @@ impl Side for Plain {
         let (octets, slots) = storage(settings);
         let own = NodeSettings::new(address);
         let records = settings.len();
-        let node = peer::node::Node::new(own, records, vec![0; octets], vec![0; slots]);
+        let storage = (vec![0; octets], vec![0; slots]);
+        let lines = vec![0; LINE_OCTETS];
+        let node = peer::node::Node::new(own, records, storage.0, storage.1, lines);
         let mut side = Plain {
             node,
             settings: settings.to_vec(),

@@ -26,7 +26,7 @@ pub const CASES: [&str; 23] = [
     "13: an overwritten record lacks its condition",
     "13: an overwritten record has its condition, and keeps it",
     "13: overwritten lines are not sound",
-    "13: overwritten lines are sound, and stay",
+    "13: overwritten lines are sound, and count",
     "13: settings over an overwritten table are accepted",
 ];
 

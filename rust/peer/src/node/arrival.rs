@@ -22,7 +22,7 @@ struct Arrived<'a> {
 
 impl Node {
     pub(super) fn arrive(&mut self, packet: &[u8], reply: &mut [u8]) -> Result<Answer, Refusal> {
-        self.test_records()?;
+        self.test_lent()?;
         test_room(reply, ACK_LENGTH)?;
         let reading = packet::read(packet)?;
         let fields = reading.fields;

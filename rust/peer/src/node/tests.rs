@@ -1,5 +1,7 @@
 mod arrivals;
 mod channels;
+mod lines;
+mod lines_written;
 mod packets;
 mod prefix;
 mod requests;
@@ -48,6 +50,17 @@ fn open_all(rig: &mut Rig, indices: &[usize]) {
         let ack = packet_for(index as u16, CONTROL_ACK, 0);
         assert_eq!(rig.arrive(&ack), 0);
     }
+}
+
+/// Who stands in each line, from the head on.
+fn standing(rig: &Rig) -> [Vec<usize>; 3] {
+    let lines = rig.node.lines();
+    [0, 1, 2].map(|rank| {
+        let line = &lines[17 * rank..][..17];
+        let (standing, free) = line[1..].split_at(line[0].into());
+        assert!(free.iter().all(|&octet| octet == 0));
+        standing.iter().map(|&index| index.into()).collect()
+    })
 }
 
 /// The channel number, kind and sequence number of the next packet.

@@ -8,19 +8,24 @@ use crate::segment::sequence_number;
 
 use super::Rank;
 
-/// The courses of all segments that wait for their ack, by segment number.
+/// The segments of an opening, by number: those that wait for their ack, and
+/// those that are still to be handed out.
 #[derive(Clone, Debug, PartialEq, Eq)]
 pub(super) struct Window {
-    /// The number of the next segment to be accepted.
-    next: u64,
+    /// Those that were handed out and are not acknowledged.
     waiting: BTreeMap<u64, Course>,
+    /// The next to be handed out for the first time.
+    new: u64,
+    /// The next to be accepted.
+    next: u64,
 }
 
 impl Window {
     /// "Segments are numbered from 1 at each opening".
     pub(super) const NEW: Window = Window {
-        next: 1,
         waiting: BTreeMap::new(),
+        new: 1,
+        next: 1,
     };
 
     /// The window start: the lowest number not acknowledged, as "the start
@@ -28,31 +33,31 @@ impl Window {
     pub(super) fn start(&self) -> u64 {
         self.waiting
             .first_key_value()
-            .map_or(self.next, |(&number, _)| number)
+            .map_or(self.new, |(&number, _)| number)
     }
 
-    /// The course of a segment that waits for its ack.
+    /// The course of a segment that is not acknowledged.
     pub(super) fn course(&self, segment: u64) -> Option<&Course> {
-        self.waiting.get(&segment)
+        match segment < self.new {
+            true => self.waiting.get(&segment),
+            false => Some(&Course::NEW),
+        }
     }
 
     /// Makes so many new segments ready and gives the first one's number.
     pub(super) fn add(&mut self, count: usize) -> u64 {
         let first = self.next;
         self.next += count as u64;
-        let new = (first..self.next).map(|number| (number, Course::NEW));
-        self.waiting.extend(new);
         first
     }
 
     /// "A Data Ack for a number sent, in the window and not yet acknowledged,
-    /// is recorded [..]. Any other ack is ignored". At most 128 numbers in a
-    /// row cannot be equal modulo 256.
-    pub(super) fn acknowledge(&mut self, number: u8, window: u32) -> Result<(), Refusal> {
-        let meant = self
-            .in_window(window)
-            .find(|&(segment, course)| sequence_number(segment) == number && course.was_sent());
-        let (segment, _) = meant.ok_or(Refusal::Ignored)?;
+    /// is recorded [..]. Any other ack is ignored". What waits was sent in the
+    /// window, at most 128 numbers in a row: no two are equal modulo 256.
+    pub(super) fn acknowledge(&mut self, number: u8) -> Result<(), Refusal> {
+        let mut waiting = self.waiting.keys().copied();
+        let meant = waiting.find(|&segment| sequence_number(segment) == number);
+        let segment = meant.ok_or(Refusal::Ignored)?;
         self.waiting.remove(&segment);
         Ok(())
     }
@@ -66,32 +71,30 @@ impl Window {
         used_up
     }
 
-    /// The packet to be handed out next: "resent Data before new Data", and of
-    /// these "the lowest segment".
-    pub(super) fn next_ready(&self, window: u32) -> Option<(Rank, u64)> {
-        self.in_window(window)
-            .filter(|(_, course)| course.is_ready())
-            .map(|(segment, course)| {
-                let resent = course.was_sent();
-                (Rank::of_data(resent), segment)
-            })
-            .min()
-    }
-
-    /// Hands out the packet of [`Window::next_ready`].
-    pub(super) fn hand_out(&mut self, window: u32, timeout: u32) {
-        let next = self.next_ready(window);
-        let course = next.and_then(|(_, segment)| self.waiting.get_mut(&segment));
-        if let Some(course) = course {
-            course.hand_out(timeout);
+    /// Of this rank the packet to be handed out next: "within a channel the
+    /// lowest segment", and "Only the k numbers from the window start may be
+    /// sent".
+    pub(super) fn next_ready(&self, window: u32, rank: Rank) -> Option<u64> {
+        match rank {
+            Rank::Control => None,
+            Rank::ResentData => {
+                let mut waiting = self.waiting.iter();
+                let again = waiting.find(|(_, course)| course.is_ready());
+                again.map(|(&segment, _)| segment)
+            }
+            Rank::NewData => {
+                let end = self.next.min(self.start() + u64::from(window));
+                (self.new < end).then_some(self.new)
+            }
         }
     }
 
-    /// "Only the k numbers from the window start may be sent."
-    fn in_window(&self, window: u32) -> impl Iterator<Item = (u64, &Course)> {
-        let start = self.start();
-        self.waiting
-            .range(start..start + u64::from(window))
-            .map(|(&segment, course)| (segment, course))
+    /// Hands out the packet of [`Window::next_ready`].
+    pub(super) fn hand_out(&mut self, window: u32, rank: Rank, timeout: u32) {
+        if let Some(segment) = self.next_ready(window, rank) {
+            let course = self.waiting.entry(segment).or_insert(Course::NEW);
+            course.hand_out(timeout);
+            self.new = self.new.max(segment + 1);
+        }
     }
 }

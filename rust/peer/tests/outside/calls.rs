@@ -3,6 +3,7 @@
 use link::Noise;
 use peer::answer::Answer;
 use peer::crc::crc;
+use peer::lines::LINE_OCTETS;
 use peer::node::Node;
 use peer::packet::{flags, write, Fields, VERSION};
 use peer::prefix::Prefix;
@@ -66,7 +67,8 @@ pub fn new_node(node: usize, table: &[Settings], noise: &mut Noise) -> Node {
     let (octets, lengths) = storage(table);
     let memory = noise.octets(octets);
     let lengths = (0..lengths).map(|_| noise.octet().into()).collect();
-    let mut node = Node::new(settings, table.len(), memory, lengths);
+    let lines = vec![0xA5; LINE_OCTETS];
+    let mut node = Node::new(settings, table.len(), memory, lengths, lines);
     assert_eq!(node.settings(table).number, 0);
     node
 }

@@ -1,6 +1,6 @@
 //! "Each call for a packet hands out one: Control before resent Data before
-//! new Data; among channels of equal rank the lowest index; within a channel
-//! the lowest segment."
+//! new Data; [..] within a channel the lowest segment." The order of channels of
+//! equal rank is document 02's, A4: `lines`.
 
 use super::*;
 
@@ -12,8 +12,8 @@ fn control_before_data() {
     rig.transfer(1, b"b");
     rig.open(2);
     rig.close(1);
-    assert_eq!(next(&mut rig), (1, CLOSE, 0));
     assert_eq!(next(&mut rig), (2, OPEN, 0));
+    assert_eq!(next(&mut rig), (1, CLOSE, 0));
     assert_eq!(next(&mut rig), (0, DATA, 1));
     assert_eq!(rig.next(), Err(12));
 }
@@ -61,36 +61,7 @@ fn the_lowest_segment() {
     assert_eq!(rig.all_data(), [255, 1]);
 }
 
-/// A resent Control ranks with Control.
-#[test]
-fn among_equal_ranks_the_lowest_index() {
-    let mut rig = Rig::new(&[sending(0), receiving(1), sending(2), sending(3)]);
-    rig.open(3);
-    assert_eq!(next(&mut rig), (3, OPEN, 0));
-    rig.ticks(4);
-    rig.open(2);
-    rig.open(1);
-    rig.open(0);
-    assert_eq!(next(&mut rig), (0, OPEN, 0));
-    assert_eq!(next(&mut rig), (2, OPEN, 0));
-    assert_eq!(next(&mut rig), (3, OPEN, 0));
-    assert_eq!(rig.next(), Err(12));
-}
-
-/// A busy channel of low index has the link to itself: the rank alone decides.
-#[test]
-fn new_data_of_the_lowest_index() {
-    let mut rig = Rig::new(&[sending(0), sending(1)]);
-    open_all(&mut rig, &[0, 1]);
-    for index in [1, 0, 1, 0] {
-        rig.transfer(index, b"a");
-    }
-    let order: Vec<(u8, u8, u8)> = (0..4).map(|_| next(&mut rig)).collect();
-    let expected = [(0, DATA, 1), (0, DATA, 2), (1, DATA, 1), (1, DATA, 2)];
-    assert_eq!(order, expected);
-}
-
-/// 12 if nothing is ready, then 11 for the packet that the rank chooses; a
+/// 12 if nothing is ready, then 11 for the packet that the lines choose; a
 /// smaller one that would fit is not tried.
 #[test]
 fn a_buffer_too_small_for_the_chosen_packet() {

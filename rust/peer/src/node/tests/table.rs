@@ -3,7 +3,7 @@
 use super::*;
 
 /// The answer numbers of all other calls.
-fn all_calls(node: &mut Node) -> [u8; 10] {
+pub(super) fn all_calls(node: &mut Node) -> [u8; 10] {
     let out = &mut [0; 64];
     [
         node.open(0),
@@ -50,11 +50,12 @@ fn a_table_or_storage_of_another_size() {
         (2, octets, lengths + 1, 13),
     ];
     for (records, octets, lengths, number) in cases {
-        let mut node = Node::new(HERE, records, vec![NOISE; octets], vec![0; lengths]);
+        let (memory, lengths) = (vec![NOISE; octets], vec![0; lengths]);
+        let mut node = Node::new(HERE, records, memory, lengths, vec![NOISE; LINE_OCTETS]);
         assert_eq!(node.settings(&table).number, number);
         assert_eq!(node.tick().number, number);
     }
-    let mut none = Node::new(HERE, 0, vec![], vec![]);
+    let mut none = Node::new(HERE, 0, vec![], vec![], vec![0; LINE_OCTETS]);
     assert_eq!(none.settings(&[]).number, 13);
     assert_eq!(all_calls(&mut none), [13; 10]);
     let many: Vec<Settings> = (0..17).map(sending).collect();
