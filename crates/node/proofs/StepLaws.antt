@@ -1,16 +1,18 @@
 -- A step of the channel served, over the whole of what is lent: what it gives by its request, and what the call then leaves.
 -- Assumes nothing.
-use mathlib.Core.Path.{_≡_, refl, sym, ap, _∙_}
+use mathlib.Core.Path.{_≡_, refl, sym, ap, ap₂, _∙_}
 use mathlib.Core.Bool.{Bool, true, false}
 use mathlib.Core.List.{List, []}
 use Prim.Native.Nat.{ℕ}
 use lib.Dec.{eqb}
+use Rattle.laws.specs.Choice.{if_then_else_}
 use Rattle.walks.specs.Serving.{Worked, works, performs}
 use Rattle.channel.specs.declared.record.Channel.{Channel}
 use Rattle.channel.specs.declared.step.Stepped.{Stepped}
 use Rattle.channel.specs.Record.{sends}
 use Rattle.table.specs.declared.deciding.Decision.{Decision}
-use Rattle.table.specs.Waiting.{rankIn, moved}
+use Rattle.sender_packets.specs.declared.handing.Ranks.{Ranks}
+use Rattle.table.specs.Waiting.{waitingOf, rankIn, movedWith, mayMove, moved}
 use Rattle.table.specs.Serving.{Step, alone, toldOf}
 use Rattle.table.specs.Surveying.{stepping, placed}
 use Rattle.table.proofs.Parts.{quiet}
@@ -40,12 +42,14 @@ module _ (c : Channel) (d : Decision) (mem lens out : List ℕ) where
       go false p = simp (p)
 
 -- what a step has left, with the index told and the channel moved in the lines
-pub placed-moved : (d : Decision) (lines : List ℕ) (s : Stepped) (m l li o : List ℕ) (rank : ℕ) (w : Worked Stepped)
-    → li ≡ moved (d .look .sought) rank (d .spot .at) s lines
+pub placed-moved : (d : Decision) (lines : List ℕ) (s : Stepped) (m l li o : List ℕ) (rank : ℕ) (ranks : Ranks) (w : Worked Stepped)
+    → li ≡ (if mayMove (s .answer) then movedWith (d .look .sought) rank (d .spot .at) ranks lines else lines)
     → rank ≡ rankIn (d .spot .grade)
+    → ranks ≡ waitingOf (s .channel)
     → works s m l o ≡ w
     → performs (record { channel = s .channel; told = toldOf (d .told .index) (s .answer) }) m l li o ≡ placed d lines w
-placed-moved d lines s m l li o rank w e k h =
+unfolding moved
+placed-moved d lines s m l li o rank ranks w e k r h =
     ap (λ (x : List ℕ). performs (record { channel = s .channel; told = toldOf (d .told .index) (s .answer) }) m l x o)
-    (e ∙ ap (λ (r : ℕ). moved (d .look .sought) r (d .spot .at) s lines) k)
+    (e ∙ ap₂ (λ (n : ℕ) (z : Ranks). if mayMove (s .answer) then movedWith (d .look .sought) n (d .spot .at) z lines else lines) k r)
     ∙ ap (placed d lines) h

@@ -22,6 +22,7 @@ use table::deciding::decide;
 use table::surveying::begin;
 use table::waiting::move_lines;
 use table::waiting::rank_in;
+use table::waiting::waiting;
 ghost use mathlib.Core.Path.{_≡_};
 ghost use lib.ListN.{length};
 ghost use Rattle.walks.specs.Serving.{works, performs, leaves, saying};
@@ -77,11 +78,12 @@ fn serve_step(
     ensures { λ r. ⌜ performs r (now (mem .exit)) (now (lens .exit)) (now (lines .exit)) (now (out .exit)) ≡ placed d (now (lines .entry)) (stepping (stepFor n (now (x .entry))) c d (now (mem .entry)) (now (lens .entry)) (now (out .entry))) ⌝ }
 {
     let s = step_for(c, d, n, mem, lens, x, out);
-    let look = d.look;
-    let sought = look.sought;
-    move_lines(lines, sought, rank_in(d.spot.grade), d.spot.at, s);
     let channel = s.channel;
     let answer = s.answer;
+    let w = waiting(channel);
+    let look = d.look;
+    let sought = look.sought;
+    move_lines(lines, sought, rank_in(d.spot.grade), d.spot.at, answer, w);
     Placed {
         channel,
         told: Told {

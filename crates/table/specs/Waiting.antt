@@ -42,13 +42,16 @@ relistedFor i c lines = relistAll i (waits 0 c) (waits 1 c) (waits 2 c) lines
 abbrev pub servedFor : ℕ → ℕ → Channel → List ℕ → List ℕ
 servedFor rank i c lines = servedFrom rank i (waits 0 c) (waits 1 c) (waits 2 c) lines
 
--- by what the call looked for; a question moves nobody
+-- by what the call looked for, and by what is ready then; a question moves nobody
+abbrev pub movedWith : Sought → ℕ → ℕ → Ranks → List ℕ → List ℕ
+movedWith (Index index) rank i w lines = relistAll i (w .control) (w .again) (w .fresh) lines
+movedWith (Asked index) rank i w lines = lines
+movedWith (Packet f start x) rank i w lines = relistAll i (w .control) (w .again) (w .fresh) lines
+movedWith Ready rank i w lines = servedFrom rank i (w .control) (w .again) (w .fresh) lines
+movedWith (Nobody why) rank i w lines = lines
+
 abbrev pub movedBy : Sought → ℕ → ℕ → Channel → List ℕ → List ℕ
-movedBy (Index index) rank i c lines = relistedFor i c lines
-movedBy (Asked index) rank i c lines = lines
-movedBy (Packet f start x) rank i c lines = relistedFor i c lines
-movedBy Ready rank i c lines = servedFor rank i c lines
-movedBy (Nobody why) rank i c lines = lines
+movedBy sought rank i c lines = movedWith sought rank i (waitingOf c) lines
 
 -- only 0, 9 and 15 change a record
 abbrev pub mayMove : Answer → Bool

@@ -2,7 +2,6 @@
 use crate::looking::Sought;
 use channel::Answer;
 use channel::Channel;
-use channel::Stepped;
 use channel::record::SENDS;
 use lines::relist;
 use lines::serve;
@@ -11,7 +10,8 @@ use sender_packets::ranks_of;
 ghost use mathlib.Core.Path.{_≡_};
 ghost use Prim.Native.Nat.{_<_};
 ghost use Rattle.lines.specs.Fit.{Fit};
-ghost use Rattle.table.specs.Waiting.{waitingOf, rankIn, relistedFor, servedFor, movedBy, mayMove, moved};
+ghost use Rattle.table.specs.Waiting.{waitingOf, rankIn, movedWith, mayMove};
+ghost use Rattle.laws.specs.Choice.{if_then_else_};
 
 // Of which ranks a packet is ready; a receiver hands out nothing.
 pub fn waiting(c: Channel) -> Ranks
@@ -37,35 +37,19 @@ pub fn rank_in(grade: usize) -> usize
     if grade < 32 { 1 } else { 2 }
 }
 
-fn relist_for(lines: &mut [u8], i: usize, c: Channel)
-    requires { ⌜ (Fit 16 (now lines)) × (i < 16) ⌝ }
-    ensures { λ _. ⌜ now (lines .exit) ≡ relistedFor i c (now (lines .entry)) ⌝ }
-{
-    let w = waiting(c);
-    relist(lines, i, w.control, w.again, w.fresh);
-}
-
-fn serve_for(lines: &mut [u8], rank: usize, i: usize, c: Channel)
+fn move_by(lines: &mut [u8], sought: Sought, rank: usize, i: usize, w: Ranks)
     requires { ⌜ (Fit 16 (now lines)) × (rank < 3) × (i < 16) ⌝ }
-    ensures { λ _. ⌜ now (lines .exit) ≡ servedFor rank i c (now (lines .entry)) ⌝ }
-{
-    let w = waiting(c);
-    serve(lines, rank, i, w.control, w.again, w.fresh);
-}
-
-fn move_by(lines: &mut [u8], sought: Sought, rank: usize, i: usize, c: Channel)
-    requires { ⌜ (Fit 16 (now lines)) × (rank < 3) × (i < 16) ⌝ }
-    ensures { λ _. ⌜ now (lines .exit) ≡ movedBy sought rank i c (now (lines .entry)) ⌝ }
+    ensures { λ _. ⌜ now (lines .exit) ≡ movedWith sought rank i w (now (lines .entry)) ⌝ }
 {
     match sought {
-        Sought::Index(_) => relist_for(lines, i, c),
+        Sought::Index(_) => relist(lines, i, w.control, w.again, w.fresh),
         Sought::Asked(_) => {}
         Sought::Packet {
             fields: _,
             start: _,
             length: _,
-        } => relist_for(lines, i, c),
-        Sought::Ready => serve_for(lines, rank, i, c),
+        } => relist(lines, i, w.control, w.again, w.fresh),
+        Sought::Ready => serve(lines, rank, i, w.control, w.again, w.fresh),
         Sought::Nobody(_) => {}
     }
 }
@@ -85,15 +69,14 @@ fn may_move(a: Answer) -> bool
     }
 }
 
-// The channel at index i joins, leaves or keeps its place in each line, by what the step of a call has left of it.
-pub fn move_lines(lines: &mut [u8], sought: Sought, rank: usize, i: usize, s: Stepped)
+// The channel at index i joins, leaves or keeps its place in each line, by the answer of a call and by what is then ready. The record itself is not
+// handed over: a call has little stack.
+pub fn move_lines(lines: &mut [u8], sought: Sought, rank: usize, i: usize, answer: Answer, w: Ranks)
     requires { ⌜ (Fit 16 (now lines)) × (rank < 3) × (i < 16) ⌝ }
-    ensures { λ _. ⌜ now (lines .exit) ≡ moved sought rank i s (now (lines .entry)) ⌝ }
+    ensures { λ _. ⌜ now (lines .exit) ≡ (if mayMove answer then movedWith sought rank i w (now (lines .entry)) else now (lines .entry)) ⌝ }
 {
-    let answer = s.answer;
     if !may_move(answer) {
         return;
     }
-    let channel = s.channel;
-    move_by(lines, sought, rank, i, channel);
+    move_by(lines, sought, rank, i, w);
 }

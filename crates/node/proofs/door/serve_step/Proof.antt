@@ -11,16 +11,20 @@ use Rattle.node.proofs.door.serve_step.Lts as lts
 use Rattle.node.proofs.door.step_for.Reads as step-for-reads
 use Rattle.table.proofs.waiting.move_lines.Reads as move-lines-reads
 use Rattle.table.proofs.waiting.rank_in.Reads as rank-in-reads
+use Rattle.table.proofs.waiting.waiting.Reads as waiting-reads
 
 step-for-requires : tie.Need-step-for-requires
 step-for-requires c κs = search needs
+
+waiting-requires : tie.Need-waiting-requires
+waiting-requires c κs = search needs
 
 rank-in-requires : tie.Need-rank-in-requires
 rank-in-requires c κs = search needs
 
 move-lines-requires : tie.Need-move-lines-requires
 move-lines-requires c κs =
-    let s = c .before .before .before .before .before .before .before .before .before .before .before .before .before .before .before .before .before .before in
+    let s = c .before .before .before .before .before .before .before .before .before .before .before .before .before .before .before .before .before .before .before .before in
     let p = s .pre .2 in
     (p .fit, omega (arith, c .rank-in .ensures, rank-known (s .args .d .spot .grade)), p .at)
 
@@ -38,14 +42,15 @@ same-length-4 c = search needs
 
 returns : tie.Need-returns
 returns c =
-    let a = c .before .before .before .before .before .before .before .before .before .before .before .before .before .before .before .before .before .before .before .before .before .before .args in
-    placed-moved (a .d) (a .lines .now) (c .before .before .before .before .before .before .before .before .before .before .before .before .before .step-for .result) _ _ _ _ _ _ (c .before .before .before .move-lines .ensures) (c .before .before .before .before .rank-in .ensures) (c .before .before .before .before .before .before .before .before .before .before .before .before .before .step-for .ensures)
+    let a = c .before .before .before .before .before .before .before .before .before .before .before .before .before .before .before .before .before .before .before .before .before .before .before .args in
+    placed-moved (a .d) (a .lines .now) (c .before .before .before .before .before .before .before .before .before .before .before .before .before .before .step-for .result) _ _ _ _ _ _ _ (c .before .before .move-lines .ensures) (c .before .before .before .rank-in .ensures) (c .before .before .before .before .before .before .waiting .ensures) (c .before .before .before .before .before .before .before .before .before .before .before .before .before .before .step-for .ensures)
 
 pub serve-step-spec : {M : Type 1} → statement M
 serve-step-spec =
     tie.close
     (tie.spec
     step-for-requires
+    waiting-requires
     rank-in-requires
     move-lines-requires
     same-length
