@@ -130,11 +130,12 @@ fn overwrite(twin: &mut Twin, noise: &mut Noise) {
     }
 }
 
-/// Others stand in the lines, or, as often, any octet of them is another: what
-/// stands there may then be no channel, or past those who stand.
+/// Others stand in the lines than before, which the peer still has; or, as often,
+/// any octet of them is another: what stands there may then be no channel, or past
+/// those who stand.
 fn overwrite_lines(twin: &mut Twin, number: u64, noise: &mut Noise) {
     if noise.one_in(2) {
-        twin.lines = other_lines(&twin.lines, twin.table.len(), noise);
+        twin.lines = other_lines(twin.peer.lines(), twin.table.len(), noise);
     } else {
         let place = noise.below(twin.lines.len());
         twin.lines[place] = number as u8;
