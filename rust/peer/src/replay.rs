@@ -66,7 +66,8 @@ fn answer(node: &mut Node, record: Record) -> u8 {
     answer.number
 }
 
-/// The node of the replay: channel 0 transmits, channel 1 receives.
+/// The node of the replay: channel 0 transmits and is numbered 1; channel 1
+/// receives and "is then numbered 2" (document 02, A2).
 fn node() -> Node {
     let sending = Settings {
         direction: Direction::Sending,
@@ -84,6 +85,7 @@ fn node() -> Node {
     };
     let receiving = Settings {
         direction: Direction::Receiving,
+        channel: 2,
         ..sending
     };
     let table = [sending, receiving];

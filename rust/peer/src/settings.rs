@@ -105,9 +105,16 @@ impl Settings {
     /// "No two records may have equal channel number, remote address and
     /// direction", and "Two records are equal only if their prefixes are too"
     /// (document 02, A7): the remote ones, for no arrival shows the own ones.
+    /// Nor does the direction tell two apart (A2): "Where no field tells its end,
+    /// records that differ only in direction give 13", and no field of a
+    /// Heartbeat or of its Ack does.
     fn clashes(&self, other: &Settings) -> bool {
-        let prefix = other.remote_prefix.said();
-        self.serves(other.direction, other.channel, other.remote, prefix)
+        self.is_named(other.channel, other.remote, other.remote_prefix.said())
+    }
+
+    /// Whether these are the record's channel number, remote address and prefix.
+    fn is_named(&self, channel: u16, remote: u8, prefix: &[u8]) -> bool {
+        self.channel == channel && self.remote == remote && self.remote_prefix.said() == prefix
     }
 
     /// Whether packets of this channel, remote address and prefix, for an end
@@ -119,10 +126,7 @@ impl Settings {
         remote: u8,
         prefix: &[u8],
     ) -> bool {
-        self.direction == direction
-            && self.channel == channel
-            && self.remote == remote
-            && self.remote_prefix.said() == prefix
+        self.direction == direction && self.is_named(channel, remote, prefix)
     }
 
     /// The octets of memory that this channel needs: slots times P.

@@ -45,26 +45,41 @@ pub(crate) const SENDING: Settings = Settings {
 /// The settings of the replay's channel 1.
 pub(crate) const RECEIVING: Settings = Settings {
     direction: Direction::Receiving,
+    channel: 2,
     ..SENDING
 };
 
-/// A packet without payload from the other end, for channel number 1.
+/// The channel number of packets of this kind: Acks are for the sending channel,
+/// Data and Control for the receiving one.
+pub(crate) fn channel_of(kind: u8) -> u16 {
+    match kind {
+        kind::DATA_ACK | kind::CONTROL_ACK => SENDING.channel,
+        _ => RECEIVING.channel,
+    }
+}
+
+/// A packet without payload from the other end.
 pub(crate) fn alone(kind: u8, number: u8) -> Vec<u8> {
+    packet_for(channel_of(kind), kind, number)
+}
+
+/// A packet without payload from the other end, for this channel number.
+pub(crate) fn packet_for(channel: u16, kind: u8, number: u8) -> Vec<u8> {
     let fields = Fields {
         kind,
         number,
-        ..THERE.header(HERE.own, 1)
+        ..THERE.header(HERE.own, channel)
     };
     written(&fields, &[])
 }
 
-/// A Data packet from the other end, for channel number 1.
+/// A Data packet from the other end.
 pub(crate) fn data(number: u8, flags: u8, payload: &[u8]) -> Vec<u8> {
     let fields = Fields {
         kind: kind::DATA,
         number,
         flags,
-        ..THERE.header(HERE.own, 1)
+        ..THERE.header(HERE.own, RECEIVING.channel)
     };
     written(&fields, payload)
 }

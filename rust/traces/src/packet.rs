@@ -13,11 +13,12 @@ pub struct Numbers {
     pub receiving: u16,
 }
 
-/// "both numbered 1". Change request A2 of document 02 makes the second 2: then
-/// this line changes, and `traces rewrite` writes the octets of the files anew.
+/// Document 01 has "both numbered 1"; "the replay's channel 1 is then numbered 2"
+/// (document 02, A2). Where this changes, `traces rewrite` writes the octets of
+/// the files anew.
 pub const NUMBERS: Numbers = Numbers {
     sending: 1,
-    receiving: 1,
+    receiving: 2,
 };
 
 /// The packet types by their codes (000, Table 4-2).
@@ -235,11 +236,13 @@ mod tests {
     /// A channel number stands in one place only.
     #[test]
     fn channel_numbers_by_type() {
+        let channels = TYPES.map(|kind| octets(kind, NUMBERS)[6]);
+        assert_eq!(channels, [2, 1, 2, 2, 2, 1, 2, 1]);
         let numbers = Numbers {
-            sending: 1,
-            receiving: 2,
+            sending: 3,
+            receiving: 4,
         };
         let channels = TYPES.map(|kind| octets(kind, numbers)[6]);
-        assert_eq!(channels, [2, 1, 2, 2, 2, 1, 2, 1]);
+        assert_eq!(channels, [4, 3, 4, 4, 4, 3, 4, 3]);
     }
 }

@@ -73,7 +73,7 @@ fn the_table_of_the_readme_is_theirs() {
 fn channel_numbers_are_a_parameter() {
     let other = Numbers {
         sending: 3,
-        receiving: 2,
+        receiving: 4,
     };
     for (name, text) in texts() {
         let read = |numbers| Trace::read(&text, numbers).expect("a trace");

@@ -12,8 +12,8 @@ use super::*;
 use crate::packet::kind::{CLOSE, CONTROL_ACK, DATA, DATA_ACK, OPEN};
 use crate::packet::{flags, Fields};
 use crate::support::{
-    alone, data, unset_node, whole, written, Rig, HERE, NOISE, NOISE_LENGTH, RECEIVING, SENDING,
-    THERE,
+    alone, data, packet_for, unset_node, whole, written, Rig, HERE, NOISE, NOISE_LENGTH, RECEIVING,
+    SENDING, THERE,
 };
 
 /// Sending settings with this channel number.
@@ -27,16 +27,6 @@ fn receiving(channel: u16) -> Settings {
         channel,
         ..RECEIVING
     }
-}
-
-/// A packet without payload for this channel number.
-fn packet_for(channel: u16, kind: u8, number: u8) -> Vec<u8> {
-    let fields = Fields {
-        kind,
-        number,
-        ..THERE.header(HERE.own, channel)
-    };
-    written(&fields, &[])
 }
 
 /// Opens these sending channels, numbered as their index, and has the Opens

@@ -8,7 +8,7 @@ use crate::packet::flags::{CONTINUATION, FIRST, LAST, WHOLE};
 use crate::packet::kind::{CLOSE, CONTROL_ACK, DATA_ACK, OPEN};
 use crate::settings::Settings;
 use crate::state::{Reason, State};
-use crate::support::{alone, data, whole, Rig, NOISE, NOISE_LENGTH, RECEIVING};
+use crate::support::{alone, data, packet_for, whole, Rig, NOISE, NOISE_LENGTH, RECEIVING};
 
 /// The state and the reason of channel 0.
 fn standing(rig: &Rig) -> (State, Reason) {

@@ -5,7 +5,7 @@ mod sending;
 use super::*;
 use crate::packet::flags::{CONTINUATION, FIRST, LAST, WHOLE};
 use crate::packet::kind::{CLOSE, CONTROL_ACK, DATA_ACK, OPEN};
-use crate::support::{alone, data, whole};
+use crate::support::{alone, data, packet_for, whole};
 
 /// The octets of one input record.
 fn record(kind: u16, body: &[u8]) -> Vec<u8> {

@@ -6,7 +6,7 @@ mod units;
 use crate::packet::kind::{CLOSE, CONTROL_ACK, DATA, DATA_ACK, OPEN};
 use crate::settings::Settings;
 use crate::state::{Reason, State};
-use crate::support::{alone, Rig, NOISE, NOISE_LENGTH, SENDING};
+use crate::support::{alone, packet_for, Rig, NOISE, NOISE_LENGTH, SENDING};
 
 /// The state and the reason of channel 0.
 fn standing(rig: &Rig) -> (State, Reason) {

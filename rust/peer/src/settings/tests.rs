@@ -78,7 +78,7 @@ fn retries() {
 #[test]
 fn clashes() {
     let channel = Settings {
-        channel: 2,
+        channel: 3,
         ..SENDING
     };
     let remote = Settings {
@@ -92,6 +92,33 @@ fn clashes() {
     assert!(test_table(&[SENDING, RECEIVING, channel, remote]).is_ok());
     assert!(test_table(&[SENDING, SENDING]).is_err());
     assert!(test_table(&[SENDING, RECEIVING, other_window]).is_err());
+}
+
+/// "records that differ only in direction give 13" (document 02, A2), in either
+/// order, also where they differ in what tells nothing apart. A channel number, a
+/// remote address or a remote prefix of its own does.
+#[test]
+fn clashes_whatever_the_directions() {
+    let prefix = Prefix::new(&[7]).unwrap();
+    let turned = Settings {
+        channel: SENDING.channel,
+        ..RECEIVING
+    };
+    let mut alike = [turned; 3];
+    alike[1].own_prefix = prefix;
+    alike[2].window = 2;
+    for other in alike {
+        assert!(test_table(&[SENDING, other]).is_err());
+        assert!(test_table(&[other, SENDING]).is_err());
+    }
+    let mut apart = [turned; 3];
+    apart[0].channel = 2;
+    apart[1].remote = 66;
+    apart[2].remote_prefix = prefix;
+    for other in apart {
+        assert!(test_table(&[SENDING, other]).is_ok());
+        assert!(test_table(&[SENDING, other, turned]).is_err());
+    }
 }
 
 /// "Two records are equal only if their prefixes are too" (document 02, A7):

@@ -13,17 +13,24 @@ use peer::state::{Reason, State};
 
 use crate::calls::{behind, checked, data, new_node, prefix, ADDRESSES};
 
-/// A table of four channels with small windows. These are the remote prefixes,
-/// by channel number.
-fn table(noise: &mut Noise, prefixes: &[Prefix; 2]) -> Vec<Settings> {
-    let settings = |noise: &mut Noise, channel: u16, direction: Direction| {
+/// The directions of the channels. A channel's number is its index.
+const ENDS: [Direction; 4] = [
+    Direction::Sending,
+    Direction::Receiving,
+    Direction::Receiving,
+    Direction::Sending,
+];
+
+/// A table of four channels with small windows, and these remote prefixes.
+fn table(noise: &mut Noise, prefixes: &[Prefix; 4]) -> Vec<Settings> {
+    let settings = |index: usize| {
         let window = noise.one_of(&[1, 2, 4, 8]);
         let slots = window + noise.below(6) as u32;
         Settings {
-            direction,
-            channel,
+            direction: ENDS[index],
+            channel: index as u16,
             remote: ADDRESSES[1],
-            remote_prefix: prefixes[usize::from(channel)],
+            remote_prefix: prefixes[index],
             own_prefix: prefix(noise),
             window,
             slots,
@@ -34,37 +41,30 @@ fn table(noise: &mut Noise, prefixes: &[Prefix; 2]) -> Vec<Settings> {
             retries: noise.below(3) as u32,
         }
     };
-    let ends = [
-        (0, Direction::Sending),
-        (0, Direction::Receiving),
-        (1, Direction::Receiving),
-        (1, Direction::Sending),
-    ];
-    ends.map(|(channel, direction)| settings(noise, channel, direction))
-        .to_vec()
+    [0, 1, 2, 3].map(settings).to_vec()
 }
 
 /// A node and what is likely to make sense to it.
 struct Player {
     node: Node,
     noise: Noise,
-    /// The remote prefix of each channel number.
-    prefixes: [Prefix; 2],
-    /// The last Data number accepted on each channel number.
-    accepted: [u8; 2],
+    /// The remote prefix of each channel.
+    prefixes: [Prefix; 4],
+    /// The number of the last packet that each channel accepted.
+    accepted: [u8; 4],
 }
 
 impl Player {
     fn new(seed: u64) -> Player {
         let mut noise = Noise::new(seed);
-        let prefixes = [0, 1].map(|_| prefix(&mut noise));
+        let prefixes = [(); 4].map(|()| prefix(&mut noise));
         let table = table(&mut noise, &prefixes);
         let node = new_node(0, &table, &mut noise);
         Player {
             node,
             noise,
             prefixes,
-            accepted: [0; 2],
+            accepted: [0; 4],
         }
     }
 
@@ -75,7 +75,7 @@ impl Player {
         let noise = &mut self.noise;
         let kinds = [DATA, DATA, DATA, DATA, DATA_ACK, OPEN, CLOSE, CONTROL_ACK];
         let kind = noise.one_of(&kinds);
-        let channel = noise.below(2);
+        let channel = channel_for(kind, noise);
         let number = match noise.below(12) {
             0 => noise.octet(),
             1 | 2 => 0,
@@ -119,7 +119,7 @@ impl Player {
         };
         let (memory, lengths) = (self.node.memory().to_vec(), self.node.lengths().to_vec());
         let before = self.node.clone();
-        let (answer, reply) = checked(&mut self.node, buffer, |node, out| match choice {
+        let (answer, _) = checked(&mut self.node, buffer, |node, out| match choice {
             0..=9 => node.arrival(&octets, out),
             10 | 11 => node.open(index),
             12 => node.close(index),
@@ -132,8 +132,8 @@ impl Player {
         if !matches!(choice, 0..=9 | 13 | 14) {
             assert!(memory == self.node.memory() && lengths == self.node.lengths());
         }
-        if let (0..=9, 0, 12..) = (choice, answer.number, reply.len()) {
-            self.accepted[usize::from(reply[6])] = reply[7];
+        if let (0..=9, 0, Some(index)) = (choice, answer.number, answer.index) {
+            self.accepted[index] = octets[7];
         }
         match choice {
             17 => self.check_tick(&before, answer),
@@ -175,6 +175,15 @@ impl Player {
             }
             assert_eq!(self.node.state(index), Some(State::Closed));
         }
+    }
+}
+
+/// A channel that packets of this kind are for; rarely any.
+fn channel_for(kind: u8, noise: &mut Noise) -> usize {
+    match kind {
+        _ if noise.percent(3) => noise.below(4),
+        kind::DATA_ACK | kind::CONTROL_ACK => noise.one_of(&[0, 3]),
+        _ => noise.one_of(&[1, 2]),
     }
 }
 

@@ -100,13 +100,14 @@ fn a_packet_for_another_node_gives_3() {
 #[test]
 fn no_record_for_the_packet_gives_14() {
     let mut rig = Rig::receiving(RECEIVING);
-    for changes in [[(5, 1)], [(6, 2)], [(9, 64)]] {
+    for changes in [[(5, 1)], [(6, 1)], [(6, 3)], [(9, 64)]] {
         let packet = changed(&whole(1, b"a"), &changes);
         assert_eq!(rig.arrive(&packet), 14);
         let open = changed(&alone(OPEN, 0), &changes);
         assert_eq!(rig.arrive(&open), 14);
     }
-    assert_eq!(rig.arrive(&alone(DATA_ACK, 1)), 14);
+    let ack = packet_for(RECEIVING.channel, DATA_ACK, 1);
+    assert_eq!(rig.arrive(&ack), 14);
 }
 
 /// An Ack or Control with payload is refused with 3 before any record is
@@ -125,7 +126,7 @@ fn a_payload_where_none_may_be_comes_before_14() {
 fn no_record_then_payload_over_p_then_state() {
     let mut rig = Rig::new(&[RECEIVING]);
     let long = whole(1, &[0; 17]);
-    assert_eq!(rig.arrive(&changed(&long, &[(6, 2)])), 14);
+    assert_eq!(rig.arrive(&changed(&long, &[(6, 1)])), 14);
     assert_eq!(rig.arrive(&long), 3);
     assert_eq!(rig.arrive(&whole(99, &[0; 16])), 5);
 }

@@ -2,6 +2,7 @@
 //! treats each channel alone."
 
 use super::*;
+use crate::prefix::Prefix;
 
 /// A packet finds its record by channel number, remote address and direction.
 #[test]
@@ -10,7 +11,7 @@ fn packets_find_their_records() {
         remote: 66,
         ..RECEIVING
     };
-    let table = [SENDING, RECEIVING, receiving(2), other_remote];
+    let table = [SENDING, RECEIVING, receiving(3), other_remote];
     let mut rig = Rig::new(&table);
     for index in 0..4 {
         rig.open(index);
@@ -19,11 +20,11 @@ fn packets_find_their_records() {
     let far = Fields {
         kind: OPEN,
         source: 66,
-        ..THERE.header(HERE.own, 1)
+        ..THERE.header(HERE.own, RECEIVING.channel)
     };
     let cases = [
         (alone(OPEN, 0), 1),
-        (packet_for(2, OPEN, 0), 2),
+        (packet_for(3, OPEN, 0), 2),
         (alone(CONTROL_ACK, 0), 0),
         (written(&far, &[]), 3),
     ];
@@ -100,18 +101,25 @@ fn requests_change_their_own_channel_alone() {
     }
 }
 
-/// One node may have both ends of a channel to itself.
+/// One node may have both ends of a channel to itself, if a prefix tells them
+/// apart: what one end has as its own is the other's remote one.
 #[test]
 fn a_node_may_talk_to_itself() {
     let sending = Settings {
         remote: HERE.own,
+        remote_prefix: Prefix::new(&[7]).unwrap(),
         ..SENDING
     };
     let receiving = Settings {
-        remote: HERE.own,
-        ..RECEIVING
+        direction: Direction::Receiving,
+        remote_prefix: sending.own_prefix,
+        own_prefix: sending.remote_prefix,
+        ..sending
     };
     let mut node = unset_node(&[sending, receiving]);
+    let mut alike = receiving;
+    alike.remote_prefix = sending.remote_prefix;
+    assert_eq!(node.settings(&[sending, alike]).number, 13);
     assert_eq!(node.settings(&[sending, receiving]).number, 0);
     node.open(0);
     node.open(1);

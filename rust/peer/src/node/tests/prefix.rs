@@ -2,7 +2,7 @@
 
 use super::*;
 use crate::prefix::Prefix;
-use crate::support::written_from;
+use crate::support::{channel_of, written_from};
 
 /// The remote prefix here.
 const FAR: [u8; 2] = [7, 0];
@@ -18,12 +18,12 @@ fn regional(settings: Settings) -> Settings {
     }
 }
 
-/// A packet from behind this prefix, for channel number 1.
+/// A packet from behind this prefix.
 fn from(prefix: &[u8], kind: u8, number: u8, payload: &[u8]) -> Vec<u8> {
     let fields = Fields {
         kind,
         number,
-        ..THERE.header(HERE.own, 1)
+        ..THERE.header(HERE.own, channel_of(kind))
     };
     written_from(prefix, &fields, payload)
 }
@@ -83,7 +83,7 @@ fn a_reply_has_the_own_prefix() {
     for number in [0, 15] {
         let answer = rig.node.arrival(&data, &mut reply);
         assert_eq!((answer.number, answer.length), (number, 15));
-        assert_eq!(reply[..13], [65, 238, 0x59, 0, 0, 0, 1, 1, 3, 1, 2, 3, 64]);
+        assert_eq!(reply[..13], [65, 238, 0x59, 0, 0, 0, 2, 1, 3, 1, 2, 3, 64]);
         assert_eq!(reply[15..], [NOISE; 5]);
     }
     assert_eq!(rig.take(0), Ok(b"ab".to_vec()));

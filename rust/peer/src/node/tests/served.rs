@@ -65,16 +65,16 @@ fn an_ack_names_its_channel() {
 /// packet alone come before one is found.
 #[test]
 fn an_arrival_names_the_record_found() {
-    let mut rig = Rig::new(&[sending(1), receiving(1), receiving(2)]);
+    let mut rig = Rig::new(&[SENDING, RECEIVING, receiving(3)]);
     let long = whole(1, &[0; 17]);
     assert_eq!(told(rig.arrival(&long)), (3, Some(1)));
     assert_eq!(told(rig.arrival(&whole(1, b"a"))), (5, Some(1)));
     rig.open(2);
-    let open = packet_for(2, OPEN, 0);
+    let open = packet_for(3, OPEN, 0);
     assert_eq!(rig.arrival(&open), Answer::written(12).at(2));
     assert_eq!(rig.arrival(&open), Answer::repeated(12).at(2));
-    assert_eq!(told(rig.arrival(&packet_for(2, OPEN, 1))), (9, Some(2)));
-    assert_eq!(told(rig.arrival(&packet_for(3, OPEN, 0))), (14, None));
+    assert_eq!(told(rig.arrival(&packet_for(3, OPEN, 1))), (9, Some(2)));
+    assert_eq!(told(rig.arrival(&packet_for(4, OPEN, 0))), (14, None));
     assert_eq!(told(rig.arrival(&open[1..])), (1, None));
     let mut damaged = open.clone();
     damaged[7] = 1;

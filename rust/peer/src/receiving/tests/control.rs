@@ -47,9 +47,9 @@ fn acks_to_the_octet() {
     rig.open(0);
     let mut reply = [NOISE; 12];
     rig.node.arrival(&alone(OPEN, 0), &mut reply);
-    assert_eq!(reply[..10], [65, 238, 0x5F, 0, 0, 0, 1, 0, 0, 64]);
+    assert_eq!(reply[..10], [65, 238, 0x5F, 0, 0, 0, 2, 0, 0, 64]);
     rig.node.arrival(&whole(2, b"x"), &mut reply);
-    assert_eq!(reply[..10], [65, 238, 0x59, 0, 0, 0, 1, 2, 0, 64]);
+    assert_eq!(reply[..10], [65, 238, 0x59, 0, 0, 0, 2, 2, 0, 64]);
 }
 
 /// "In OPEN a second such Open is acknowledged (15) while no Data was accepted
@@ -139,7 +139,8 @@ fn packets_that_the_state_does_not_allow() {
 #[test]
 fn acks_find_no_channel() {
     let mut rig = Rig::receiving(RECEIVING);
-    let answers = [DATA_ACK, CONTROL_ACK].map(|kind| rig.arrive(&alone(kind, 0)));
+    let answers =
+        [DATA_ACK, CONTROL_ACK].map(|kind| rig.arrive(&packet_for(RECEIVING.channel, kind, 0)));
     assert_eq!(answers, [14, 14]);
 }
 

@@ -111,17 +111,19 @@ fn bodies_longer_than_the_buffers() {
 }
 
 /// The packets of the replay's channels, octet by octet: own address 64,
-/// remote 65, protocol ID 238, channel number 1.
+/// remote 65, protocol ID 238, channel numbers 1 and 2.
 #[test]
 fn packets_by_their_octets() {
     let packet = |octets: &[u8]| record(1, octets);
-    let open_command = b"\x40\xEE\x5A\x00\x00\x00\x01\x00\x00\x41\xD3\x8A";
-    let whole_unit = b"\x40\xEE\x58\x00\x01\x00\x01\x01\x00\x41A\x21\x49";
+    let open_command = b"\x40\xEE\x5A\x00\x00\x00\x02\x00\x00\x41\x48\x56";
+    let for_channel_0 = b"\x40\xEE\x58\x00\x01\x00\x01\x01\x00\x41A\x21\x49";
+    let whole_unit = b"\x40\xEE\x58\x00\x01\x00\x02\x01\x00\x41A\xCF\x9B";
     let control_ack = b"\x40\xEE\x5F\x00\x00\x00\x01\x00\x00\x41\x9B\x34";
     let data_ack = b"\x40\xEE\x59\x00\x00\x00\x01\x01\x00\x41\x2C\xCF";
     check(&[
         (open(1), 0),
         (packet(open_command), 0),
+        (packet(for_channel_0), 14),
         (packet(whole_unit), 0),
         (take(1), 0),
         (open(0), 0),

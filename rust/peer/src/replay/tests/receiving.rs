@@ -224,7 +224,8 @@ fn headers() {
         (changed(&good, 2, 0x5A), 3),
         (changed(&good, 0, 65), 3),
         (changed(&good, 1, 5), 3),
-        (changed(&good, 6, 2), 14),
+        (changed(&good, 6, 1), 14),
+        (changed(&good, 6, 3), 14),
         (changed(&good, 9, 64), 14),
         (whole(1, &[0; 17]), 3),
         (whole(1, &[0; 16]), 0),
@@ -234,12 +235,14 @@ fn headers() {
     check(&trace);
 }
 
-/// The two channels share number and addresses, and nothing else.
+/// The two channels share addresses, and nothing else.
 #[test]
 fn both_channels() {
     let mut trace = opened_sender();
     trace.extend(opened_receiver());
     trace.extend([
+        (arrival(packet_for(1, CLOSE, 0)), 14),
+        (arrival(packet_for(2, DATA_ACK, 1)), 14),
         (transfer(b"A"), 0),
         (unit(1), 0),
         (next(), 0),

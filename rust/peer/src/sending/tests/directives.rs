@@ -176,6 +176,6 @@ fn acks_in_states_they_do_not_belong_to_give_5() {
 #[test]
 fn other_packets_find_no_channel() {
     let mut rig = Rig::sending(SENDING);
-    let answers = [DATA, OPEN, CLOSE].map(|kind| rig.arrive(&alone(kind, 0)));
+    let answers = [DATA, OPEN, CLOSE].map(|kind| rig.arrive(&packet_for(SENDING.channel, kind, 0)));
     assert_eq!(answers, [14, 14, 14]);
 }
