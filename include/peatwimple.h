@@ -46,8 +46,8 @@ extern "C" {
 
 /* Makes the table afresh, one record of each of the settings, CLOSED and empty. It reads no old record, and alone may drop held units. The
  * memory and lengths are only measured: their octets may be anything, and so may those of the lines, which it sets to 0.
- *   13  not 1 to 16 settings; not as many as records; one out of its bounds, a prefix too; two that agree in channel, remote, direction and
- *       remote prefix; memory, lengths or lines not of their size
+ *   13  not 1 to 16 settings; not as many as records; one out of its bounds, a prefix too; two that agree in channel, remote and remote
+ *       prefix, whatever their directions; memory, lengths or lines not of their size
  *   0   else, and the lines are empty */
 PeatSaid peat_settings(PeatChannel *table, size_t records, const uint8_t *memory, size_t octets, const uint16_t *lengths, size_t slots,
                        uint8_t *lines, size_t line_octets, const PeatSettings *settings, size_t count);

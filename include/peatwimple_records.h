@@ -78,8 +78,8 @@ typedef struct PeatPrefix {
 
 #define PEAT_NO_PREFIX {0, {0}}
 
-/* Which channel it is, to which node, and whether this end sends or receives. No two records of a table may agree in channel, remote,
- * direction and remote_prefix; the own prefix tells none apart. */
+/* Which channel it is, to which node, and whether this end sends or receives. No two records of a table may agree in channel, remote and
+ * remote_prefix; the direction and the own prefix tell none apart. */
 typedef struct PeatAddresses {
     uint16_t channel;
     uint8_t remote; /* the other node's logical address */

@@ -53,7 +53,7 @@ static void never_set(int octet) {
 
 /* The next packet to the node itself, and its ack. Gives how many units that confirmed. */
 static size_t exchange(const PeatLent *lent) {
-    uint8_t packet[16], ack[12];
+    uint8_t packet[16], ack[PEAT_ACK_OCTETS + 1];
     PeatSaid out = peat_lent_next_packet(lent, NODE, packet, sizeof packet);
     PeatSaid there = peat_lent_arrival(lent, NODE, packet, out.length, ack, sizeof ack);
     PeatSaid back = peat_lent_arrival(lent, NODE, ack, there.length, packet, sizeof packet);
@@ -61,10 +61,11 @@ static size_t exchange(const PeatLent *lent) {
     return back.confirmed;
 }
 
+/* Both ends are the node's. What comes back has a prefix of one octet, which alone tells them apart. */
 static void an_empty_unit(void) {
     static const PeatSettings settings[2] = {
-        {{1, 64, PEAT_SENDS, PEAT_NO_PREFIX, PEAT_NO_PREFIX}, {1, 2, 1, 1, 9, 9, 0}},
-        {{1, 64, PEAT_RECEIVES, PEAT_NO_PREFIX, PEAT_NO_PREFIX}, {1, 2, 1, 1, 9, 9, 0}},
+        {{1, 64, PEAT_SENDS, {1, {7}}, PEAT_NO_PREFIX}, {1, 2, 1, 1, 9, 9, 0}},
+        {{1, 64, PEAT_RECEIVES, PEAT_NO_PREFIX, {1, {7}}}, {1, 2, 1, 1, 9, 9, 0}},
     };
     static PeatChannel table[2];
     static uint8_t memory[4], lines[PEAT_LINES];

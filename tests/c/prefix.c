@@ -27,18 +27,19 @@ static const PeatLent LENT = {table, RECORDS, memory, OCTETS, lengths, LENGTHS, 
 static const PeatSettings SETTINGS[RECORDS] = {
     {{1, 65, PEAT_RECEIVES, PEAT_NO_PREFIX, PEAT_NO_PREFIX}, LIMITS},
     {{1, 65, PEAT_RECEIVES, FAR_PREFIX, OWN_PREFIX}, LIMITS},
-    {{1, 65, PEAT_SENDS, FAR_PREFIX, OWN_PREFIX}, LIMITS},
+    {{2, 65, PEAT_SENDS, FAR_PREFIX, OWN_PREFIX}, LIMITS},
 };
 
 static int says(PeatSaid said, uint32_t number, size_t length, size_t index) {
     return said.number == number && said.length == length && said.index == index;
 }
 
-/* A packet from the other node, behind this prefix. Gives its octets. */
+/* A packet from the other node, behind this prefix: an Ack is for the sender, all else for a receiver. Gives its octets. */
 static size_t from(const uint8_t *prefix, size_t count, uint8_t kind, uint8_t number, uint8_t packet[64]) {
     PeatFields fields = {64, PEAT_PROTOCOL, PEAT_VERSION, 0, PEAT_WHOLE, 0, 1, 0, 0, 65};
     PeatWriting writing;
     fields.kind = kind;
+    fields.channel = kind == PEAT_DATA_ACK || kind == PEAT_CONTROL_ACK ? 2 : 1;
     fields.number = number;
     writing = peat_write_packet(fields, prefix, count, (const uint8_t *)"event", kind == PEAT_DATA ? 5 : 0, packet, 64);
     CHECK(writing.answer == PEAT_DONE);
@@ -67,6 +68,25 @@ static void which_records_are_apart(void) {
     one.addresses.own_prefix.length = PEAT_PREFIX + 1;
     CHECK(settings_with(one) == PEAT_SETTINGS);
     one.addresses.own_prefix.length = PEAT_PREFIX;
+    CHECK(settings_with(one) == PEAT_DONE);
+}
+
+/* A receiver at index 1 beside the sender at index 2: the direction does not tell them apart (document 02, A2), nor does the own prefix with it.
+ * A number, a remote address or a remote prefix of its own does. */
+static void whatever_their_directions(void) {
+    PeatSettings one = SETTINGS[1];
+    one.addresses.channel = 2;
+    CHECK(settings_with(one) == PEAT_SETTINGS);
+    one.addresses.own_prefix = SETTINGS[0].addresses.own_prefix;
+    CHECK(settings_with(one) == PEAT_SETTINGS);
+    one.addresses.remote = 66;
+    CHECK(settings_with(one) == PEAT_DONE);
+    one.addresses.remote = 65;
+    one.addresses.remote_prefix.octets[1] = 1;
+    CHECK(settings_with(one) == PEAT_DONE);
+    one.addresses.remote_prefix = SETTINGS[2].addresses.remote_prefix;
+    CHECK(settings_with(one) == PEAT_SETTINGS);
+    one.addresses.channel = 3;
     CHECK(settings_with(one) == PEAT_DONE);
 }
 
@@ -121,6 +141,15 @@ static void a_sender(void) {
     CHECK(says(peat_lent_arrival(&LENT, NODE, packet, count, none, sizeof none), PEAT_IGNORED, 0, 2));
 }
 
+/* Settings alone look for records that agree. In a table that was overwritten so, an Ack still finds the sender, behind the receiver. */
+static void an_overwritten_table(void) {
+    uint8_t packet[64], none[12];
+    size_t count = from(FAR, 2, PEAT_DATA_ACK, 1, packet);
+    table[1].addresses.channel = 2;
+    CHECK(says(peat_lent_arrival(&LENT, NODE, packet, count, none, sizeof none), PEAT_IGNORED, 0, 2));
+    CHECK(says(peat_lent_tick(&LENT), PEAT_DONE, 0, RECORDS));
+}
+
 /* A prefix as long as can be said is written; one octet more is 4, before all else. */
 static void the_writer(void) {
     static const uint8_t prefix[PEAT_PREFIX + 1] = {0};
@@ -136,10 +165,12 @@ static void the_writer(void) {
 
 int main(void) {
     which_records_are_apart();
+    whatever_their_directions();
     CHECK(peat_lent_settings(&LENT, SETTINGS, RECORDS).number == PEAT_DONE);
     room_for_a_reply();
     whose_packet_it_is();
     a_sender();
+    an_overwritten_table();
     the_writer();
     return wrong;
 }

@@ -1,5 +1,5 @@
-/* The answer names the channel that was served, and with 11 tells the octets wanted: a node with three senders, and a receiver of the third's
- * packets. peat_would_transfer tells what a transfer would answer, and nothing changes. */
+/* The answer names the channel that was served, and with 11 tells the octets wanted: a node with three senders, and a receiver of packets such
+ * as the third's. peat_would_transfer tells what a transfer would answer, and nothing changes. */
 #include <string.h>
 
 #include "check.h"
@@ -25,7 +25,7 @@ static int wants(PeatSaid said, size_t length, size_t index) {
     return says(said, PEAT_SMALL, index) && said.length == length && said.reason == 0 && said.confirmed == 0;
 }
 
-/* The record of index 0, 1 or 2 sends in the channel numbered one more, to the node itself; that of index 3 receives number 3. */
+/* Each record has the channel numbered one more than its index. Those of index 0, 1 and 2 send to the node itself, that of index 3 receives. */
 static void make(void) {
     PeatSettings settings[RECORDS];
     size_t index;
@@ -33,7 +33,6 @@ static void make(void) {
         PeatSettings one = {{(uint16_t)(index + 1), 64, PEAT_SENDS, PEAT_NO_PREFIX, PEAT_NO_PREFIX}, {2, SLOTS, PAYLOAD, 2, 1, 1, 0}};
         settings[index] = one;
     }
-    settings[3].addresses.channel = 3;
     settings[3].addresses.direction = PEAT_RECEIVES;
     CHECK(says(peat_lent_settings(&LENT, settings, RECORDS), PEAT_DONE, RECORDS));
     CHECK(says(peat_lent_settings(&LENT, settings, RECORDS - 1), PEAT_SETTINGS, RECORDS));
@@ -46,6 +45,15 @@ static void ack_of(size_t index, uint8_t kind, uint8_t number, uint8_t ack[PEAT_
     fields.channel = (uint16_t)(index + 1);
     fields.number = number;
     CHECK(peat_write_packet(fields, NULL, 0, NULL, 0, ack, PEAT_ACK_OCTETS).answer == PEAT_DONE);
+}
+
+/* A packet of so many octets is made one for the receiver. */
+static void readdress(uint8_t *packet, size_t count) {
+    uint16_t sum;
+    packet[6] = RECORDS;
+    sum = peat_crc(packet, count - 2);
+    packet[count - 2] = (uint8_t)(sum >> 8);
+    packet[count - 1] = (uint8_t)sum;
 }
 
 static void open_all(void) {
@@ -62,7 +70,8 @@ static void open_all(void) {
         ack_of(index, PEAT_CONTROL_ACK, 0, ack);
         CHECK(says(peat_lent_arrival(&LENT, NODE, ack, sizeof ack, none, sizeof none), PEAT_DONE, index));
     }
-    /* The last Open is for the receiver here. */
+    /* One like the last Open is for the receiver here. */
+    readdress(packet, 12);
     CHECK(says(peat_lent_arrival(&LENT, NODE, packet, 12, ack, sizeof ack), PEAT_DONE, 3));
 }
 
@@ -76,6 +85,7 @@ static void whose_unit_was_confirmed(void) {
         CHECK(wants(peat_lent_next_packet(&LENT, NODE, packet, 16), 17, index));
         CHECK(says(peat_lent_next_packet(&LENT, NODE, packet, sizeof packet), PEAT_DONE, index));
     }
+    readdress(packet, 17);
     CHECK(wants(peat_lent_arrival(&LENT, NODE, packet, 17, ack, 11), 12, RECORDS));
     CHECK(says(peat_lent_arrival(&LENT, NODE, packet, 16, ack, sizeof ack), PEAT_SHORT, RECORDS));
     CHECK(says(peat_lent_arrival(&LENT, NODE, packet, 17, ack, sizeof ack), PEAT_DONE, 3));

@@ -27,7 +27,8 @@ static size_t packet_octets;
 
 #define LONGEST {PEAT_PREFIX, {1, 2, 3, 4, 5, 6, 7, 8, 9, 10, 11, 12, 13, 14, 15}}
 
-/* The last record sends to the first, and what they exchange goes through every step that files, sends, acknowledges and gathers. */
+/* The last record sends to the first, and what they exchange goes through every step that files, sends, acknowledges and gathers. The last octet
+ * of what comes back is another, which alone tells the two apart. */
 static void settle(void) { answer = peat_lent_settings(&LENT, settings, RECORDS).number; }
 static void open_sender(void) { answer = peat_lent_open(&LENT, RECORDS - 1).number; }
 static void open_receiver(void) { answer = peat_lent_open(&LENT, 0).number; }
@@ -75,6 +76,8 @@ static void make(void) {
     }
     settings[RECORDS - 1].addresses.channel = 0;
     settings[RECORDS - 1].addresses.direction = PEAT_SENDS;
+    settings[RECORDS - 1].addresses.remote_prefix.octets[PEAT_PREFIX - 1] = 16;
+    settings[0].addresses.own_prefix.octets[PEAT_PREFIX - 1] = 16;
 }
 
 int main(void) {

@@ -20,7 +20,7 @@ const NODE: Node = Node {
 pub type Bound = (&'static str, fn(&mut Vec<Settings>));
 
 /// Each bound of document 01, one at a time: all else is good.
-pub const REFUSED: [Bound; 19] = [
+pub const REFUSED: [Bound; 21] = [
     ("settings: window 0", |table| table[0].window = 0),
     ("settings: window not a power of two", |table| {
         table[0].window = 3;
@@ -62,6 +62,16 @@ pub const REFUSED: [Bound; 19] = [
         };
         table.push(other);
     }),
+    ("settings: apart in direction alone", |table| {
+        table.push(turned(table));
+    }),
+    ("settings: apart in direction and own prefix", |table| {
+        let other = Settings {
+            own_prefix: FULL,
+            ..turned(table)
+        };
+        table.push(other);
+    }),
     ("settings: a remote prefix over 15 octets", |table| {
         table[0].remote_prefix.length = 16;
     }),
@@ -76,6 +86,16 @@ pub const REFUSED: [Bound; 19] = [
     }),
 ];
 
+/// The last of these, of the other direction.
+fn turned(table: &[Settings]) -> Settings {
+    let last = table[table.len() - 1];
+    let direction = match last.direction {
+        Direction::Sending => Direction::Receiving,
+        Direction::Receiving => Direction::Sending,
+    };
+    Settings { direction, ..last }
+}
+
 /// A prefix of as many octets as can be, and its last is not 0.
 const FULL: Prefix = Prefix {
     length: 15,
@@ -83,7 +103,7 @@ const FULL: Prefix = Prefix {
 };
 
 /// Changes that lie just within the bounds.
-pub const ACCEPTED: [Bound; 11] = [
+pub const ACCEPTED: [Bound; 13] = [
     ("settings: window and slots 1", |table| {
         (table[0].window, table[0].slots, table[0].most_segments) = (1, 1, 1);
     }),
@@ -121,12 +141,19 @@ pub const ACCEPTED: [Bound; 11] = [
             table.push(other);
         },
     ),
-    ("settings: apart in direction alone", |table| {
-        let mut other = table[table.len() - 1];
-        other.direction = match other.direction {
-            Direction::Sending => Direction::Receiving,
-            Direction::Receiving => Direction::Sending,
-        };
+    ("settings: apart in direction and number", |table| {
+        let mut other = turned(table);
+        other.channel ^= 0x8000;
+        table.push(other);
+    }),
+    ("settings: apart in direction and remote", |table| {
+        let mut other = turned(table);
+        other.remote ^= 1;
+        table.push(other);
+    }),
+    ("settings: apart in direction and remote prefix", |table| {
+        let mut other = turned(table);
+        other.remote_prefix = FULL;
         table.push(other);
     }),
 ];

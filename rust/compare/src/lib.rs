@@ -11,6 +11,7 @@ pub mod condition;
 pub mod counts;
 pub mod damage;
 pub mod faults;
+pub mod found;
 pub mod lines;
 pub mod order;
 pub mod overwriting;

@@ -4,11 +4,12 @@
 //! the records as they are decide who stands in a line and who is served.
 
 use link::Noise;
-use proved::record::Channel;
+use proved::record::{Addresses, Channel};
 use proved::Said;
 
 use crate::call::{unlawful, Call};
 use crate::condition::{are_lines, is_lawful};
+use crate::found::check_found;
 use crate::lines::{after, next, other_lines};
 use crate::strays::from_other_end;
 use crate::tally::Tally;
@@ -90,8 +91,10 @@ pub fn overwrite_and_call(twin: &mut Twin, noise: &mut Noise, tally: &mut Tally)
     let index = noise.below(twin.table.len());
     let packet = from_other_end(twin, index, 30, noise);
     let kept = kept(twin);
-    for _ in 0..1 + noise.below(2) {
-        overwrite(twin, noise);
+    if noise.one_in(4) {
+        share(twin, index, noise);
+    } else {
+        (0..1 + noise.below(2)).for_each(|_| overwrite(twin, noise));
     }
     if noise.one_in(4) {
         twin.table[index].marks = [5; 128];
@@ -128,6 +131,17 @@ fn overwrite(twin: &mut Twin, noise: &mut Noise) {
         let record = noise.below(twin.table.len());
         noise.one_of(&FIELDS)(&mut twin.table[record], number);
     }
+}
+
+/// Another record is addressed as this one, which settings refuse; its direction
+/// stays.
+fn share(twin: &mut Twin, index: usize, noise: &mut Noise) {
+    let other = noise.below(twin.table.len());
+    let direction = twin.table[other].addresses.direction;
+    twin.table[other].addresses = Addresses {
+        direction,
+        ..twin.table[index].addresses
+    };
 }
 
 /// Others stand in the lines than before, which the peer still has; or, as often,
@@ -188,6 +202,9 @@ fn check(twin: &mut Twin, call: Call, tally: &mut Tally) {
     } else {
         assert_eq!(out, [0xA5; 64]);
         return check_refused(twin, &call, said, &before, tally);
+    }
+    if let Call::Arrival(packet) = call {
+        check_found(&before.0, twin.node, packet, said, tally);
     }
     check_order(twin, &call, said, &before, tally);
     assert!(is_sound(twin), "{call:?} did not keep the condition");

@@ -38,18 +38,22 @@ pub fn two_tables(size: Size, noise: &mut Noise) -> [Vec<Settings>; 2] {
     let records = records(size, noise);
     let mut tables = [Vec::new(), Vec::new()];
     let first_sender = noise.below(2);
-    // Two in a row share a number, and differ in direction; or four do, and the
-    // other two differ in the remote prefix alone. Where one node sends all, none
-    // do.
+    // None share a number; or two in a row do, and differ in direction and remote
+    // prefix; or four do, and every other one differs in the remote prefix alone.
+    // Where one node sends all, none do.
     let crowded = size == Size::Crowded;
-    let sharing = if crowded { 1 } else { noise.one_of(&[2, 2, 4]) };
+    let sharing = if crowded {
+        1
+    } else {
+        noise.one_of(&[1, 1, 2, 4])
+    };
     for place in 0..records {
         let turn = if crowded { 0 } else { place };
         let sender = (first_sender + turn) % 2;
         let absent = noise.one_in(6);
         let sending = limits(size, noise);
         let receiving = other_end(sending, noise);
-        let prefixes = [0, 1].map(|_| prefix(place % 4 / 2 == 1, noise));
+        let prefixes = [0, 1].map(|_| prefix((place % sharing) as u8, noise));
         for node in [0, 1] {
             let (direction, settings) = match node == sender {
                 true => (Direction::Sending, sending),
@@ -70,14 +74,14 @@ pub fn two_tables(size: Size, noise: &mut Noise) -> [Vec<Settings>; 2] {
     tables
 }
 
-/// A prefix by chance. One that is marked is never like one that is not.
-fn prefix(marked: bool, noise: &mut Noise) -> Prefix {
+/// A prefix by chance. Two of different marks, which go to 3, are never alike.
+fn prefix(mark: u8, noise: &mut Noise) -> Prefix {
     let mut octets = noise.prefix();
-    if marked && octets.is_empty() {
+    if mark > 0 && octets.is_empty() {
         octets.push(0);
     }
     if let Some(first) = octets.first_mut() {
-        *first = *first & !1 | u8::from(marked);
+        *first = *first & !3 | mark;
     }
     Prefix::new(&octets).expect("not over 15")
 }

@@ -47,8 +47,8 @@ impl Prefix {
 }
 
 /// `PeatAddresses`: which channel it is, to which node, and whether this end
-/// sends or receives. No two records of a table may agree in all but the own
-/// prefix.
+/// sends or receives. No two records of a table may agree in channel, remote and
+/// remote prefix, whatever their directions.
 #[repr(C)]
 #[derive(Clone, Copy, Debug, Default, PartialEq, Eq)]
 pub struct Addresses {

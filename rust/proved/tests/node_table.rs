@@ -5,16 +5,23 @@ mod ends;
 use ends::{HOST, LIMITS, STATION};
 use proved::record::{direction, LINES};
 use proved::{storage, Addresses, Answer, Channel, NodeTable, Outcome};
-use proved::{Reason, Refusal, Said, Settings, State};
+use proved::{Prefix, Reason, Refusal, Said, Settings, State};
 
-/// Channel 0 sends, channel 1 receives, to and from the node itself.
+/// Channel 0 sends, channel 1 receives, to and from the node itself. What comes
+/// back has a prefix, which alone tells the two ends apart.
 fn settings() -> [Settings; 2] {
-    [direction::SENDS, direction::RECEIVES].map(|direction| Settings {
+    let back = Prefix::of(&[7]).expect("not over 15");
+    let ends = [
+        (direction::SENDS, back, Prefix::NONE),
+        (direction::RECEIVES, Prefix::NONE, back),
+    ];
+    ends.map(|(direction, remote_prefix, own_prefix)| Settings {
         addresses: Addresses {
             channel: 1,
             remote: HOST.address,
             direction,
-            ..Addresses::default()
+            remote_prefix,
+            own_prefix,
         },
         limits: LIMITS,
     })
@@ -44,7 +51,7 @@ fn at(index: usize, outcome: Outcome) -> Answer {
 
 /// The next packet to the node itself, and its ack.
 fn exchange(node: &mut NodeTable) -> [Answer; 3] {
-    let (mut packet, mut ack) = ([0; 28], [0; 12]);
+    let (mut packet, mut ack) = ([0; 28], [0; 13]);
     let out = node.next_packet(&mut packet);
     let there = node.arrival(&packet[..out.length()], &mut ack);
     let back = node.arrival(&ack[..there.length()], &mut packet);
@@ -63,7 +70,7 @@ fn a_unit_to_itself() {
         assert_eq!([node.state(0), node.state(1)], [Some(State::Open); 2]);
         assert_eq!(node.transfer(0, b"event"), at(0, Outcome::DONE));
         let done = |length, confirmed| Outcome::Done { length, confirmed };
-        let expected = [at(0, done(17, 0)), at(1, done(12, 0)), at(0, done(0, 1))];
+        let expected = [at(0, done(17, 0)), at(1, done(13, 0)), at(0, done(0, 1))];
         assert_eq!(exchange(node), expected);
         let mut unit = [0; 6];
         let small = Outcome::Refused(Refusal::Small { wanted: 5 });

@@ -111,6 +111,9 @@ fn which_records_are_apart() {
         let others = [with(prefix, &NEAR), with(prefix, &FAR)];
         assert_eq!(settings_of(&others), 13);
         assert_eq!(settings_of(&[others[0], with(&[9; 3], prefix)]), 0);
+        let turned = |remote: &[u8]| settings(STATION, direction::RECEIVES, remote, &FAR);
+        assert_eq!(settings_of(&[others[0], turned(prefix)]), 13);
+        assert_eq!(settings_of(&[others[0], turned(&[9; 3])]), 0);
     }
 }
 

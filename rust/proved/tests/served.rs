@@ -6,22 +6,31 @@ mod ends;
 use ends::{HOST, LIMITS};
 use proved::record::{direction, LINES};
 use proved::{storage, Addresses, Answer, Channel, NodeTable, Outcome};
-use proved::{Reason, Refusal, Settings};
+use proved::{Prefix, Reason, Refusal, Settings};
+
+/// Octets of an Ack: it has a prefix of one.
+const ACK: usize = 13;
 
 const RETRIES: Outcome = Outcome::Inactive(Reason::Retries);
 
-/// Channels 0 to 2 send, channels 3 to 5 receive, to and from the node itself.
+/// Channels 0 to 2 send, channels 3 to 5 receive, to and from the node itself. What
+/// comes back has a prefix, which alone tells the two ends of a channel apart.
 fn settings() -> Vec<Settings> {
-    let ends = [direction::SENDS, direction::RECEIVES];
+    let back = Prefix::of(&[7]).expect("not over 15");
+    let ends = [
+        (direction::SENDS, back, Prefix::NONE),
+        (direction::RECEIVES, Prefix::NONE, back),
+    ];
     let channels = ends
         .into_iter()
         .flat_map(|end| (1..4).map(move |channel| (channel, end)));
-    let made = channels.map(|(channel, direction)| Settings {
+    let made = channels.map(|(channel, end)| Settings {
         addresses: Addresses {
             channel,
             remote: HOST.address,
-            direction,
-            ..Addresses::default()
+            direction: end.0,
+            remote_prefix: end.1,
+            own_prefix: end.2,
         },
         limits: LIMITS,
     });
@@ -69,8 +78,8 @@ fn packet(node: &mut NodeTable, index: usize) -> Vec<u8> {
 }
 
 /// The ack of a packet that this channel accepts.
-fn arrives(node: &mut NodeTable, packet: &[u8], index: usize) -> [u8; 12] {
-    let mut ack = [0; 12];
+fn arrives(node: &mut NodeTable, packet: &[u8], index: usize) -> [u8; ACK] {
+    let mut ack = [0; ACK];
     let answer = node.arrival(packet, &mut ack);
     assert!(is_done_by(answer, index), "{answer:?}");
     ack
@@ -109,6 +118,7 @@ fn octets_wanted() {
         assert_eq!(node.arrival(&[], &mut out[..11]), small(None, 12));
         let packet = packet(node, 2);
         assert_eq!(node.arrival(&packet, &mut out[..11]), small(None, 12));
+        assert_eq!(node.arrival(&packet, &mut out[..12]), small(Some(5), ACK));
         arrives(node, &packet, 5);
         assert_eq!(node.take(5, &mut out[..4]), small(Some(5), 5));
         assert_eq!(node.take(5, &mut []), small(Some(5), 5));

@@ -1,10 +1,11 @@
 //! Which cases a call was, for the table that is printed.
 
 use super::*;
+use crate::found::BY_DIRECTION;
 use proved::Said;
 
 /// Every case that a run must have had, beside those with a list of their own.
-pub const CASES: [&str; 23] = [
+pub const CASES: [&str; 24] = [
     "inactive: retries",
     "inactive: late Open",
     "inactive: Control number",
@@ -28,6 +29,7 @@ pub const CASES: [&str; 23] = [
     "13: overwritten lines are not sound",
     "13: overwritten lines are sound, and count",
     "13: settings over an overwritten table are accepted",
+    BY_DIRECTION,
 ];
 
 impl World {

@@ -1,0 +1,63 @@
+//! Whose packet an arrival is, by a table as it lies there. The caller may have
+//! overwritten it, so that two records agree in all that settings tell them apart
+//! by (document 02, A2): a packet still finds its record by the direction that its
+//! type asks for.
+
+use peer::packet::{kind, read, Fields};
+use proved::record::{direction, Addresses, Channel, Node};
+use proved::Said;
+
+use crate::tally::Tally;
+
+/// A case of [`check_found`].
+pub const BY_DIRECTION: &str = "overwritten: found by its direction alone";
+
+/// Panics unless the answer names the record that the packet is for, or none if it
+/// is for none. The reply fits.
+pub fn check_found(table: &[Channel], node: Node, packet: &[u8], said: Said, tally: &mut Tally) {
+    let found = find(table, node, packet);
+    assert_eq!(said.index, found.unwrap_or(table.len()), "{said:?}");
+    let Some(index) = found else {
+        return;
+    };
+    let own = &table[index].addresses;
+    let turned = |one: &Channel| {
+        one.addresses.direction != own.direction && names(&one.addresses) == names(own)
+    };
+    if table.iter().any(turned) {
+        tally.case(BY_DIRECTION);
+    }
+}
+
+/// "Data and Control look for a receiving record, Acks for a sending one"; what
+/// cannot be read, or is for another node, looks for none.
+fn find(table: &[Channel], node: Node, packet: &[u8]) -> Option<usize> {
+    let reading = read(packet).ok()?;
+    let Fields {
+        destination,
+        protocol,
+        kind,
+        channel,
+        source,
+        ..
+    } = reading.fields;
+    let end = match kind {
+        kind::DATA_ACK | kind::CONTROL_ACK => direction::SENDS,
+        _ => direction::RECEIVES,
+    };
+    let prefix = reading.prefix_of(packet);
+    let mut records = table.iter();
+    let found = records.position(|record| {
+        let addresses = &record.addresses;
+        addresses.direction == end && names(addresses) == (channel, source, prefix)
+    });
+    found.filter(|_| (destination, protocol) == (node.address, node.protocol))
+}
+
+/// What tells two records of accepted settings apart.
+fn names(addresses: &Addresses) -> (u16, u8, &[u8]) {
+    let Addresses {
+        channel, remote, ..
+    } = *addresses;
+    (channel, remote, addresses.remote_prefix.said())
+}
