@@ -53,11 +53,10 @@ pub record Fit (l : Limits) : Type 0 where
   pub closing : 1 ≤ l .closing
   pub retries : l .retries ≤ 255
 
--- two records that may not stand in one table: equal channel number, remote address, direction and remote prefix; an own prefix is not seen in
--- what arrives
+-- two records that may not stand in one table: equal channel number, remote address and remote prefix, whatever their directions (document 02, A2:
+-- 'Where no field tells its end, records that differ only in direction give 13'); an own prefix is not seen in what arrives
 unfoldable pub clash : Addresses → Addresses → Bool
 clash a b =
     eqb (a .channel) (b .channel)
     && eqb (a .remote) (b .remote)
-    && eqb (a .direction) (b .direction)
     && samePrefix (a .prefix) (b .prefix)

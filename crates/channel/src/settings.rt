@@ -97,8 +97,5 @@ pub fn is_clash(a: Addresses, b: Addresses) -> bool
     if a.remote != b.remote {
         return false;
     }
-    if a.direction != b.direction {
-        return false;
-    }
     is_same(a.prefix, b.prefix)
 }

@@ -7,7 +7,7 @@ use mathlib.Core.Logic.{⊎-elim}
 use Prim.Native.Nat.{ℕ, zero, suc, _<_}
 use native.Mathlib.Nat.{not-suc-le-zero, le-of-suc-le-suc}
 use lib.ListN.{length, getD}
-use Rattle.laws.proofs.Choice.{both}
+use Rattle.laws.proofs.Choice.{both, first-not}
 use Rattle.laws.proofs.Numbers.{either-side}
 use Rattle.walks.specs.Serving.{Changed}
 use Rattle.channel.specs.declared.answer.Answer.{Answer}
@@ -22,7 +22,7 @@ use Rattle.keeps.specs.Keeping.{Wide}
 use Rattle.settings.specs.Configuring.{madeTable, settled, configured}
 use Rattle.settings.proofs.SeenLaws.{clash-swap}
 use Rattle.settings.proofs.Promises.{settings-done, settings-lawful, settings-closed}
-use Rattle.delivery.specs.Delivery.{Fresh}
+use Rattle.delivery.specs.Delivery.{rivals, Fresh}
 
 made-wide : (s : List Settings) → Wide (madeTable s)
 made-wide [] i h = absurd (not-suc-le-zero h)
@@ -57,7 +57,7 @@ settings-fresh node t mem lens lines s e i h =
       below = subst (λ (n : ℕ). i < n) (sym (c .0)) h;
       alone = λ j less other.
           let there : j < length s = subst (λ (n : ℕ). j < n) (c .0) less in
-          ap₂ clash (own j there) (own i h) ∙ apart s (settled-fits t mem lens lines s e) j i there h other;
+          ap₂ rivals (own j there) (own i h) ∙ first-not (clash (getD s j unset .addresses) (getD s i unset .addresses)) _ (apart s (settled-fits t mem lens lines s e) j i there h other);
       state = c .1 i h .state;
       empty = c .1 i h .held;
       start = refl;

@@ -56,7 +56,7 @@ use Rattle.delivery.proofs.Nodes.{endWith}
 use Rattle.delivery.proofs.Known.{limits}
 use Rattle.delivery.proofs.HostFrame.{hostEvent, host-next}
 use Rattle.delivery.proofs.Own.{Seen, Left, own-cases}
-use Rattle.delivery.proofs.Packets.{named-is, names-so, same-clash}
+use Rattle.delivery.proofs.Packets.{named-is, names-so, same-rivals}
 use Rattle.delivery.proofs.HostNow.{HostAt, asking, own, octets, lengths, own-below, own-addresses, own-sends, own-limits, asked, small, alone-here, indexFor, Next, waits-on, stays-so, counts, was-open, moves-on}
 
 -- ---- what a packet that is found a channel has shown
@@ -123,7 +123,7 @@ module _ {h s : End} {past : List Event} {x : Sender} {y : Receiver} {t : List C
       arrive-quiet a o
       (λ named.
       absurd (alone-here k j there apart
-      (same-clash (recordAt t j .addresses) (channelOf h .addresses) (fieldsAt u) (prefixRead u) (told j (recordAt t j) r m l g .ours) (named-is h u named .same))))
+      (same-rivals (recordAt t j .addresses) (channelOf h .addresses) (fieldsAt u) (prefixRead u) (told j (recordAt t j) r m l g .ours) (named-is h u named .same))))
 
   -- ---- for its own
 

@@ -56,7 +56,7 @@ use Rattle.delivery.proofs.Known.{Out, limits}
 use Rattle.delivery.proofs.Counting.{distance-on}
 use Rattle.delivery.proofs.HostFrame.{hostEvent, host-next}
 use Rattle.delivery.proofs.Own.{Seen, Left, own-cases}
-use Rattle.delivery.proofs.Packets.{named-is, names-nothing, equal-clash}
+use Rattle.delivery.proofs.Packets.{named-is, names-nothing, equal-rivals}
 use Rattle.delivery.proofs.Handed.{next-destination, next-channel, next-control, next-data, control-kind, payload-data, Carries, hand-cases}
 use Rattle.delivery.proofs.HostNow.{HostAt, asking, own, octets, lengths, own-below, own-sends, own-limits, asked, small, alone-here, indexFor, Next, waits-on, stays-so, counts-same, was-open}
 
@@ -103,7 +103,7 @@ module _ {h s : End} {past : List Event} {x : Sender} {y : Receiver} {t : List C
       let to = ap (λ (f : Fields). f .destination) (carries .fields) ∙ next-destination (h .node) c rank in
       let on = ap (λ (f : Fields). f .channel) (carries .fields) ∙ next-channel (h .node) c rank in
       alone-here k j there apart
-      (equal-clash (c .addresses) (channelOf h .addresses)
+      (equal-rivals (c .addresses) (channelOf h .addresses)
       (sym on ∙ sym (same-channel (channelOf s .addresses) (fieldsAt packet) (prefixRead packet) (w .same)) ∙ sym (k .alike .number))
       (sym to ∙ ours-to (s .node) (fieldsAt packet) (w .ours) ∙ sym (k .alike .to-subscriber))
       (dir ∙ sym (k .alike .sends))

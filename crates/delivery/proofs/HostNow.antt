@@ -14,7 +14,6 @@ use Rattle.channel.specs.declared.record.Channel.{Channel}
 use Rattle.channel.specs.declared.answer.Answer.{Answer}
 use Rattle.channel.specs.Record as state
 use Rattle.channel.specs.Asked.{Asked}
-use Rattle.channel.specs.Settings.{clash}
 use Rattle.table.specs.Serving.{recordAt, ownMem, ownLens}
 use Rattle.protocol.specs.Ends.{Limits, Phase, fresh, opened, rank}
 use Rattle.protocol.specs.Sending.{Sender, SenderCall, controlled}
@@ -25,7 +24,7 @@ use Rattle.means.proofs.SenderHeld.{phase-cases}
 use Rattle.means.proofs.SenderControl.{Moves}
 use Rattle.delivery.specs.Calls.{End, Kind, opens, hands, Request, channelOf, countedOn, indexTold}
 use Rattle.delivery.specs.History.{host, Event, is, granted, written, names, IsData, Toward, openings, accepted, confirmed, reclaimed}
-use Rattle.delivery.specs.Delivery.{Fresh, Alike}
+use Rattle.delivery.specs.Delivery.{rivals, Fresh, Alike}
 use Rattle.delivery.proofs.Nodes.{endWith, same-addresses, same-limits, same-length, own-asked, small-window}
 use Rattle.delivery.proofs.Known.{limits, InvOf, Numbered, Host}
 use Rattle.delivery.proofs.Counting.{counted-on}
@@ -81,11 +80,11 @@ module _ {h s : End} {past : List Event} {x : Sender} {y : Receiver} {t : List C
   small = subst (λ (l : Limits). l .window ≤ 128) own-limits (small-window h t mem lens (k .now .kept) (h .index) own-below)
 
   -- no other channel has its addresses
-  pub alone-here : (j : ℕ) → j < length t → (j ≡ h .index → ⊥) → clash (recordAt t j .addresses) (channelOf h .addresses) ≡ true → ⊥
+  pub alone-here : (j : ℕ) → j < length t → (j ≡ h .index → ⊥) → rivals (recordAt t j .addresses) (channelOf h .addresses) ≡ true → ⊥
   alone-here j there apart e =
       let kept = k .now .kept in
       let none = k .fresh-host .alone j (omega (arith, there, same-length h t mem lens kept)) apart in
-      true≢false (sym e ∙ ap (λ a. clash a (channelOf h .addresses)) (same-addresses h t mem lens kept j) ∙ none)
+      true≢false (sym e ∙ ap (λ a. rivals a (channelOf h .addresses)) (same-addresses h t mem lens kept j) ∙ none)
 
   -- ---- what is to be shown, as a view of the channel after the call
 

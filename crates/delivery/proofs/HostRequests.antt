@@ -22,7 +22,7 @@ use Rattle.channel.specs.Steps.{refusing}
 use Rattle.sender.specs.Directives as sender
 use Rattle.receiver_data.specs.Taking.{takeStep, takeOut}
 use Rattle.table.specs.declared.looking.Look.{Look}
-use Rattle.table.specs.declared.looking.Sought.the-variants.{Index, Asked, Nobody}
+use Rattle.table.specs.declared.looking.Sought.the-variants.{Index, Question, Nobody}
 use Rattle.table.specs.Looking.{seeking}
 use Rattle.table.specs.Serving.{Step, alone, serveOne}
 use Rattle.requests.specs.Requests.{openedBy, closedBy, askedBy, takeFor}
@@ -167,8 +167,8 @@ module _ {h s : End} {past : List Event} {x : Sender} {y : Receiver} {t : List C
   pub host-asks : (copy i : ℕ) (u b : List ℕ) → Seen (Next k (asking asks i u b) copy) (h .index) (served t mem lens lines (WouldTransfer i (length u)) u b)
   unfolding askedBy
   host-asks copy i u b =
-      by-name k (seeking (Asked i)) (Next k (asking asks i u b) copy) i (asked-served i) (alone (askedBy (length u))) b
-      (shapes (seeking (Asked i)) (alone (askedBy (length u))) b (question-keeps (seeking (Asked i)) (length u) b))
+      by-name k (seeking (Question i)) (Next k (asking asks i u b) copy) i (asked-served i) (alone (askedBy (length u))) b
+      (shapes (seeking (Question i)) (alone (askedBy (length u))) b (question-keeps (seeking (Question i)) (length u) b))
       (λ a o q. ask-quiet copy i u b a o)
       (λ at rank. ask-quiet copy i u b (askedBy (length u) (own k) .answer) b)
 

@@ -26,6 +26,7 @@ use Rattle.channel.specs.declared.record.Prefix.{Prefix}
 use Rattle.channel.specs.Prefixes.{samePrefix}
 use Rattle.channel.proofs.PrefixLaws.{same-both}
 use Rattle.channel.specs.Settings.{clash}
+use Rattle.delivery.specs.Delivery.{rivals}
 use Rattle.table.specs.Looking.{looksFor, same}
 use Rattle.arrivals.specs.Finding.{isOurs, prefixRead}
 use Rattle.arrivals.proofs.FindLaws.{Read-well}
@@ -72,9 +73,9 @@ names-nothing e = refl
 
 -- ---- what two channels would have in common
 
-pub same-clash : (a b : Addresses) (f : Fields) (q : Prefix) → same a f q ≡ true → same b f q ≡ true → clash a b ≡ true
+pub same-rivals : (a b : Addresses) (f : Fields) (q : Prefix) → same a f q ≡ true → same b f q ≡ true → rivals a b ≡ true
 unfolding same clash
-same-clash a b f q p r =
+same-rivals a b f q p r =
     let p1 = both (eqb (a .channel) (f .channel) && eqb (a .remote) (f .source) && samePrefix (a .prefix) q) (eqb (a .direction) (looksFor (kindOf (f .kind)))) p in
     let r1 = both (eqb (b .channel) (f .channel) && eqb (b .remote) (f .source) && samePrefix (b .prefix) q) (eqb (b .direction) (looksFor (kindOf (f .kind)))) r in
     let p2 = both (eqb (a .channel) (f .channel) && eqb (a .remote) (f .source)) (samePrefix (a .prefix) q) (p1 .0) in
@@ -86,10 +87,10 @@ same-clash a b f q p r =
     let z = eq-eqb (a .direction) (b .direction) (eqb-true (a .direction) (looksFor (kindOf (f .kind))) (p1 .1) ∙ sym (eqb-true (b .direction) (looksFor (kindOf (f .kind))) (r1 .1))) in
     simp (x, y, z, same-both (a .prefix) (b .prefix) q (p2 .1) (r2 .1))
 
-pub equal-clash : (a b : Addresses) → a .channel ≡ b .channel → a .remote ≡ b .remote → a .direction ≡ b .direction → samePrefix (a .prefix) (b .prefix) ≡ true
-    → clash a b ≡ true
+pub equal-rivals : (a b : Addresses) → a .channel ≡ b .channel → a .remote ≡ b .remote → a .direction ≡ b .direction → samePrefix (a .prefix) (b .prefix) ≡ true
+    → rivals a b ≡ true
 unfolding clash
-equal-clash a b p q r e = simp (eq-eqb (a .channel) (b .channel) p, eq-eqb (a .remote) (b .remote) q, eq-eqb (a .direction) (b .direction) r, e)
+equal-rivals a b p q r e = simp (eq-eqb (a .channel) (b .channel) p, eq-eqb (a .remote) (b .remote) q, eq-eqb (a .direction) (b .direction) r, e)
 
 -- ---- a refusal is not 0
 

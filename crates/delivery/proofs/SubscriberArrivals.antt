@@ -30,7 +30,6 @@ use Rattle.channel.specs.Answers.{lengthOf}
 use Rattle.channel.specs.Prefixes.{fitPrefix, samePrefix}
 use Rattle.channel.proofs.StandingLaws.{own-fits}
 use Rattle.channel.specs.Steps.{refusing}
-use Rattle.channel.specs.Settings.{clash}
 use Rattle.receiver.specs.Receiving.{ackLength, controlStep}
 use Rattle.table.specs.Waiting.{rankIn}
 use Rattle.table.specs.declared.looking.Look.{Look}
@@ -52,10 +51,10 @@ use Rattle.protocol.specs.Receiving.{Receiver}
 use Rattle.means.proofs.ReceiverControl.{control-receives}
 use Rattle.delivery.specs.Calls.{End, arrives, Request, channelOf, calledBy}
 use Rattle.delivery.specs.History.{Event, names, IsData, Toward, HandedOut}
-use Rattle.delivery.specs.Delivery.{NotLate}
+use Rattle.delivery.specs.Delivery.{rivals, NotLate}
 use Rattle.delivery.proofs.Own.{Seen, Left, own-cases}
 use Rattle.delivery.proofs.Nodes.{endWith, same-length, same-addresses, toward-itself}
-use Rattle.delivery.proofs.Packets.{named-is, names-so, equal-clash}
+use Rattle.delivery.proofs.Packets.{named-is, names-so, equal-rivals}
 use Rattle.delivery.proofs.Replies.{control-long, Acks, reply-written, ack-named, arrival-framed, arrival-wrote}
 use Rattle.delivery.proofs.SubscriberData.{data-next}
 use Rattle.delivery.proofs.SubscriberEnd.{Stage, below, addresses-are, receiving, not-sending, asked, indexFor, Next, Unreplied, unwritten, quiet, moves-next}
@@ -119,11 +118,11 @@ module _ {h s : End} {past : List Event} {x : Sender} {y : Receiver} {t : List C
       let region : samePrefix (d .prefix) (channelOf s .addresses .prefix) ≡ true
       = subst (λ (b : Addresses). samePrefix (b .prefix) (channelOf s .addresses .prefix) ≡ true) (sym begun) (subst (Toward s) index toward)
       in
-      let equal : clash d (channelOf s .addresses) ≡ true
-      = equal-clash d (channelOf s .addresses) (sym (z .1) ∙ w .alike .number) (z .0 ∙ sym (w .alike .to-host)) (direction ∙ sym (w .alike .receives)) region
+      let equal : rivals d (channelOf s .addresses) ≡ true
+      = equal-rivals d (channelOf s .addresses) (sym (z .1) ∙ w .alike .number) (z .0 ∙ sym (w .alike .to-host)) (direction ∙ sym (w .alike .receives)) region
       in
       true≢false
-      (sym equal ∙ ap (λ (b : Addresses). clash b (channelOf s .addresses)) begun
+      (sym equal ∙ ap (λ (b : Addresses). rivals b (channelOf s .addresses)) begun
       ∙ w .beginning .alone j (subst (λ (k : ℕ). j < k) (same-length s t mem lens (w .now .kept)) there) apart)
 
   elsewhere : (j : ℕ) → j < length t → (j ≡ i → ⊥) → indexFor w request ≡ j

@@ -23,7 +23,7 @@ use Rattle.receiver.specs.Receiving.{openStep}
 use Rattle.ends.proofs.ReceiverCases.{open-cases}
 use Rattle.table.specs.Waiting.{rankIn}
 use Rattle.table.specs.declared.looking.Look.{Look}
-use Rattle.table.specs.declared.looking.Sought.the-variants.{Index, Asked, Ready, Nobody}
+use Rattle.table.specs.declared.looking.Sought.the-variants.{Index, Question, Ready, Nobody}
 use Rattle.table.specs.Looking.{seeking}
 use Rattle.table.specs.Looking.{chosen as choice}
 use Rattle.table.specs.Serving.{recordAt, ownMem, ownLens, Step, serveOne, alone}
@@ -113,8 +113,8 @@ module _ {h s : End} {past : List Event} {x : Sender} {y : Receiver} {t : List C
   pub subscriber-asks : Shown asks
   subscriber-asks =
       unmoved asks (λ a o. quiet w (request asks) copy a o refl refl (λ packet q. absurd (true≢false (sym q))))
-      (seeking (Asked channel)) (alone (askedBy (length octets))) buffer
-      (shapes (seeking (Asked channel)) (alone (askedBy (length octets))) buffer (question-keeps (seeking (Asked channel)) (length octets) buffer)) refusal.State
+      (seeking (Question channel)) (alone (askedBy (length octets))) buffer
+      (shapes (seeking (Question channel)) (alone (askedBy (length octets))) buffer (question-keeps (seeking (Question channel)) (length octets) buffer)) refusal.State
       (λ g. ap (λ (z : Stepped). works z m l buffer) (asked-receives c (length octets) (not-sending w)))
 
   pub subscriber-reclaims : Shown reclaims

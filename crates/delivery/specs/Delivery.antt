@@ -6,10 +6,12 @@
 -- docs/ANSWERS.md goes through it sentence by sentence.
 use Prim.Native.Nat.{ℕ, _+_, _-_, _≤_, _<_}
 use mathlib.Core.Path.{_≡_}
-use mathlib.Core.Bool.{true, false}
+use mathlib.Core.Bool.{Bool, true, false, _&&_}
 use mathlib.Core.List.{List, [], _∷_, _++_}
+use lib.Dec.{eqb}
 use lib.ListN.{length, take}
 use Rattle.walks.specs.Serving.{Called}
+use Rattle.channel.specs.declared.record.Addresses.{Addresses}
 use Rattle.channel.specs.declared.record.Channel.{Channel}
 use Rattle.channel.specs.declared.answer.Answer.{Answer}
 use Rattle.channel.specs.Record.{sends, receives, closed, heldIn}
@@ -23,7 +25,12 @@ use Rattle.delivery.specs.History.{Side, host, subscriber, Call, Event, 
 
 -- ---- the two ends at the beginning
 
--- A table as our calls alone leave it: it passes the test for 13, the lines apart, and no other record has the addresses of this channel (settings refuse that).
+-- one packet would be for both
+abbrev pub rivals : Addresses → Addresses → Bool
+rivals a b = clash a b && eqb (a .direction) (b .direction)
+
+-- A table as our calls alone leave it: it passes the test for 13, the lines apart, and no other record has the addresses of this channel (settings
+-- refuse that, and more).
 -- `wide` is no premise on the caller: the type of records fixes it. The channel is CLOSED and holds nothing, whatever came before.
 pub record Fresh (e : End) : Type 0 where
   pub stands : lawful (e .table) (e .mem) (e .lens) ≡ true
@@ -32,7 +39,7 @@ pub record Fresh (e : End) : Type 0 where
   pub alone : (j : ℕ)
       → j < length (e .table)
       → (j ≡ e .index → ⊥)
-      → clash (recordAt (e .table) j .addresses) (channelOf e .addresses) ≡ false
+      → rivals (recordAt (e .table) j .addresses) (channelOf e .addresses) ≡ false
   pub state : channelOf e .phase .state ≡ closed
   pub empty : heldIn (channelOf e .window) ≡ 0
   pub start : e .start ≡ 0

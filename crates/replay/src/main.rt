@@ -24,7 +24,7 @@ const REMOTE: u8 = 65;
 
 const FIRST: u16 = 1;
 
-const SECOND: u16 = 1;
+const SECOND: u16 = 2;
 
 // The channels, how many records were done, and how many octets of the next one are in the buffer.
 struct Run {

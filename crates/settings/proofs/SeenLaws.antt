@@ -33,8 +33,8 @@ use Rattle.settings.proofs.OneLaws.{bounded, one-spoilt, one-many, one-
 pub clash-swap : (a b : Addresses) → clash a b ≡ clash b a
 unfolding clash
 clash-swap a b =
-    ap₂ (λ (x y : Bool). x && y && eqb (a .direction) (b .direction) && samePrefix (a .prefix) (b .prefix)) (equal-swap (a .channel) (b .channel)) (equal-swap (a .remote) (b .remote))
-    ∙ ap₂ (λ (x y : Bool). eqb (b .channel) (a .channel) && eqb (b .remote) (a .remote) && x && y) (equal-swap (a .direction) (b .direction)) (same-swap (a .prefix) (b .prefix))
+    ap₂ (λ (x y : Bool). x && y && samePrefix (a .prefix) (b .prefix)) (equal-swap (a .channel) (b .channel)) (equal-swap (a .remote) (b .remote))
+    ∙ ap (λ (x : Bool). eqb (b .channel) (a .channel) && eqb (b .remote) (a .remote) && x) (same-swap (a .prefix) (b .prefix))
 
 -- ---- the addresses seen
 

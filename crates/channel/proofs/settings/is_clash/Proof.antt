@@ -17,16 +17,12 @@ returns-2 : tie.Need-returns-2
 unfolding clash
 returns-2 c = search settle
 
-returns-3 : tie.Need-returns-3
-unfolding clash
-returns-3 c = search settle
-
 is-same-requires : tie.Need-is-same-requires
 is-same-requires c κs = search needs
 
-returns-4 : tie.Need-returns-4
+returns-3 : tie.Need-returns-3
 unfolding clash
-returns-4 c = rw (← c .is-same .ensures) (search settle)
+returns-3 c = rw (← c .is-same .ensures) (search settle)
 
 pub is-clash-spec : {M : Type 1} → statement M
-is-clash-spec = tie.close (tie.spec returns returns-2 returns-3 is-same-requires returns-4)
+is-clash-spec = tie.close (tie.spec returns returns-2 is-same-requires returns-3)
