@@ -100,10 +100,10 @@ PeatSaid peat_reclaim(PeatChannel *table, size_t records, uint8_t *memory, size_
 /* The packet that goes out next: Control before resent Data before new Data; of a rank that of the first in its line who has one ready;
  * within a channel the lowest segment. A sender joins the line of a rank at the tail when it has a packet of that rank ready and had none
  * before; those that join in one tick stand by index. It leaves when it has none any more. When its packet is handed out it goes to the tail
- * if it has another of that rank ready. So of lines that the calls alone have written: who has a packet ready stands in its line, and while it
+ * if it has another of that rank ready. So of a table and lines that the calls alone have written: who has a packet ready stands in its line, and while it
  * stands there at most 15 packets of that rank go out before its own. Lines that a caller has written into count as they are: who stands
- * there with nothing ready is passed over, who has something ready and does not stand is not served, until a call that serves it, or a tick,
- * puts that right. 12 + N + P octets hold any packet of a channel whose own prefix has N.
+ * there with nothing ready is passed over, who has something ready and does not stand is not served of that rank, until a call that serves
+ * it and answers 0, 9 or 15 (peat_would_transfer apart), or a tick, puts that right. 12 + N + P octets hold any packet of a channel whose own prefix has N.
  *   13      as above
  *   12      no sender that stands in a line has a packet of its rank ready; the index is that of no channel
  *   11      the one that goes next is longer than the buffer, and is still ready: length tells its octets, index whose it is. Its channel
@@ -136,7 +136,7 @@ PeatSaid peat_arrival(PeatChannel *table, size_t records, uint8_t *memory, size_
                       size_t line_octets, PeatNode node, const uint8_t *packet, size_t packet_count, uint8_t *reply, size_t reply_count);
 
 /* One tick of every timer of every channel: a packet whose timer ends is ready again, or with no resend left its channel goes inactive; a
- * receiver whose close timer ends is CLOSED.
+ * receiver whose close timer ends is CLOSED. Each channel then joins and leaves the lines, in table order.
  *   13  as above
  *   9   some channel went inactive, by its retries; all were ticked, and each record says its own reason. Units are still held. The index
  *       is the lowest of those that went inactive in this tick, and the reason is that channel's

@@ -22,7 +22,7 @@ enum {
     PEAT_UNTAKEN = 10,   /* units are untaken or unreclaimed */
     PEAT_SMALL = 11,     /* the lent buffer is too small */
     PEAT_NOTHING = 12,   /* there is nothing to hand out */
-    PEAT_SETTINGS = 13,  /* bad settings, sizes that do not fit, lines that are not sound, or a record that lacks its standing condition */
+    PEAT_SETTINGS = 13,  /* bad settings, sizes that do not fit, lines that are none of the table's, or a record that lacks its standing condition */
     PEAT_NO_CHANNEL = 14, /* no such channel */
     PEAT_REPEATED = 15,  /* acknowledged, not accepted */
     PEAT_IGNORED = 16    /* the ack is ignored */

@@ -22,7 +22,7 @@ use Rattle.channel.specs.declared.answer.Refusal.the-variants as refusal
 use Rattle.channel.specs.Steps.{refusing}
 use Rattle.table.specs.declared.looking.Look.{Look}
 use Rattle.table.specs.declared.looking.Sought.{Sought}
-use Rattle.table.specs.declared.looking.Sought.the-variants.{Index, Asked, Packet, Ready, Nobody}
+use Rattle.table.specs.declared.looking.Sought.the-variants.{Index, Question, Packet, Ready, Nobody}
 use Rattle.table.specs.declared.deciding.Decision.{Decision}
 use Rattle.table.specs.Looking.{same, addressed, gradedBy, graded}
 use Rattle.table.specs.Surveying.{stepping}
@@ -67,7 +67,7 @@ framed node s out lines at c look f start x e h p =
 -- no arrival looks for anything else
 abbrev pub isPacket : Sought → Bool
 isPacket (Index i) = false
-isPacket (Asked i) = false
+isPacket (Question i) = false
 isPacket (Packet g start x) = true
 isPacket Ready = false
 isPacket (Nobody why) = false

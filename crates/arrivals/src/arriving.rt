@@ -119,7 +119,7 @@ pub fn arrive_step(
             length,
         } => arrive(c, d, node, fields, start, length, mem, lens, packet, out),
         Sought::Index(_) => refused(c, Refusal::NoChannel),
-        Sought::Asked(_) => refused(c, Refusal::NoChannel),
+        Sought::Question(_) => refused(c, Refusal::NoChannel),
         Sought::Ready => refused(c, Refusal::NoChannel),
         Sought::Nobody(_) => refused(c, Refusal::NoChannel),
     }

@@ -1,4 +1,4 @@
--- Nobody waits for ever: one call after another, whoever is handed out stood before c, and nobody else comes before it.
+-- At most fifteen: one call after another, whoever is handed out of the rank stood before c, and nobody else comes before it.
 -- Assumes nothing.
 use mathlib.Core.Path.{_≡_, refl, sym, ap, _∙_, subst}
 use mathlib.Core.Bool.{Bool, true, false, _&&_, true≢false, false≢true}
@@ -29,7 +29,7 @@ use Rattle.channel.specs.declared.step.Stepped.{Stepped}
 use Rattle.sender_packets.specs.HandingOut.{nextLength, nextOut, handStep}
 use Rattle.table.specs.declared.looking.Look.{Look}
 use Rattle.table.specs.declared.looking.Sought.{Sought}
-use Rattle.table.specs.declared.looking.Sought.the-variants.{Index, Asked, Packet, Ready, Nobody}
+use Rattle.table.specs.declared.looking.Sought.the-variants.{Index, Question, Packet, Ready, Nobody}
 use Rattle.table.specs.Waiting.{waits, gradeAt, rankIn, servedFor, movedBy, mayMove, moved}
 use Rattle.table.specs.Looking.{seeking, chosen as choice, isFound}
 use Rattle.table.specs.Lent.{passes}
@@ -46,7 +46,7 @@ use Rattle.node.specs.declared.request.Request.{Request}
 use Rattle.node.specs.declared.request.Request.the-variants.{Open, Close, Transfer, WouldTransfer, Take, Reclaim, Arrival, NextPacket, Unknown}
 use Rattle.node.specs.Calls.{lookIn, stepFor, served, servedIndex}
 use Rattle.keeps.proofs.Serving.{worked, serve-cases, serve-unlawful, serve-missing, serve-found}
-use Rattle.fairness.specs.Fairness.{Lent, Call, asks, tick, settings, after, Stood, Sound, nextRank, handsOut, handsOutOf, handOuts, WaitsThrough, Fifteen, FromTheHead}
+use Rattle.fairness.specs.Fairness.{Lent, Call, asks, tick, settings, after, Stood, Sound, nextRank, handsOut, handsOutOf, handOuts, WaitsThrough, Fifteen}
 use Rattle.fairness.proofs.Chosen.{chosen-least}
 use Rattle.fairness.proofs.Moving.{isHanding, moved-place, served-place, served-lowers}
 use Rattle.fairness.proofs.Ticking.{from-place}
@@ -61,20 +61,20 @@ module _ (s : Lent) (sound : Sound s) where
   abbrev lines : List ℕ
   lines = s .lines
 
-  abbrev next : ℕ
+  abbrev pub next : ℕ
   next = choice (seeking Ready) lines t .at
 
-  abbrev grade : ℕ
+  abbrev pub grade : ℕ
   grade = choice (seeking Ready) lines t .grade
 
-  fits : fitLines (length t) lines ≡ true
+  pub fits : fitLines (length t) lines ≡ true
   fits = passing-is t (s .mem) (s .lens) lines (sound .tested) .lined
 
   h : Lawful t (s .mem) (s .lens)
   h = passing-is t (s .mem) (s .lens) lines (sound .tested) .lawful
 
   module _ (found : grade < 48) where
-    next-waiting : Waiting (rankIn grade) next (waits (rankIn grade) (recordAt t next)) lines grade
+    pub next-waiting : Waiting (rankIn grade) next (waits (rankIn grade) (recordAt t next)) lines grade
     next-waiting =
         let e = found-suits (seeking Ready) lines t (s .mem) (s .lens) h found in
         subst (λ (g : ℕ). Waiting (rankIn g) next (waits (rankIn g) (recordAt t next)) lines g) (sym e)
@@ -261,50 +261,3 @@ fifteen s sound c rank known calls w =
     let l = lineAt rank (s .lines) in
     let f = fit.fit-facts (length (s .table)) (s .lines) (fits s sound) in
     (p, ⊎-elim (λ z. omega (arith, z)) (λ q. omega (arith, p, line.before-lt c l q, line.at-most (length (s .table)) l (fit.line-of (length (s .table)) (s .lines) f rank known), h s sound .few)) (goes-on c rank known calls s w))
-
--- ---- from the head
-
-head-first : (l : List ℕ) (j : ℕ) → stands j l ≡ true → ((k : ℕ) → stands k l ≡ true → (j ≡ k → ⊥) → before j l < before k l) → before j l ≡ 0
-unfolding stands
-head-first [] j e first = absurd (false≢true e)
-head-first (k ∷ l) j e first =
-    ⊎-elim (λ q. line.before-head k j l q)
-    (λ n. absurd (omega (arith, first k (line.stands-head k k l refl) (λ q. n (sym q)), line.before-head k k l refl)))
-    (line.same-or-not k j)
-
-module _ (s : Lent) (sound : Sound s) (c rank : ℕ) (known : rank < 3) where
-  next-from-head : (node : Node) (x out : List ℕ) → handsOutOf c rank (asks (NextPacket node) x out) s ≡ true → before c (lineAt rank (s .lines)) ≡ 0
-  unfolding indexServed
-  next-from-head node x out e =
-      let p = both (eqb (numberOf (served (s .table) (s .mem) (s .lens) (s .lines) (NextPacket node) x out .answer)) 0 && eqb (nextRank s) rank) _ e in
-      let q = both (eqb (numberOf (served (s .table) (s .mem) (s .lens) (s .lines) (NextPacket node) x out .answer)) 0) (eqb (nextRank s) rank) (p .0) in
-      by-found (isFound (choice (seeking Ready) (s .lines) (s .table))) refl (q .0) (eqb-true _ _ (q .1)) (p .1)
-    where
-      by-found : (b : Bool) → isFound (choice (seeking Ready) (s .lines) (s .table)) ≡ b
-          → eqb (numberOf (served (s .table) (s .mem) (s .lens) (s .lines) (NextPacket node) x out .answer)) 0 ≡ true
-          → nextRank s ≡ rank
-          → eqb (indexServed (seeking Ready) (s .table) (s .mem) (s .lens) (s .lines)) c ≡ true
-          → before c (lineAt rank (s .lines)) ≡ 0
-      by-found false f n r i =
-          absurd (false≢true
-          (sym (ap (λ (g : Called Answer Channel). eqb (numberOf (g .answer)) 0) (serve-missing (seeking Ready) (nextFor node) (s .table) (s .mem) (s .lens) (s .lines) out (sound .tested) f)) ∙ n))
-      by-found true f n r i =
-          let found = ltb-true (grade s sound) 48 f in
-          let told : indexServed (seeking Ready) (s .table) (s .mem) (s .lens) (s .lines) ≡ next s sound = simp (sound .tested, f) in
-          let is : next s sound ≡ c = sym told ∙ eqb-true _ _ i in
-          subst (λ (k : ℕ). before k (lineAt rank (s .lines)) ≡ 0) is
-          (subst (λ (q : ℕ). before (next s sound) (lineAt q (s .lines)) ≡ 0) r
-          (head-first (lineAt (nextRank s) (s .lines)) (next s sound) (next-waiting s sound found .standing) (next-first s sound found)))
-
-pub from-the-head : FromTheHead
-from-the-head s sound c rank (asks (Open index) x out) known e = absurd (false≢true e)
-from-the-head s sound c rank (asks (Close index) x out) known e = absurd (false≢true e)
-from-the-head s sound c rank (asks (Transfer index) x out) known e = absurd (false≢true e)
-from-the-head s sound c rank (asks (WouldTransfer index count) x out) known e = absurd (false≢true e)
-from-the-head s sound c rank (asks (Take index) x out) known e = absurd (false≢true e)
-from-the-head s sound c rank (asks (Reclaim index) x out) known e = absurd (false≢true e)
-from-the-head s sound c rank (asks (Arrival node) x out) known e = absurd (false≢true e)
-from-the-head s sound c rank (asks (NextPacket node) x out) known e = next-from-head s sound c rank known node x out e
-from-the-head s sound c rank (asks Unknown x out) known e = absurd (false≢true e)
-from-the-head s sound c rank tick known e = absurd (false≢true e)
-from-the-head s sound c rank (settings l) known e = absurd (false≢true e)

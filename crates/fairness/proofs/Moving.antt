@@ -15,14 +15,14 @@ use Rattle.lines.proofs.FairLaws.{never-raised, hand-out-lowers}
 use Rattle.channel.specs.declared.record.Channel.{Channel}
 use Rattle.channel.specs.declared.step.Stepped.{Stepped}
 use Rattle.table.specs.declared.looking.Sought.{Sought}
-use Rattle.table.specs.declared.looking.Sought.the-variants.{Index, Asked, Packet, Ready, Nobody}
+use Rattle.table.specs.declared.looking.Sought.the-variants.{Index, Question, Packet, Ready, Nobody}
 use Rattle.table.specs.Waiting.{waits, relistedFor, servedFor, movedBy, mayMove, moved}
 use Rattle.table.proofs.WaitingLaws.{of-rank-waits}
 
 -- it moves its channel
 abbrev pub isMoving : Sought → Bool
 isMoving (Index i) = true
-isMoving (Asked i) = false
+isMoving (Question i) = false
 isMoving (Packet f start x) = true
 isMoving Ready = true
 isMoving (Nobody why) = false
@@ -30,7 +30,7 @@ isMoving (Nobody why) = false
 -- it may be a hand-out
 abbrev pub isHanding : Sought → Bool
 isHanding (Index i) = false
-isHanding (Asked i) = false
+isHanding (Question i) = false
 isHanding (Packet f start x) = false
 isHanding Ready = true
 isHanding (Nobody why) = false
@@ -43,7 +43,7 @@ module _ (n : ℕ) (lines : List ℕ) (e : fitLines n lines ≡ true) (rank : �
 
   by-fit : (z : Sought) → fitLines n (movedBy z rank i c lines) ≡ true
   by-fit (Index j) = fit.relist-keeps n lines i (waits 0 c) (waits 1 c) (waits 2 c) below e
-  by-fit (Asked j) = e
+  by-fit (Question j) = e
   by-fit (Packet g start x) = fit.relist-keeps n lines i (waits 0 c) (waits 1 c) (waits 2 c) below e
   by-fit Ready = fit.serve-keeps n lines rank i (waits 0 c) (waits 1 c) (waits 2 c) known below e
   by-fit (Nobody why) = e
@@ -55,7 +55,7 @@ module _ (n : ℕ) (lines : List ℕ) (e : fitLines n lines ≡ true) (rank : �
 
   pub moved-self : (z : Sought) → isMoving z ≡ true → (q : ℕ) → q < 3 → stands i (lineAt q (movedBy z rank i c lines)) ≡ waits q c
   moved-self (Index j) m q h = relisted-self q h
-  moved-self (Asked j) m q h = absurd (false≢true m)
+  moved-self (Question j) m q h = absurd (false≢true m)
   moved-self (Packet g start x) m q h = relisted-self q h
   moved-self Ready m q h = fit.served-is-ready n lines f rank known i below (waits 0 c) (waits 1 c) (waits 2 c) q h ∙ of-rank-waits c q h
   moved-self (Nobody why) m q h = absurd (false≢true m)
@@ -67,7 +67,7 @@ module _ (n : ℕ) (lines : List ℕ) (e : fitLines n lines ≡ true) (rank : �
 
   pub moved-other : (z : Sought) (j q : ℕ) → q < 3 → (i ≡ j → ⊥) → stands j (lineAt q (movedBy z rank i c lines)) ≡ stands j (lineAt q lines)
   moved-other (Index k) j q h apart = relisted-other j q h apart
-  moved-other (Asked k) j q h apart = refl
+  moved-other (Question k) j q h apart = refl
   moved-other (Packet g start x) j q h apart = relisted-other j q h apart
   moved-other Ready j q h apart = fit.served-stays n lines f rank known i below (waits 0 c) (waits 1 c) (waits 2 c) j q h apart
   moved-other (Nobody why) j q h apart = refl
@@ -89,7 +89,7 @@ module _ (n : ℕ) (lines : List ℕ) (e : fitLines n lines ≡ true) (rank : �
 
     pub moved-place : (z : Sought) → isHanding z ≡ false → NotBack (lineAt q (movedBy z rank i c lines))
     moved-place (Index j) m = relisted-place
-    moved-place (Asked j) m = λ s. le-refl (before d l)
+    moved-place (Question j) m = λ s. le-refl (before d l)
     moved-place (Packet g start x) m = relisted-place
     moved-place Ready m = absurd (false≢true (sym m))
     moved-place (Nobody why) m = λ s. le-refl (before d l)

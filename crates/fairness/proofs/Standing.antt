@@ -39,7 +39,7 @@ use Rattle.channel.specs.declared.step.Stepped.{Stepped}
 use Rattle.sender_packets.specs.HandingOut.{againAt, nextInWindow, readyControl, readyAgain, readyNew, ready}
 use Rattle.table.specs.declared.looking.Look.{Look}
 use Rattle.table.specs.declared.looking.Sought.{Sought}
-use Rattle.table.specs.declared.looking.Sought.the-variants.{Index, Asked, Packet, Ready, Nobody}
+use Rattle.table.specs.declared.looking.Sought.the-variants.{Index, Question, Packet, Ready, Nobody}
 use Rattle.table.specs.Waiting.{waits, rankIn, movedBy, mayMove, moved}
 use Rattle.table.specs.Looking.{seeking, graded, chosen as choice}
 use Rattle.table.specs.Lent.{lawful, passes}
@@ -114,14 +114,14 @@ module _ (look : Look) (step : Step) (t : List Channel) (mem lens lines out : Li
       ∙ moved-fit (length t) lines fits (rankIn (x .grade)) (rank-known (x .grade)) (x .at) below (look .sought) (w .made))
 
   -- what is asked by a question apart, and what was found a channel: it moves that channel
-  moving : (at rank : ℕ) (c : Channel) (m l : List ℕ) → Given look at rank c m l → (z : Sought) → look .sought ≡ z → ((i : ℕ) → z ≡ Asked i → ⊥) → isMoving z ≡ true
+  moving : (at rank : ℕ) (c : Channel) (m l : List ℕ) → Given look at rank c m l → (z : Sought) → look .sought ≡ z → ((i : ℕ) → z ≡ Question i → ⊥) → isMoving z ≡ true
   moving at rank c m l g (Index i) p q = refl
-  moving at rank c m l g (Asked i) p q = absurd (q i refl)
+  moving at rank c m l g (Question i) p q = absurd (q i refl)
   moving at rank c m l g (Packet f start x) p q = refl
   moving at rank c m l g Ready p q = refl
   moving at rank c m l g (Nobody why) p q = absurd (no-one look why (g .lines) at c p (subst (λ (k : ℕ). k < 48) (g .suits) (g .found)))
 
-  pub serve-stood : ((i : ℕ) → look .sought ≡ Asked i → ⊥) → RefusalsChangeNothing t mem lens lines out (serveOne look step t mem lens lines out) → Stood t lines
+  pub serve-stood : ((i : ℕ) → look .sought ≡ Question i → ⊥) → RefusalsChangeNothing t mem lens lines out (serveOne look step t mem lens lines out) → Stood t lines
       → Stood (serveOne look step t mem lens lines out .table) (serveOne look step t mem lens lines out .lines)
   unfolding stored moved
   serve-stood not-asked still stood =
@@ -165,12 +165,12 @@ module _ (look : Look) (step : Step) (t : List Channel) (mem lens lines out : Li
 
 -- ---- whatever is asked
 
-abbrev isAsked : Sought → Bool
-isAsked (Index i) = false
-isAsked (Asked i) = true
-isAsked (Packet f start x) = false
-isAsked Ready = false
-isAsked (Nobody why) = false
+abbrev isQuestion : Sought → Bool
+isQuestion (Index i) = false
+isQuestion (Question i) = true
+isQuestion (Packet f start x) = false
+isQuestion Ready = false
+isQuestion (Nobody why) = false
 
 -- an arrival looks for a packet, or for nobody
 pub arrival-not : (is : Sought → Bool) → ((f : Fields) (start x : ℕ) → is (Packet f start x) ≡ false) → ((why : Refusal) → is (Nobody why) ≡ false)
@@ -211,11 +211,11 @@ module _ (s : Lent) (sound : Sound s) (n : Request) (x out : List ℕ) where
 
 -- a question moves nobody, and every other request moves its channel
 module _ (s : Lent) (sound : Sound s) (x out : List ℕ) where
-  by-serving : (n : Request) → isAsked (lookIn n x (length out) .sought) ≡ false
+  by-serving : (n : Request) → isQuestion (lookIn n x (length out) .sought) ≡ false
       → Stood (served (s .table) (s .mem) (s .lens) (s .lines) n x out .table) (served (s .table) (s .mem) (s .lens) (s .lines) n x out .lines)
   by-serving n not-asked =
       serve-stood (lookIn n x (length out)) (stepFor n x) (s .table) (s .mem) (s .lens) (s .lines) out (sound .tested)
-      (λ i p. true≢false (sym (ap isAsked p) ∙ not-asked))
+      (λ i p. true≢false (sym (ap isQuestion p) ∙ not-asked))
       (served-refusals-change-nothing (s .table) (s .mem) (s .lens) (s .lines) n x out) (sound .stood)
 
   served-stood : (n : Request) → Stood (served (s .table) (s .mem) (s .lens) (s .lines) n x out .table) (served (s .table) (s .mem) (s .lens) (s .lines) n x out .lines)
@@ -228,7 +228,7 @@ module _ (s : Lent) (sound : Sound s) (x out : List ℕ) where
       (subst (λ (l : List ℕ). Stood (s .table) l) (sym (question-lines-stay (s .table) (s .mem) (s .lens) (s .lines) x out index count)) (sound .stood))
   served-stood (Take index) = by-serving (Take index) refl
   served-stood (Reclaim index) = by-serving (Reclaim index) refl
-  served-stood (Arrival node) = by-serving (Arrival node) (arrival-not isAsked (λ f start n. refl) (λ why. refl) node x (length out))
+  served-stood (Arrival node) = by-serving (Arrival node) (arrival-not isQuestion (λ f start n. refl) (λ why. refl) node x (length out))
   served-stood (NextPacket node) = by-serving (NextPacket node) refl
   served-stood Unknown = by-serving Unknown refl
 

@@ -1,5 +1,6 @@
--- Nobody waits for ever (document 02, A4): 'while a channel stands in a line, at most fifteen packets of that rank are handed out before its
--- own'. Of every list of calls to a node whose lines settings or our calls alone have made.
+-- How long a channel waits in its line (document 02, A4): 'while a channel stands in a line, at most fifteen packets of that rank are handed out
+-- before its own'. Of every list of calls to a node whose table and lines settings and our calls alone have written. Packets of a rank that goes
+-- before are not counted.
 use Prim.Native.Nat.{ℕ, zero, suc, _+_, _≤_, _<_}
 use mathlib.Core.Path.{_≡_}
 use mathlib.Core.Bool.{Bool, true, false, _&&_}
@@ -118,7 +119,7 @@ ByIndex =
     → stands k (lineAt rank (after x s .lines)) ≡ true
     → before i (lineAt rank (after x s .lines)) < before k (lineAt rank (after x s .lines))
 
--- ---- nobody waits for ever
+-- ---- at most fifteen
 
 -- c stands in the line before each call, and none of them hands out a packet of c of that rank
 abbrev pub WaitsThrough : ℕ → ℕ → List Call → Lent → Type 0
@@ -132,7 +133,16 @@ Fifteen =
     (s : Lent) → Sound s → (c rank : ℕ) → rank < 3 → (calls : List Call) → WaitsThrough c rank calls s
     → (handOuts rank calls s ≤ before c (lineAt rank (s .lines))) × (handOuts rank calls s ≤ 15)
 
--- who is served is the head of its line
+-- ---- from the head, and to the tail
+
 abbrev pub FromTheHead : Type 0
 FromTheHead =
-    (s : Lent) → Sound s → (c rank : ℕ) (x : Call) → rank < 3 → handsOutOf c rank x s ≡ true → before c (lineAt rank (s .lines)) ≡ 0
+    (s : Lent) → Sound s → (c rank : ℕ) (x : Call) → rank < 3 → handsOutOf c rank x s ≡ true
+    → (stands c (lineAt rank (s .lines)) ≡ true) × (before c (lineAt rank (s .lines)) ≡ 0)
+
+-- who was served and has more stands last
+abbrev pub ToTheTail : Type 0
+ToTheTail =
+    (s : Lent) → Sound s → (c rank : ℕ) (x : Call) → rank < 3 → handsOutOf c rank x s ≡ true
+    → stands c (lineAt rank (after x s .lines)) ≡ true
+    → suc (before c (lineAt rank (after x s .lines))) ≡ length (lineAt rank (after x s .lines))

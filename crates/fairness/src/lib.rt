@@ -1,1 +1,1 @@
-// No code: nobody waits for ever (document 02, A4), of every list of calls.
+// No code: while a channel stands in a line, at most fifteen packets of that rank go before its own (document 02, A4), of every list of calls.

@@ -29,7 +29,7 @@ use Rattle.channel.specs.declared.record.Prefix.{Prefix}
 use Rattle.table.specs.declared.looking.Look.{Look}
 use Rattle.table.specs.declared.looking.Sought.{Sought}
 use Rattle.table.specs.Waiting.{rankIn}
-use Rattle.table.specs.declared.looking.Sought.the-variants.{Index, Asked, Packet, Nobody}
+use Rattle.table.specs.declared.looking.Sought.the-variants.{Index, Question, Packet, Nobody}
 use Rattle.table.specs.Looking.{seeking}
 use Rattle.table.specs.Looking.{addressed, graded, missing, Chosen, chosenFrom, isFound, chosen as choice}
 use Rattle.table.specs.Lent.{areaOf, partOf, slotAt, octetAt}
@@ -122,7 +122,7 @@ index-served i at rank c mem lens g = go (eqb i at) refl
     go false e = absurd (lt-irrefl 48 (subst (λ (k : ℕ). k < 48) (g .suits ∙ passed-by (eqb i at) 0 48 e) (g .found)))
 
 -- and so is a question
-pub asked-served : (i at rank : ℕ) (c : Channel) (mem lens : List ℕ) → Given (seeking (Asked i)) at rank c mem lens → at ≡ i
+pub asked-served : (i at rank : ℕ) (c : Channel) (mem lens : List ℕ) → Given (seeking (Question i)) at rank c mem lens → at ≡ i
 asked-served i at rank c mem lens g =
     index-served i at rank c mem lens
     (record { standing = g .standing; sized = g .sized; lines = g .lines; grade = g .grade; suits = g .suits; found = g .found; ranked = g .ranked })
@@ -165,6 +165,9 @@ ByAddresses look = (lines lines2 : List ℕ) (j : ℕ) (c d : Channel) → c .ad
 
 pub index-by-addresses : (i : ℕ) → ByAddresses (seeking (Index i))
 index-by-addresses i lines lines2 j c d e = refl
+
+pub question-by-addresses : (i : ℕ) → ByAddresses (seeking (Question i))
+question-by-addresses i lines lines2 j c d e = refl
 
 pub packet-by-addresses : (f : Fields) (q : Prefix) (start x : ℕ) → ByAddresses (record { sought = Packet f start x; prefix = q })
 packet-by-addresses f q start x lines lines2 j c d e = ap (addressed f q) e

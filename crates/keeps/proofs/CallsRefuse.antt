@@ -38,7 +38,7 @@ use Rattle.receiver_data.specs.Data.{dataStep}
 use Rattle.ends.proofs.ReceiverCases.{take-cases}
 use Rattle.ends.proofs.ReceiverRefusals as received
 use Rattle.table.specs.declared.looking.Look.{Look}
-use Rattle.table.specs.declared.looking.Sought.the-variants.{Index, Asked, Ready, Nobody}
+use Rattle.table.specs.declared.looking.Sought.the-variants.{Index, Question, Ready, Nobody}
 use Rattle.table.specs.Looking.{seeking}
 use Rattle.table.specs.Looking.{chosen as choice}
 use Rattle.table.specs.declared.looking.Sought.{Sought}
@@ -300,7 +300,7 @@ module _ (t : List Channel) (mem lens lines : List ℕ) where
   served-refusals-change-nothing (Close index) x out = serve-still (seeking (Index index)) (alone closedBy) t mem lens lines out (λ c rank m l. close-still c rank m l out)
   served-refusals-change-nothing (Transfer index) x out = serve-still (seeking (Index index)) (transferFor x) t mem lens lines out (λ c rank m l. transfer-still c rank m l out x)
   served-refusals-change-nothing (WouldTransfer index count) x out =
-      serve-still (seeking (Asked index)) (alone (askedBy count)) t mem lens lines out (λ c rank m l n. (refl, refl, refl, refl))
+      serve-still (seeking (Question index)) (alone (askedBy count)) t mem lens lines out (λ c rank m l n. (refl, refl, refl, refl))
   served-refusals-change-nothing (Take index) x out = serve-still (seeking (Index index)) takeFor t mem lens lines out (λ c rank m l. take-still c rank m l out)
   served-refusals-change-nothing (Reclaim index) x out = serve-still (seeking (Index index)) reclaimFor t mem lens lines out (λ c rank m l. reclaim-still c rank m l out)
   served-refusals-change-nothing (Arrival node) x out =

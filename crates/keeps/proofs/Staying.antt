@@ -20,7 +20,7 @@ use Rattle.channel.specs.Steps.{refusing}
 use Rattle.sender_units.specs.Reclaiming.{reclaimStep, reclaimOut}
 use Rattle.receiver_data.specs.Taking.{takeStep, takeOut}
 use Rattle.table.specs.declared.looking.Look.{Look}
-use Rattle.table.specs.declared.looking.Sought.the-variants.{Index, Asked, Ready}
+use Rattle.table.specs.declared.looking.Sought.the-variants.{Index, Question, Ready}
 use Rattle.table.specs.Looking.{seeking}
 use Rattle.table.specs.Looking.{chosen as choice}
 use Rattle.table.specs.Waiting.{rankIn, mayMove, moved}
@@ -92,21 +92,21 @@ module _ (t : List Channel) (mem lens lines x out : List ℕ) where
   next-stays node = files-nothing (seeking Ready) (nextFor node) t mem lens lines out (next-files-nothing node out)
 
   pub question-stays : (index count : ℕ) → MemoryStays mem lens (served t mem lens lines (WouldTransfer index count) x out)
-  question-stays index count = files-nothing (seeking (Asked index)) (alone (askedBy count)) t mem lens lines out (λ c rank m l. (refl, refl))
+  question-stays index count = files-nothing (seeking (Question index)) (alone (askedBy count)) t mem lens lines out (λ c rank m l. (refl, refl))
 
   -- and no record changes
   pub question-changes-nothing : (index count : ℕ) → served t mem lens lines (WouldTransfer index count) x out .table ≡ t
   unfolding stored askedBy
   question-changes-nothing index count =
-      serve-cases (seeking (Asked index)) (alone (askedBy count)) t mem lens lines out (λ (g : Called Answer Channel). g .table ≡ t) refl refl
-      (λ h below g. set-getD t (servedAt (seeking (Asked index)) (alone (askedBy count)) t mem lens lines out) blank)
+      serve-cases (seeking (Question index)) (alone (askedBy count)) t mem lens lines out (λ (g : Called Answer Channel). g .table ≡ t) refl refl
+      (λ h below g. set-getD t (servedAt (seeking (Question index)) (alone (askedBy count)) t mem lens lines out) blank)
 
   -- and no place in a line
   pub question-lines-stay : (index count : ℕ) → served t mem lens lines (WouldTransfer index count) x out .lines ≡ lines
   unfolding stored moved
   question-lines-stay index count =
-      serve-cases (seeking (Asked index)) (alone (askedBy count)) t mem lens lines out (λ (g : Called Answer Channel). g .lines ≡ lines) refl refl
-      (λ h below g. stay (mayMove (worked (seeking (Asked index)) (alone (askedBy count)) t mem lens lines out .made .answer)))
+      serve-cases (seeking (Question index)) (alone (askedBy count)) t mem lens lines out (λ (g : Called Answer Channel). g .lines ≡ lines) refl refl
+      (λ h below g. stay (mayMove (worked (seeking (Question index)) (alone (askedBy count)) t mem lens lines out .made .answer)))
     where
       stay : (b : Bool) → (if b then lines else lines) ≡ lines
       stay true = refl

@@ -1,4 +1,4 @@
--- Why nobody waits for ever: whoever is relisted, c's place is never raised; and whoever stands before c and is served lowers it by one.
+-- Why no more go before c than stood there: whoever is relisted, c's place is never raised; and whoever stands before c and is served lowers it by one.
 -- Assumes nothing.
 use mathlib.Core.Path.{_≡_, refl, sym, ap, _∙_}
 use mathlib.Core.Bool.{Bool, true, false, true≢false, false≢true}

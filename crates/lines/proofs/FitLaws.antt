@@ -13,7 +13,7 @@ use lib.ListN.{length, getD, take, drop, replicate, take-append-drop, length-dro
 use lib.Seq.{length-take-le, drop-append-seam}
 use Rattle.laws.proofs.Choice.{both, chosen, passed-by, first-not, last-not}
 use Rattle.lines.specs.Lines.{stands, without, relisted, lineOctets, lineIn, partAt, lineAt, withLine, noLines, relistIn, leftFrom, ofRank, relistAll, servedFrom}
-use Rattle.lines.specs.Fit.{below, apart, blank, fitLine, fitLines, relistSound, Line, FitLine, Fit}
+use Rattle.lines.specs.Fit.{below, apart, blank, fitLine, fitLines, relistFit, Line, FitLine, Fit}
 use Rattle.lines.proofs.LineLaws as line
 use Rattle.lines.proofs.OctetLaws as octets
 
@@ -277,15 +277,15 @@ serve-keeps n s rank i r0 r1 r2 known b e =
 -- ---- octets that may be no lines
 
 module _ (i : ℕ) (r0 r1 r2 : Bool) (s : List ℕ) where
-  pub sound-beyond : 16 ≤ i → relistSound i r0 r1 r2 s ≡ s
-  unfolding relistSound
-  sound-beyond h = passed-by (ltb i 16 && fitLines 16 s) (relistAll i r0 r1 r2 s) s (first-not (ltb i 16) (fitLines 16 s) (le-ltb i 16 h))
+  pub listed-beyond : 16 ≤ i → relistFit i r0 r1 r2 s ≡ s
+  unfolding relistFit
+  listed-beyond h = passed-by (ltb i 16 && fitLines 16 s) (relistAll i r0 r1 r2 s) s (first-not (ltb i 16) (fitLines 16 s) (le-ltb i 16 h))
 
-  pub sound-none : fitLines 16 s ≡ false → relistSound i r0 r1 r2 s ≡ s
-  unfolding relistSound
-  sound-none e = passed-by (ltb i 16 && fitLines 16 s) (relistAll i r0 r1 r2 s) s (last-not (ltb i 16) (fitLines 16 s) e)
+  pub listed-none : fitLines 16 s ≡ false → relistFit i r0 r1 r2 s ≡ s
+  unfolding relistFit
+  listed-none e = passed-by (ltb i 16 && fitLines 16 s) (relistAll i r0 r1 r2 s) s (last-not (ltb i 16) (fitLines 16 s) e)
 
-  pub sound-lines : i < 16 → fitLines 16 s ≡ true → relistSound i r0 r1 r2 s ≡ relistAll i r0 r1 r2 s
-  unfolding relistSound
-  sound-lines h e =
+  pub listed-lines : i < 16 → fitLines 16 s ≡ true → relistFit i r0 r1 r2 s ≡ relistAll i r0 r1 r2 s
+  unfolding relistFit
+  listed-lines h e =
       chosen (ltb i 16 && fitLines 16 s) (relistAll i r0 r1 r2 s) s (ap₂ (λ (a b : Bool). a && b) (lt-ltb i 16 h) e)

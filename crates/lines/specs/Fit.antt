@@ -32,8 +32,8 @@ unfoldable pub fitLines : ℕ → List ℕ → Bool
 fitLines n s = leb n 16 && eqb (length s) 51 && fitLine n (partAt 0 s) && fitLine n (partAt 1 s) && fitLine n (partAt 2 s)
 
 -- a call that left channel i with a ready packet of each rank, or without; octets that are no lines stay
-unfoldable pub relistSound : ℕ → Bool → Bool → Bool → List ℕ → List ℕ
-relistSound i r0 r1 r2 s = if ltb i 16 && fitLines 16 s then relistAll i r0 r1 r2 s else s
+unfoldable pub relistFit : ℕ → Bool → Bool → Bool → List ℕ → List ℕ
+relistFit i r0 r1 r2 s = if ltb i 16 && fitLines 16 s then relistAll i r0 r1 r2 s else s
 
 -- ---- as facts
 

@@ -9,9 +9,9 @@ ghost use Prim.Native.Nat.{_<_};
 ghost use lib.ListN.{length};
 ghost use Rattle.lines.specs.Lines.{noLines, relistIn, leftFrom, relistAll, servedFrom};
 ghost use Rattle.lines.specs.Grades.{gradeIn, gradeOf};
-ghost use Rattle.lines.specs.Fit.{Fit, relistSound};
+ghost use Rattle.lines.specs.Fit.{Fit, relistFit};
 
-// The grade of a channel that waits for nothing.
+// The grade of a channel that stands in no line with a packet of its rank ready.
 pub const IDLE: usize = 48;
 
 // The grade of channel i, with a ready packet of each rank or without: the least is served next.
@@ -84,7 +84,7 @@ fn leave_from(lines: &mut [u8], rank: usize, i: u8)
 
 // The lines by value, for a tick to carry through its round; what is none stays.
 pub fn relisted(lines: [u8; 51], i: usize, r0: bool, r1: bool, r2: bool) -> [u8; 51]
-    ensures { λ r. ⌜ r ≡ relistSound i r0 r1 r2 lines ⌝ }
+    ensures { λ r. ⌜ r ≡ relistFit i r0 r1 r2 lines ⌝ }
 {
     if 16 <= i {
         return lines;

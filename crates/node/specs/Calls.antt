@@ -10,7 +10,7 @@ use Rattle.channel.specs.declared.answer.Answer.{Answer}
 use Rattle.channel.specs.declared.answer.Refusal.the-variants as refusal
 use Rattle.channel.specs.Steps.{refusing}
 use Rattle.table.specs.declared.looking.Look.{Look}
-use Rattle.table.specs.declared.looking.Sought.the-variants.{Index, Asked, Ready, Nobody}
+use Rattle.table.specs.declared.looking.Sought.the-variants.{Index, Question, Ready, Nobody}
 use Rattle.table.specs.Looking.{seeking}
 use Rattle.table.specs.Serving.{Step, serveOne, indexServed, tableOf, alone}
 use Rattle.requests.specs.Requests.{openedBy, closedBy, transferFor, askedBy, takeFor, reclaimFor}
@@ -26,7 +26,7 @@ abbrev pub lookIn : Request → List ℕ → ℕ → Look
 lookIn (Open index) x room = seeking (Index index)
 lookIn (Close index) x room = seeking (Index index)
 lookIn (Transfer index) x room = seeking (Index index)
-lookIn (WouldTransfer index count) x room = seeking (Asked index)
+lookIn (WouldTransfer index count) x room = seeking (Question index)
 lookIn (Take index) x room = seeking (Index index)
 lookIn (Reclaim index) x room = seeking (Index index)
 lookIn (Arrival node) x room = lookOf node x room

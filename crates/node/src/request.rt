@@ -35,7 +35,7 @@ pub fn look_in(n: Request, x: &[u8], room: usize) -> Look
         Request::Open(index) => seek(Sought::Index(index)),
         Request::Close(index) => seek(Sought::Index(index)),
         Request::Transfer(index) => seek(Sought::Index(index)),
-        Request::WouldTransfer { index, count: _ } => seek(Sought::Asked(index)),
+        Request::WouldTransfer { index, count: _ } => seek(Sought::Question(index)),
         Request::Take(index) => seek(Sought::Index(index)),
         Request::Reclaim(index) => seek(Sought::Index(index)),
         Request::Arrival(node) => look_of(node, x, room),

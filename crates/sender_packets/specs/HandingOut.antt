@@ -1,4 +1,4 @@
--- Which packet of a channel is next, of what rank, and its hand-out (document 01, Sending: Control before resent Data before new Data; within a
+-- Of which ranks a packet of a channel is ready, and the hand-out of that of a rank (document 01, Sending: Control, resent Data, new Data; within a
 -- channel the lowest segment).
 use Prim.Native.Nat.{ℕ, zero, suc, _+_, _-_, _%_}
 use mathlib.Core.Bool.{Bool, false, _&&_, _||_}

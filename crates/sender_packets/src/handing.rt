@@ -1,5 +1,5 @@
-// Which packet of a channel is next, of what rank: Control before resent Data before new Data, and within a channel the lowest segment; and its
-// hand-out, whole or not at all.
+// Of which ranks a packet of a channel is ready (Control, resent Data, new Data), of each the lowest segment; and the hand-out of that of a rank, whole
+// or not at all.
 use channel::Channel;
 use channel::Limits;
 use channel::Lone;

@@ -1,4 +1,4 @@
-// The packets of a transmit end: which is next, of what rank, and its hand-out (document 01, Sending).
+// The packets of a transmit end: of which ranks one is ready, and the hand-out of that of a rank (document 01, Sending).
 pub mod handing;
 
 pub use handing::Ranks;

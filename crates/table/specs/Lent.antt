@@ -1,4 +1,4 @@
--- The lent table, memory and lengths (document 01, A channel's record and memory): 'A node's memories lie one after another in table order'.
+-- The lent table, memory, lengths and lines (document 01, A channel's record and memory): 'A node's memories lie one after another in table order'.
 use Prim.Native.Nat.{ℕ, _+_, _*_}
 use mathlib.Core.Bool.{Bool, true, _&&_}
 use mathlib.Core.List.{List, [], _∷_}

@@ -18,7 +18,7 @@ use Rattle.channel.specs.Record.{sends, receives}
 use Rattle.channel.specs.Prefixes.{samePrefix, noPrefix}
 use Rattle.table.specs.declared.looking.Look.{Look}
 use Rattle.table.specs.declared.looking.Sought.{Sought}
-use Rattle.table.specs.declared.looking.Sought.the-variants.{Index, Asked, Packet, Ready, Nobody}
+use Rattle.table.specs.declared.looking.Sought.the-variants.{Index, Question, Packet, Ready, Nobody}
 use Rattle.table.specs.Waiting.{gradeAt}
 
 -- the direction of the record that a packet of a kind looks for
@@ -53,7 +53,7 @@ addressed f q a = if same a f q then 0 else 48
 -- the record at index j; the packet that goes next is of the channel whose turn it is by the lines
 abbrev pub gradedBy : Sought → Prefix → List ℕ → ℕ → Channel → ℕ
 gradedBy (Index i) q lines j c = indexed i j
-gradedBy (Asked i) q lines j c = indexed i j
+gradedBy (Question i) q lines j c = indexed i j
 gradedBy (Packet f start x) q lines j c = addressed f q (c .addresses)
 gradedBy Ready q lines j c = gradeAt j c lines
 gradedBy (Nobody why) q lines j c = 48
@@ -81,7 +81,7 @@ isFound x = ltb (x .grade) 48
 -- the refusal where none suits: 14, for the next packet 12
 abbrev pub missing : Sought → Refusal
 missing (Index i) = refusal.NoChannel
-missing (Asked i) = refusal.NoChannel
+missing (Question i) = refusal.NoChannel
 missing (Packet f start x) = refusal.NoChannel
 missing Ready = refusal.Nothing
 missing (Nobody why) = why

@@ -1,5 +1,5 @@
 -- A call that serves one channel: the test for 13, then the record that it is for (14, 12), then that channel's own step on its record, its
--- octets and its lengths; all else stays as it was (document 01, Answer numbers: 'reads and changes its own channel alone').
+-- octets and its lengths, and its place in the lines (document 02, A4); all else stays as it was (document 01, Answer numbers: 'reads and changes its own channel alone').
 use Prim.Native.Nat.{ℕ}
 use mathlib.Core.Bool.{Bool, not}
 use mathlib.Core.List.{List}
@@ -44,7 +44,7 @@ ownMem t i mem = partOf (octetAt t i) (areaOf (recordAt t i .limits)) mem
 abbrev pub ownLens : List Channel → ℕ → List ℕ → List ℕ
 ownLens t i lens = partOf (slotAt t i) (recordAt t i .limits .slots) lens
 
--- a step of one channel: of its record, the rank of the packet that is ready, its octets, its lengths and the lent buffer
+-- a step of one channel: of its record, the rank of its grade (which counts for a hand-out alone), its octets, its lengths and the lent buffer
 abbrev pub Step : Type 0
 Step = Channel → ℕ → List ℕ → List ℕ → List ℕ → Worked Stepped
 

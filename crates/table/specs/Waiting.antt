@@ -15,7 +15,7 @@ use Rattle.channel.specs.Record.{sends}
 use Rattle.sender_packets.specs.declared.handing.Ranks.{Ranks}
 use Rattle.sender_packets.specs.HandingOut.{ready}
 use Rattle.table.specs.declared.looking.Sought.{Sought}
-use Rattle.table.specs.declared.looking.Sought.the-variants.{Index, Asked, Packet, Ready, Nobody}
+use Rattle.table.specs.declared.looking.Sought.the-variants.{Index, Question, Packet, Ready, Nobody}
 
 -- a sender with a ready packet of this rank; a receiver hands out nothing
 unfoldable pub waits : ℕ → Channel → Bool
@@ -45,7 +45,7 @@ servedFor rank i c lines = servedFrom rank i (waits 0 c) (waits 1 c) (waits 2 c)
 -- by what the call looked for, and by what is ready then; a question moves nobody
 abbrev pub movedWith : Sought → ℕ → ℕ → Ranks → List ℕ → List ℕ
 movedWith (Index index) rank i w lines = relistAll i (w .control) (w .again) (w .fresh) lines
-movedWith (Asked index) rank i w lines = lines
+movedWith (Question index) rank i w lines = lines
 movedWith (Packet f start x) rank i w lines = relistAll i (w .control) (w .again) (w .fresh) lines
 movedWith Ready rank i w lines = servedFrom rank i (w .control) (w .again) (w .fresh) lines
 movedWith (Nobody why) rank i w lines = lines

@@ -64,7 +64,7 @@ fn refusal(sought: Sought) -> Refusal
 {
     match sought {
         Sought::Index(_) => Refusal::NoChannel,
-        Sought::Asked(_) => Refusal::NoChannel,
+        Sought::Question(_) => Refusal::NoChannel,
         Sought::Packet {
             fields: _,
             start: _,

@@ -19,7 +19,7 @@ pub enum Sought {
     // A request names its channel.
     Index(usize),
     // So does a question, which moves nobody in the lines.
-    Asked(usize),
+    Question(usize),
     // A packet that was read, with where its payload begins and how many octets it has.
     Packet {
         fields: Fields,
@@ -113,7 +113,7 @@ pub fn grade(look: Look, lines: [u8; 51], j: usize, c: Channel) -> usize
     let sought = look.sought;
     match sought {
         Sought::Index(i) => grade_index(i, j),
-        Sought::Asked(i) => grade_index(i, j),
+        Sought::Question(i) => grade_index(i, j),
         Sought::Packet {
             fields,
             start: _,

@@ -38,7 +38,7 @@ pub struct Spot {
     pub grade: usize,
 }
 
-// What the records so far have shown: what is looked for, the lines, whether all stand, how many slots and octets they have together, and the best.
+// What the records so far have shown: what is looked for, the lines, whether they are lines and all records stand, how many slots and octets they have together, and the best.
 pub struct Survey {
     pub look: Look,
     pub lines: [u8; 51],

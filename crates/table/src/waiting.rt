@@ -43,7 +43,7 @@ fn move_by(lines: &mut [u8], sought: Sought, rank: usize, i: usize, w: Ranks)
 {
     match sought {
         Sought::Index(_) => relist(lines, i, w.control, w.again, w.fresh),
-        Sought::Asked(_) => {}
+        Sought::Question(_) => {}
         Sought::Packet {
             fields: _,
             start: _,
@@ -69,8 +69,8 @@ fn may_move(a: Answer) -> bool
     }
 }
 
-// The channel at index i joins, leaves or keeps its place in each line, by the answer of a call and by what is then ready. The record itself is not
-// handed over: a call has little stack.
+// The channel at index i joins, leaves or keeps its place in each line, by the answer of a call and by what is then ready: that is handed over,
+// and not the record, which is 920 octets.
 pub fn move_lines(lines: &mut [u8], sought: Sought, rank: usize, i: usize, answer: Answer, w: Ranks)
     requires { ⌜ (Fit 16 (now lines)) × (rank < 3) × (i < 16) ⌝ }
     ensures { λ _. ⌜ now (lines .exit) ≡ (if mayMove answer then movedWith sought rank i w (now (lines .entry)) else now (lines .entry)) ⌝ }

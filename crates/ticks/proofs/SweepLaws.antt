@@ -17,7 +17,7 @@ use Rattle.channel.specs.declared.answer.Refusal.the-variants as refusal
 use Rattle.channel.proofs.StandingLaws.{stands-is, ringed}
 use Rattle.lines.specs.Lines.{noLines}
 use Rattle.lines.specs.Fit.{fitLines}
-use Rattle.lines.proofs.FitLaws.{few-of, fit-facts, fit-test, tested, sound-lines, relist-keeps}
+use Rattle.lines.proofs.FitLaws.{few-of, fit-facts, fit-test, tested, listed-lines, relist-keeps}
 use Rattle.laws.proofs.Choice.{chosen}
 use Rattle.table.specs.Waiting.{waits, relistedFor}
 use Rattle.table.specs.declared.looking.Sought.the-variants.{Nobody}
@@ -92,7 +92,7 @@ swept-lines n (c ∷ t) f i lines h e =
     let few = few-of n lines (fit-facts n lines e) in
     let d = tickOf c in
     let here : linedBy i d lines ≡ relistedFor i d lines =
-    sound-lines i (waits 0 d) (waits 1 d) (waits 2 d) lines (omega (arith, few, h)) (fit-test 16 lines (tested n lines e)) in
+    listed-lines i (waits 0 d) (waits 1 d) (waits 2 d) lines (omega (arith, few, h)) (fit-test 16 lines (tested n lines e)) in
     let on : nextAt i ≡ i + 1 = chosen (ltb i 16) (i + 1) i (lt-ltb i 16 (omega (arith, few, h))) in
     ap₂ (λ (k : ℕ) (l : List ℕ). sweptRound t (firstRound (firstBy (tickedBy c) f) k l) .lines) on here
     ∙ swept-lines n t (firstBy (tickedBy c) f) (i + 1) (relistedFor i d lines) (omega (arith, h))

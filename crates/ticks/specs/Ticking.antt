@@ -6,7 +6,7 @@ use mathlib.Core.List.{List}
 use lib.Dec.{ltb, eqb}
 use Rattle.laws.specs.Choice.{if_then_else_}
 use Rattle.channel.specs.declared.record.Channel.{Channel}
-use Rattle.lines.specs.Fit.{relistSound}
+use Rattle.lines.specs.Fit.{relistFit}
 use Rattle.channel.specs.Record.{sends}
 use Rattle.sender.specs.Ticking as sender
 use Rattle.receiver.specs.Receiving as receiver
@@ -41,7 +41,7 @@ nextAt at = if ltb at 16 then at + 1 else at
 
 -- the channel joins and leaves by what the tick has left of it
 abbrev pub linedBy : ℕ → Channel → List ℕ → List ℕ
-linedBy at c lines = relistSound at (waits 0 c) (waits 1 c) (waits 2 c) lines
+linedBy at c lines = relistFit at (waits 0 c) (waits 1 c) (waits 2 c) lines
 
 abbrev pub roundBy : Ticked → Round → Round
 roundBy x r = record { first = firstBy x (r .first); at = nextAt (r .at); lines = linedBy (r .at) (x .channel) (r .lines) }

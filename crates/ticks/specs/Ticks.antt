@@ -1,4 +1,5 @@
--- The call `tick`, as one function of what it is given: every channel is ticked, each alone (document 01, Answer numbers).
+-- The call `tick`, as one function of what it is given: every channel is ticked, each alone (document 01, Answer numbers),
+-- and then joins and leaves the lines by what is ready (document 02, A4).
 use mathlib.Core.Bool.{Bool, true, false, _||_}
 use mathlib.Core.List.{List, [], _∷_, map}
 use Prim.Native.Nat.{ℕ, suc, _+_}

@@ -1,4 +1,4 @@
-// A tick of the whole node: every channel is ticked, each alone.
+// A tick of the whole node: every channel is ticked, each alone, and listed by what is then ready.
 use channel::Answer;
 use channel::Channel;
 use channel::Refusal;

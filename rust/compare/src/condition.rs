@@ -1,5 +1,4 @@
-//! The test for 13, written from docs/CONDITION.md, and of the lines from
-//! document 02, A4: what a table that was overwritten must be answered.
+//! The test for 13 as docs/CONDITION.md has it, that of the lines too: what a table that was overwritten must be answered.
 
 use proved::record::{direction, lone, state, Channel, Limits, Prefix, LINES};
 

@@ -2,7 +2,7 @@
 //! and tables of 0 or 17 records: every call but settings is answered 13, and
 //! nothing has changed. The peer keeps its storage to itself, so that this is
 //! asked of the proved library alone; settings over such storage are asked of
-//! both, in `bounds`.
+//! both, in `bounds`, and lines of every other call too, in `world`.
 
 use crate::call::{unlawful, Call, Lent};
 use crate::tally::Tally;
@@ -64,6 +64,20 @@ pub const WRONGS: [Wrong; 13] = [
     }),
 ];
 
+fn any_call<'a>(index: usize, packet: &'a [u8], noise: &mut Noise) -> Call<'a> {
+    match noise.below(9) {
+        0 => Call::Open(index),
+        1 => Call::Close(index),
+        2 => Call::Transfer(index, &[7; 3]),
+        3 => Call::Take(index),
+        4 => Call::Reclaim(index),
+        5 => Call::NextPacket,
+        6 => Call::Arrival(packet),
+        7 => Call::WouldTransfer(index, 3),
+        _ => Call::Tick,
+    }
+}
+
 /// Lends something of another size to any call.
 pub fn lend_wrongly(twin: &Twin, packet: &[u8], noise: &mut Noise, tally: &mut Tally) {
     let (name, wrong) = noise.one_of(&WRONGS);
@@ -75,19 +89,7 @@ pub fn lend_wrongly(twin: &Twin, packet: &[u8], noise: &mut Noise, tally: &mut T
     };
     wrong(&mut lent);
     let before = lent.clone();
-    let index = noise.below(twin.table.len() + 1);
-    let unit = [7; 3];
-    let call = match noise.below(9) {
-        0 => Call::Open(index),
-        1 => Call::Close(index),
-        2 => Call::Transfer(index, &unit),
-        3 => Call::Take(index),
-        4 => Call::Reclaim(index),
-        5 => Call::NextPacket,
-        6 => Call::Arrival(packet),
-        7 => Call::WouldTransfer(index, 3),
-        _ => Call::Tick,
-    };
+    let call = any_call(noise.below(twin.table.len() + 1), packet, noise);
     let mut out = [0xA5; 64];
     let said = call.of_proved(Lent {
         node: twin.node,

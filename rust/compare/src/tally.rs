@@ -5,8 +5,8 @@ use std::fmt;
 
 /// The answers that each call can give: those that docs/PROMISES.md lists for
 /// it, from document 01, Answer numbers. 13 comes from each but settings where
-/// a record lacks its condition, a size is wrong, or the records are not 1 to
-/// 16. The lines of arrivals say what kind of packet came: 'read' for one that
+/// a record lacks its condition, the lines are none of the table's, a size is
+/// wrong, or the records are not 1 to 16. The lines of arrivals say what kind of packet came: 'read' for one that
 /// passes the tests 11, 1, 2, 4 and the first 3, and so has a kind that counts.
 /// Data alone can find the slots full or have a payload over P; an Ack alone
 /// is ignored; a receive end alone goes inactive by a packet or answers 15, and

@@ -66,7 +66,8 @@ pub enum Refusal {
     },
     /// There is nothing to hand out.
     Nothing,
-    /// Bad settings, sizes that do not fit, lines that are not sound, or a
+    /// Bad settings, sizes that do not fit, lines that are none of the
+    /// table's, or a
     /// record that lacks its standing condition.
     Settings,
     /// No such channel.

@@ -197,8 +197,8 @@ pub fn reclaim(
     }
 }
 
-/// The packet that goes out next: 0, 11, 12 or 13. Of each rank it is that of the
-/// first in its line who has one ready.
+/// The packet that goes out next: 0, 11, 12 or 13. Control before resent Data before
+/// new Data; of a rank that of the first in its line who has one ready.
 pub fn next_packet(
     table: &mut [Channel],
     memory: &mut [u8],

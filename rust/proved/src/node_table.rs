@@ -9,8 +9,8 @@ use crate::words::{Reason, State};
 
 /// A node over its lent table, memory, lengths and lines.
 ///
-/// Every call keeps the standing condition of each record (docs/CONDITION.md), and
-/// settings establish it; as only the calls here can change a record or the lines,
+/// Every call keeps the standing condition of each record and that of the lines
+/// (docs/CONDITION.md), and settings establish both; as only the calls here can change a record or the lines,
 /// none of them ever answers [`Refusal::Settings`].
 #[derive(Debug)]
 pub struct NodeTable<'a> {

@@ -122,7 +122,8 @@ fn sound_lines_count() {
     }
 }
 
-/// It has an Open ready and stands in no line: it is not served before a tick.
+/// It has an Open ready and stands in another line than that of Control: it is not
+/// served before a tick.
 #[test]
 fn a_tick_puts_them_right() {
     let mut end = made();

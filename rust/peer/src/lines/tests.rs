@@ -9,7 +9,7 @@ fn lines(queues: [&[usize]; 3]) -> Lines {
     lines
 }
 
-/// "3 x (1 + 16) octets": of each line a count, then the indexes, then zeros.
+/// 3 x (1 + 16) octets: of each line a count, then the indexes, then zeros.
 #[test]
 fn octets_there_and_back() {
     let full: Vec<usize> = (0..16).rev().collect();
@@ -29,7 +29,7 @@ fn octets_there_and_back() {
     }
 }
 
-/// "indexes in range, none twice", and nothing behind them.
+/// Indexes in range, none twice, and nothing behind them.
 #[test]
 fn octets_that_are_no_lines() {
     let mut octets = [0; LINE_OCTETS];

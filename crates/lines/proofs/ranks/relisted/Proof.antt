@@ -16,7 +16,7 @@ use Rattle.lines.proofs.ranks.relist_copy.Reads as relist-copy-reads
 returns : tie.Need-returns
 returns c =
     let a = c .before .args in
-    sym (fit.sound-beyond (a .i) (a .r0) (a .r1) (a .r2) (a .t1) (c .if1 .taken))
+    sym (fit.listed-beyond (a .i) (a .r0) (a .r1) (a .r2) (a .t1) (c .if1 .taken))
 
 slice-aggregate-is-fit : tie.Need-slice-aggregate-is-fit
 slice-aggregate-is-fit c = search needs
@@ -28,7 +28,7 @@ returns-2 : tie.Need-returns-2
 returns-2 c =
     let a = c .before .before .before .before .args in
     let e : fitLines 16 (a .t1) ≡ false = sym (c .before .is-fit .ensures) ∙ not-true _ (c .if2 .taken) in
-    sym (fit.sound-none (a .i) (a .r0) (a .r1) (a .r2) (a .t1) e)
+    sym (fit.listed-none (a .i) (a .r0) (a .r1) (a .r2) (a .t1) e)
 
 relist-copy-requires : tie.Need-relist-copy-requires
 relist-copy-requires c κs =
@@ -40,7 +40,7 @@ returns-3 : tie.Need-returns-3
 returns-3 c =
     let a = c .before .before .before .before .before .args in
     let e : fitLines 16 (a .t1) ≡ true = sym (c .before .before .is-fit .ensures) ∙ not-false _ (c .before .if2 .left) in
-    c .relist-copy .ensures ∙ sym (fit.sound-lines (a .i) (a .r0) (a .r1) (a .r2) (a .t1) (c .before .before .before .before .if1 .left) e)
+    c .relist-copy .ensures ∙ sym (fit.listed-lines (a .i) (a .r0) (a .r1) (a .r2) (a .t1) (c .before .before .before .before .if1 .left) e)
 
 pub relisted-spec : {M : Type 1} → statement M
 relisted-spec =

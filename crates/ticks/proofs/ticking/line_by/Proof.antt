@@ -1,7 +1,7 @@
 -- `ticks::ticking::line_by` meets its contract: what waits, and the lines by it.
 -- Assumes nothing.
 use mathlib.Core.Path.{ap, _∙_}
-use Rattle.lines.specs.Fit.{relistSound}
+use Rattle.lines.specs.Fit.{relistFit}
 use Rattle.sender_packets.specs.declared.handing.Ranks.{Ranks}
 use borrow.Author.Needs.{needs}
 use Rattle.ticks.proofs.ticking.line_by.Statement.{statement}
@@ -20,7 +20,7 @@ relisted-requires c κs = search needs
 returns : tie.Need-returns
 returns c =
     let a = c .before .before .args in
-    c .relisted .ensures ∙ ap (λ (w : Ranks). relistSound (a .at) (w .control) (w .again) (w .fresh) (a .lines)) (c .before .waiting .ensures)
+    c .relisted .ensures ∙ ap (λ (w : Ranks). relistFit (a .at) (w .control) (w .again) (w .fresh) (a .lines)) (c .before .waiting .ensures)
 
 pub line-by-spec : {M : Type 1} → statement M
 line-by-spec = tie.close (tie.spec waiting-requires relisted-requires returns)

@@ -78,7 +78,7 @@ fn sixteen_take_turns() {
     assert_eq!(rig.next(), Err(12));
 }
 
-/// "a channel whose next number is past the window stands in no line", and
+/// A channel whose next number is past the window stands in no line, and
 /// joins when an Ack moves the window.
 #[test]
 fn past_the_window_nobody_stands() {
@@ -113,7 +113,7 @@ fn those_who_join_in_a_tick_stand_by_index() {
     assert_eq!(order(&mut rig, 4), [3, 5, 9, 7]);
 }
 
-/// Out by an Ack, "back in at the tail".
+/// Out by an Ack, back in at the tail.
 #[test]
 fn who_leaves_by_an_ack_comes_back_last() {
     let mut rig = Rig::new(&[sending(0), sending(1), sending(2)]);
@@ -153,8 +153,8 @@ fn who_leaves_open_leaves_the_lines() {
     assert_eq!(standing(&rig), [vec![0], vec![], vec![]]);
 }
 
-/// "A channel that is ready before and after a call keeps its place, also if the
-/// packet is another one": the late Ack of an Open that waits to be resent brings
+/// A channel that is ready before and after a call keeps its place, also if the
+/// packet is another one: the late Ack of an Open that waits to be resent brings
 /// the kept Close.
 #[test]
 fn who_is_ready_before_and_after_keeps_its_place() {

@@ -1,6 +1,6 @@
-//! Lines that the caller wrote into. They are lent, "with a condition": what
-//! breaks it is 13. What keeps it counts as it lies there: "a stander that is not
-//! ready is passed over", and a call puts its own channel where it belongs.
+//! Lines that the caller wrote into. They are lent, with a condition: what
+//! breaks it is 13. What keeps it counts as it lies there: a stander that is not
+//! ready is passed over, and a call puts its own channel where it belongs.
 
 use super::*;
 
