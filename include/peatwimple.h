@@ -5,16 +5,17 @@
  *   - each pointer is good for its count of elements, and aligned; with a count of 0 it is not followed;
  *   - what a call may change (a pointer without const) overlaps nothing else that is lent to the same call;
  *   - no other thread uses what is lent while the call runs. Calls on other tables may run at the same time;
- *   - the stack has room: 16 KB do. Up to 13.8 KB was measured for a call (tests/c/stack.c), which is no proved bound.
+ *   - the stack has room: 16 KB do. Up to 14.4 KB was measured for a call (tests/c/stack.c), which is no proved bound.
  * Any octets, any records, any counts may be lent: what is wrong is refused by number and never undefined.
  *
  * A node is lent in four parts, the same ones in every call; PeatLent, below, holds all four:
  *   table    1 to 16 records, one for each channel; a call's index counts from 0
  *   memory   exactly slots * payload octets for each record, one after another in table order
  *   lengths  exactly one 16-bit number for each slot, in table order
- *   lines    exactly 51 octets, 17 for each of three ranks (Control, resent Data, new Data): how many channels stand in that line, 0 to 16,
- *            then their indexes from the head on, none of them twice, then zeros. peat_settings empties them; a call that answers 0, 9 or
- *            15 puts its own channel into a line or takes it out, a tick any channel. 13 and the next packet alone depend on them
+ *   lines    exactly 51 octets, 17 for each of three ranks (Control and Heartbeats, resent Data, new Data): how many channels stand in that
+ *            line, 0 to 16, then their indexes from the head on, none of them twice, then zeros. peat_settings empties them; a call that
+ *            answers 0, 9 or 15 puts its own channel into a line or takes it out, a tick any channel. 13 and the next packet alone depend
+ *            on them
  * Every call but peat_settings first tests these sizes, the lines, and the standing condition of each record (docs/CONDITION.md): else 13.
  *
  * A refusal is any answer but 0, 9 and 15. It leaves table, memory, lengths, lines and buffer as they were, to the last octet. A call that
@@ -25,6 +26,12 @@
  *
  * With 11 the answer's length says how many octets were wanted, and none was written: what is to be read from a buffer, or sent, is told
  * by 0 and 15 alone.
+ *
+ * A Heartbeat asks the other end whether it is still there. An end, be it a sender or a receiver, makes one when its interval has passed in
+ * OPEN and it has sent neither Data nor an Ack meanwhile; it has the timeout and the retries of any packet. One that gets no answer closes its
+ * channel with the reason PEAT_UNANSWERED, and units stay as in any close. So receivers hand out packets, too: a subscriber's box whose
+ * channels have an interval calls peat_tick and peat_next_packet as a host does, and sends what it is given. An end whose interval is 0 makes
+ * none, and answers those that arrive.
  *
  * A packet has 12 + N + X octets: N, 0 to 15, are of the prefix of its source address, X of its payload. What goes out has the own prefix of
  * its channel, and begins with the other node's logical address. The destination identifiers before that (000, 4.2.2.1), by which it is led
@@ -56,15 +63,15 @@ PeatSaid peat_settings(PeatChannel *table, size_t records, const uint8_t *memory
  *   13, 14  sizes, lines or records; no record has the index
  *   5       the channel is not CLOSED
  *   10      units are unreclaimed (sender) or untaken (receiver)
- *   0       ENABLED, a new opening: window start 1, no mark, no timer, no reason; at a sender an Open is ready */
+ *   0       ENABLED, a new opening: window start 1, no mark, no timer, no Heartbeat, no reason; at a sender an Open is ready */
 PeatSaid peat_open(PeatChannel *table, size_t records, uint8_t *memory, size_t octets, uint16_t *lengths, size_t slots, uint8_t *lines,
                    size_t line_octets, size_t index);
 
 /* A Close directive.
  *   13, 14  as above
  *   5       a receiver; a sender in CLOSED or CLOSING; one in ENABLED that keeps a Close already
- *   0       in ENABLED: kept until the Open is acknowledged. In OPEN: CLOSING, a Close is ready, no Data goes out any more; every
- *           unconfirmed unit is still held, whole */
+ *   0       in ENABLED: kept until the Open is acknowledged. In OPEN: CLOSING, a Close is ready, no Data and no Heartbeat goes out any
+ *           more; every unconfirmed unit is still held, whole */
 PeatSaid peat_close(PeatChannel *table, size_t records, uint8_t *memory, size_t octets, uint16_t *lengths, size_t slots, uint8_t *lines,
                     size_t line_octets, size_t index);
 
@@ -97,15 +104,16 @@ PeatSaid peat_take(PeatChannel *table, size_t records, uint8_t *memory, size_t o
 PeatSaid peat_reclaim(PeatChannel *table, size_t records, uint8_t *memory, size_t octets, uint16_t *lengths, size_t slots, uint8_t *lines,
                       size_t line_octets, size_t index, uint8_t *out, size_t count);
 
-/* The packet that goes out next: Control before resent Data before new Data; of a rank that of the first in its line who has one ready;
- * within a channel the lowest segment. A sender joins the line of a rank at the tail when it has a packet of that rank ready and had none
+/* The packet that goes out next: Control and Heartbeats before resent Data before new Data; of a rank that of the first in its line who has one
+ * ready; within a channel the lowest segment. Of a receiver it is a Heartbeat, and nothing else. Data that is handed out starts the channel's
+ * interval anew, a Heartbeat does not. A channel joins the line of a rank at the tail when it has a packet of that rank ready and had none
  * before; those that join in one tick stand by index. It leaves when it has none any more. When its packet is handed out it goes to the tail
  * if it has another of that rank ready. So of a table and lines that the calls alone have written: who has a packet ready stands in its line, and while it
  * stands there at most 15 packets of that rank go out before its own. Lines that a caller has written into count as they are: who stands
  * there with nothing ready is passed over, who has something ready and does not stand is not served of that rank, until a call that serves
  * it and answers 0, 9 or 15 (peat_would_transfer apart), or a tick, puts that right. 12 + N + P octets hold any packet of a channel whose own prefix has N.
  *   13      as above
- *   12      no sender that stands in a line has a packet of its rank ready; the index is that of no channel
+ *   12      no channel that stands in a line has a packet of its rank ready; the index is that of no channel
  *   11      the one that goes next is longer than the buffer, and is still ready: length tells its octets, index whose it is. Its channel
  *           keeps its place
  *   0       the packet at the front of out, its octets counted by length; its timer runs from the timeout on */
@@ -119,27 +127,32 @@ PeatSaid peat_next_packet(PeatChannel *table, size_t records, uint8_t *memory, s
  *   11      the reply buffer has under 12 octets, whatever came: length is 12
  *   1, 2, 4, 3  the packet is refused alone; 3 also for Data with flags first or continuation and no payload, and for another node's
  *           destination or protocol ID
- *   14      no record has its channel number, source and prefix: Data and Control look for a receiver, Acks for a sender
- *   11      Data, Open or Close, and the reply buffer has under 12 + N octets, whatever would be answered: length is 12 + N
+ *   14      no record has its channel number, source and prefix: Data and Control look for a receiver, Data Acks and Control Acks for a
+ *           sender, Heartbeats and their Acks for either
+ *   11      Data, Open, Close or Heartbeat, and the reply buffer has under 12 + N octets, whatever would be answered: length is 12 + N
  *   3       Data with a payload over P
  *   5       the state does not allow it
  *   16      an ack that nothing waits for
  *   15      a second Open before Data, a further Close, or Data held already or at most k behind the window: the reply alone is written,
- *           an Ack
+ *           an Ack. In OPEN the channel's interval starts anew
  *   8       new Data as many slots or more past the oldest segment not yet taken
  *   9       the channel went inactive for the reason told, Data more than k behind the window being one: CLOSED, units complete by then
  *           stay to be taken, unfinished ones go. No reply is written. With the reason flags the segment was filed, else no octet and
  *           no length has changed
- *   0       Data: filed in its slot, and a Data Ack is the reply. Open or Close: its state, and a Control Ack is the reply. A Control Ack:
- *           its state, no reply. A Data Ack: recorded, no reply; confirmed tells how many units it confirmed, whose slots are free */
+ *   0       Data: filed in its slot, and a Data Ack is the reply. Open or Close: its state, and a Control Ack is the reply. A Heartbeat, in
+ *           OPEN and whatever its number: a Heartbeat Ack with that number is the reply. In OPEN each of these replies starts the channel's
+ *           interval anew. A Control Ack: its state, no reply. A Data Ack: recorded, no reply; confirmed tells how many units it confirmed,
+ *           whose slots are free. A Heartbeat Ack: the Heartbeat that waited for it is gone, no reply */
 PeatSaid peat_arrival(PeatChannel *table, size_t records, uint8_t *memory, size_t octets, uint16_t *lengths, size_t slots, uint8_t *lines,
                       size_t line_octets, PeatNode node, const uint8_t *packet, size_t packet_count, uint8_t *reply, size_t reply_count);
 
-/* One tick of every timer of every channel: a packet whose timer ends is ready again, or with no resend left its channel goes inactive; a
- * receiver whose close timer ends is CLOSED. Each channel then joins and leaves the lines, in table order.
+/* One tick of every timer of every channel, receivers too: a packet whose timer ends is ready again, or with no resend left its channel goes
+ * inactive; a receiver whose close timer ends is CLOSED. Then, in OPEN, of the interval: as it ends a Heartbeat is ready, unless there is one
+ * that is ready or not acknowledged, and it starts anew. Each channel then joins and leaves the lines, in table order.
  *   13  as above
- *   9   some channel went inactive, by its retries; all were ticked, and each record says its own reason. Units are still held. The index
- *       is the lowest of those that went inactive in this tick, and the reason is that channel's
+ *   9   some channel went inactive, by the retries of a sender's packets or those of a Heartbeat; all were ticked, and each record says its
+ *       own reason. A sender's units are still held, a receiver's complete ones stay to be taken. The index is the lowest of those that went
+ *       inactive in this tick, and the reason is that channel's
  *   0   all were ticked; the index is that of no channel */
 PeatSaid peat_tick(PeatChannel *table, size_t records, const uint8_t *memory, size_t octets, const uint16_t *lengths, size_t slots,
                    uint8_t *lines, size_t line_octets);

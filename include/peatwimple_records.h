@@ -13,7 +13,7 @@ enum {
     PEAT_SHORT = 1,      /* under 12 octets, or not 12 + N + X */
     PEAT_DAMAGED = 2,    /* the check sum is wrong */
     PEAT_STRANGE = 3,    /* another header field is unexpected, or the payload is too long, or there is one where none may be */
-    PEAT_LACKING = 4,    /* secondary header, a type that the base lacks, or, to be written, a prefix of over 15 octets */
+    PEAT_LACKING = 4,    /* secondary header, Flow Control, or, to be written, a type over 7 or a prefix of over 15 octets */
     PEAT_STATE = 5,      /* the state, or the direction, does not allow it */
     PEAT_LONG = 6,       /* the unit has over M segments */
     PEAT_NO_ROOM = 7,    /* slots held and slots needed are over the slots */
@@ -37,18 +37,27 @@ enum { PEAT_CLOSED = 0, PEAT_ENABLED = 1, PEAT_OPEN = 2, PEAT_CLOSING = 3 };
 /* Why a channel went inactive. */
 enum {
     PEAT_NO_REASON = 0,      /* it did not */
-    PEAT_RETRIES = 1,        /* a packet's retries were used up */
+    PEAT_RETRIES = 1,        /* the retries of Data, an Open or a Close were used up */
     PEAT_LATE_OPEN = 2,      /* an Open came after Data was accepted */
     PEAT_CONTROL_NUMBER = 3, /* a Control packet had another number than 0 */
     PEAT_DATA_NUMBER = 4,    /* Data had a number neither in the window nor at most k behind it */
-    PEAT_BROKEN_FLAGS = 5    /* the flags of segments in a row do not make units */
+    PEAT_BROKEN_FLAGS = 5,   /* the flags of segments in a row do not make units */
+    PEAT_UNANSWERED = 6      /* the retries of a Heartbeat were used up */
 };
 
 /* States of a packet that is sent alone. */
 enum { PEAT_LONE_NONE = 0, PEAT_LONE_READY = 1, PEAT_LONE_OUT = 2, PEAT_LONE_AGAIN = 3 };
 
 /* Packet types, sequence flags and the version (000, 4.2.3). */
-enum { PEAT_DATA = 0, PEAT_DATA_ACK = 1, PEAT_OPEN_COMMAND = 2, PEAT_CLOSE_COMMAND = 3, PEAT_CONTROL_ACK = 7 };
+enum {
+    PEAT_DATA = 0,
+    PEAT_DATA_ACK = 1,
+    PEAT_OPEN_COMMAND = 2,
+    PEAT_CLOSE_COMMAND = 3,
+    PEAT_HEARTBEAT = 4,
+    PEAT_HEARTBEAT_ACK = 5,
+    PEAT_CONTROL_ACK = 7
+};
 enum { PEAT_CONTINUATION = 0, PEAT_FIRST = 1, PEAT_LAST = 2, PEAT_WHOLE = 3 };
 
 #define PEAT_VERSION 1    /* what every packet has */
@@ -90,13 +99,15 @@ typedef struct PeatAddresses {
 
 /* What the settings fix. */
 typedef struct PeatLimits {
-    size_t window;    /* k: a power of two, 1 to 128 */
-    size_t slots;     /* k to 128 */
-    size_t payload;   /* P, the most payload octets: 1 to 1,024 */
-    size_t segments;  /* M, the most segments in a unit: 1 to slots */
-    uint16_t timeout; /* ticks until a packet that is not acknowledged is ready again: at least 1 */
-    uint16_t closing; /* ticks that a receiver stays in CLOSING: at least 1 */
-    uint16_t retries; /* resends allowed to a packet: 0 to 255 */
+    size_t window;     /* k: a power of two, 1 to 128 */
+    size_t slots;      /* k to 128 */
+    size_t payload;    /* P, the most payload octets: 1 to 1,024 */
+    size_t segments;   /* M, the most segments in a unit: 1 to slots */
+    uint16_t timeout;  /* ticks until a packet that is not acknowledged is ready again: at least 1 */
+    uint16_t closing;  /* ticks that a receiver stays in CLOSING: at least 1 */
+    uint16_t retries;  /* resends allowed to a packet: 0 to 255 */
+    uint16_t interval; /* ticks in OPEN after which this end makes a Heartbeat, if it has sent neither Data nor an Ack meanwhile; 0: it makes none.
+                        * Each end has its own, and answers those of the other whatever its own is */
 } PeatLimits;
 
 typedef struct PeatSettings {
@@ -104,7 +115,8 @@ typedef struct PeatSettings {
     PeatLimits limits;
 } PeatSettings;
 
-/* One packet that is sent alone, a sender's Open or Close. Its timer runs while it is out; tries are the resends left to it. */
+/* One packet that is sent alone, a sender's Open or Close, or the Heartbeat of either end. Its timer runs while it is out; tries are the
+ * resends left to it. */
 typedef struct PeatLone {
     uint8_t state;
     uint16_t timer;
@@ -119,6 +131,12 @@ typedef struct PeatPhase {
     uint8_t accepted; /* Data was accepted in this opening */
     PeatLone control; /* a sender's Open or Close */
 } PeatPhase;
+
+/* The Heartbeat of an end; all zeros out of OPEN, in a record that peat_settings and the calls alone have written. */
+typedef struct PeatPulse {
+    uint16_t left; /* ticks until one is made; 0: none runs */
+    PeatLone beat; /* the one that is ready or not acknowledged */
+} PeatPulse;
 
 /* behind: segments kept before the start (sent and passed, but their unit is not confirmed; or received and not taken). A sender has ahead
  * segments from the start on, of which flight were handed out; way of the receiver's last behind are of a unit that is not finished. */
@@ -142,6 +160,7 @@ typedef struct PeatChannel {
     PeatAddresses addresses;
     PeatLimits limits;
     PeatPhase phase;
+    PeatPulse pulse;
     PeatWindow window;
     PeatTimers timers;
     uint8_t marks[PEAT_SLOTS]; /* by place: 0 for a slot not in use, else the segment's flags and 1 more */

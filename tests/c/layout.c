@@ -37,6 +37,7 @@ static void what_the_caller_fills(void) {
     FIELD(Limits, timeout);
     FIELD(Limits, closing);
     FIELD(Limits, retries);
+    FIELD(Limits, interval);
     WHOLE(Settings);
     FIELD(Settings, addresses);
     FIELD(Settings, limits);
@@ -53,6 +54,9 @@ static void parts_of_a_channel(void) {
     FIELD(Phase, kept);
     FIELD(Phase, accepted);
     FIELD(Phase, control);
+    WHOLE(Pulse);
+    FIELD(Pulse, left);
+    FIELD(Pulse, beat);
     WHOLE(Window);
     FIELD(Window, start);
     FIELD(Window, place);
@@ -71,6 +75,7 @@ static void channel_and_answer(void) {
     FIELD(Channel, addresses);
     FIELD(Channel, limits);
     FIELD(Channel, phase);
+    FIELD(Channel, pulse);
     FIELD(Channel, window);
     FIELD(Channel, timers);
     FIELD(Channel, marks);

@@ -71,7 +71,7 @@ static size_t taken_by(void (*call)(void)) {
 static void make(void) {
     size_t index;
     for (index = 0; index < RECORDS; index++) {
-        PeatSettings one = {{(uint16_t)index, 64, PEAT_RECEIVES, LONGEST, LONGEST}, {64, SLOTS, PAYLOAD, 3, 9, 9, 3}};
+        PeatSettings one = {{(uint16_t)index, 64, PEAT_RECEIVES, LONGEST, LONGEST}, {64, SLOTS, PAYLOAD, 3, 9, 9, 3, 2}};
         settings[index] = one;
     }
     settings[RECORDS - 1].addresses.channel = 0;
@@ -85,6 +85,8 @@ int main(void) {
         settle,   open_sender, open_receiver, hand_out, arrive,       acknowledge,                  /* both ends open */
         ask,      transfer,    hand_out,      arrive,   acknowledge,                                /* the first segment */
         hand_out, arrive,      hand_out,      arrive,   take,                                       /* the other two */
+        tick,     tick,        hand_out,      arrive,   acknowledge,                                /* a Heartbeat of the receiver */
+        hand_out, arrive,      acknowledge,                                                         /* and one of the sender */
         transfer, tick,        close_sender,  hand_out, arrive,       acknowledge, reclaim,         /* another unit, not sent */
     };
     size_t call, most = 0, start;

@@ -1,3 +1,4 @@
+pub mod ReplyLaws
 pub mod FindLaws
 pub mod DataLaws
 pub mod ArriveLaws

@@ -9,7 +9,7 @@ use lib.ListN.{length}
 use Rattle.laws.specs.Choice.{if_then_else_}
 use Rattle.packet.specs.declared.fields.Fields.{Fields}
 use Rattle.packet.specs.declared.kinds.Kind.{Kind}
-use Rattle.packet.specs.declared.kinds.Kind.the-variants.{Data, DataAck, Open, Close, ControlAck, Lacking}
+use Rattle.packet.specs.declared.kinds.Kind.the-variants.{Data, DataAck, Open, Close, Heartbeat, HeartbeatAck, ControlAck, Lacking}
 use Rattle.packet.specs.Kinds.{kindOf}
 use Rattle.packet.specs.Layout.{least, payloadAt, wholeLength, fieldsAt, prefixAt, lengthAt, payloadIn}
 use Rattle.walks.specs.Serving.{works}
@@ -18,6 +18,8 @@ use Rattle.channel.specs.declared.record.Channel.{Channel}
 use Rattle.channel.specs.declared.answer.Refusal.the-variants as refusal
 use Rattle.channel.specs.Steps.{refusing}
 use Rattle.sender_acks.specs.Acks.{controlAckStep, dataAckStep}
+use Rattle.channel.specs.Pulse.{heartbeatStep, heartbeatAckStep}
+use Rattle.receiver.specs.declared.acks.Acked.the-variants as acked
 use Rattle.receiver.specs.Receiving.{controlStep}
 use Rattle.table.specs.Looking.{same}
 use Rattle.table.specs.Serving.{Step}
@@ -25,12 +27,14 @@ use Rattle.arrivals.specs.Finding.{prefixRead}
 use Rattle.arrivals.specs.Replying.{replying}
 use Rattle.arrivals.specs.Data.{replyLength, unfit, dataFor}
 
--- by the packet's kind; no packet of a kind that the base lacks is read
+-- by the packet's kind; no packet of a kind that is not carried is read
 abbrev pub arriveAs : Kind → Node → Fields → List ℕ → Step
 arriveAs Data node f payload c rank mem lens out = dataFor node f payload c rank mem lens out
 arriveAs DataAck node f payload c rank mem lens out = works (dataAckStep c (f .number)) mem lens out
-arriveAs Open node f payload c rank mem lens out = replying node c false (f .number) (controlStep c true (f .number)) mem lens out
-arriveAs Close node f payload c rank mem lens out = replying node c false (f .number) (controlStep c false (f .number)) mem lens out
+arriveAs Open node f payload c rank mem lens out = replying node c acked.Control (f .number) (controlStep c true (f .number)) mem lens out
+arriveAs Close node f payload c rank mem lens out = replying node c acked.Control (f .number) (controlStep c false (f .number)) mem lens out
+arriveAs Heartbeat node f payload c rank mem lens out = replying node c acked.Heartbeat (f .number) (heartbeatStep c) mem lens out
+arriveAs HeartbeatAck node f payload c rank mem lens out = works (heartbeatAckStep c (f .number)) mem lens out
 arriveAs ControlAck node f payload c rank mem lens out = works (controlAckStep c (f .number)) mem lens out
 arriveAs (Lacking code) node f payload c rank mem lens out = works (refusing c refusal.Lacking) mem lens out
 

@@ -2,20 +2,26 @@
 use crate::data::arrive_data;
 use crate::data::is_unfit;
 use crate::data::reply_length;
+use crate::replying::acknowledged;
 use crate::replying::reply;
 use channel::Channel;
 use channel::Node;
 use channel::Refusal;
 use channel::Stepped;
+use channel::pulse::heartbeat_ack_step;
+use channel::pulse::heartbeat_step;
 use channel::step::refused;
 use packet::Fields;
 use packet::Kind;
 use packet::kinds::kind_of;
+use receiver::Acked;
 use table::Decision;
 use table::Sought;
 ghost use mathlib.Core.Path.{_≡_};
 ghost use Prim.Native.Nat.{_≤_};
 ghost use mathlib.Core.Bool.{true, false};
+ghost use Rattle.channel.specs.Pulse.{heartbeatStep};
+ghost use Rattle.receiver.specs.declared.acks.Acked.the-variants as acked;
 ghost use lib.ListN.{length};
 ghost use Rattle.packet.specs.Kinds.{kindOf};
 ghost use Rattle.packet.specs.Layout.{payloadIn};
@@ -26,18 +32,29 @@ ghost use Rattle.receiver.specs.Receiving.{ackLength, controlStep};
 ghost use Rattle.table.specs.Surveying.{Served, stepping};
 ghost use Rattle.arrivals.specs.Finding.{lookOf};
 ghost use Rattle.arrivals.specs.Data.{unfit};
-ghost use Rattle.arrivals.specs.Replying.{repliedBy};
+ghost use Rattle.arrivals.specs.Replying.{repliedBy, acknowledging};
 ghost use Rattle.arrivals.specs.Arriving.{Framed, Replies, arriveAs, arrivalFor};
 
 // An Open, or else a Close, changes the record alone, and is acknowledged where the answer is 0 or 15.
 fn arrive_control(c: Channel, node: Node, opens: bool, number: u8, out: &mut [u8]) -> Stepped
     requires { ⌜ (Ringed (c .limits) (c .window)) × (fitPrefix (c .addresses .own) ≡ true) × (ackLength (c .addresses) ≤ length (now out)) ⌝ }
-    ensures { λ r. ⌜ (r ≡ controlStep c opens number) × (now (out .exit) ≡ repliedBy (controlStep c opens number .answer) node (c .addresses) false number (now (out .entry))) ⌝ }
+    ensures { λ r. ⌜ (r ≡ acknowledging (controlStep c opens number)) × (now (out .exit) ≡ repliedBy (controlStep c opens number .answer) node (c .addresses) acked.Control number (now (out .entry))) ⌝ }
 {
     let s = receiver::control_step(c, opens, number);
     let answer = s.answer;
-    reply(answer, node, c.addresses, false, number, out);
-    s
+    reply(answer, node, c.addresses, Acked::Control, number, out);
+    acknowledged(s)
+}
+
+// A Heartbeat changes nothing but the interval of this end's own, as it is acknowledged.
+fn arrive_heartbeat(c: Channel, node: Node, number: u8, out: &mut [u8]) -> Stepped
+    requires { ⌜ (fitPrefix (c .addresses .own) ≡ true) × (ackLength (c .addresses) ≤ length (now out)) ⌝ }
+    ensures { λ r. ⌜ (r ≡ acknowledging (heartbeatStep c)) × (now (out .exit) ≡ repliedBy (heartbeatStep c .answer) node (c .addresses) acked.Heartbeat number (now (out .entry))) ⌝ }
+{
+    let s = heartbeat_step(c);
+    let answer = s.answer;
+    reply(answer, node, c.addresses, Acked::Heartbeat, number, out);
+    acknowledged(s)
 }
 
 // By the packet's kind.
@@ -65,6 +82,8 @@ fn arrive_as(
         Kind::DataAck => sender_acks::data_ack_step(c, f.number),
         Kind::Open => arrive_control(c, node, true, f.number, out),
         Kind::Close => arrive_control(c, node, false, f.number, out),
+        Kind::Heartbeat => arrive_heartbeat(c, node, f.number, out),
+        Kind::HeartbeatAck => heartbeat_ack_step(c, f.number),
         Kind::ControlAck => sender_acks::control_ack_step(c, f.number),
         Kind::Lacking(_) => refused(c, Refusal::Lacking),
     }

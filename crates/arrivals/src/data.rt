@@ -1,4 +1,5 @@
 // Data arrives at the channel that it is for.
+use crate::replying::acknowledged;
 use crate::replying::reply;
 use channel::Channel;
 use channel::Node;
@@ -8,6 +9,7 @@ use packet::Kind;
 use packet::fields::LEAST;
 use packet::kinds::is_data;
 use packet::kinds::kind_of;
+use receiver::Acked;
 use receiver::leaving::ack_length;
 use table::Decision;
 use table::surveying::area;
@@ -29,6 +31,8 @@ pub fn reply_length(c: Channel, kind: Kind) -> usize
         Kind::DataAck => LEAST,
         Kind::Open => ack_length(c.addresses),
         Kind::Close => ack_length(c.addresses),
+        Kind::Heartbeat => ack_length(c.addresses),
+        Kind::HeartbeatAck => LEAST,
         Kind::ControlAck => LEAST,
         Kind::Lacking(_) => LEAST,
     }
@@ -66,6 +70,6 @@ pub fn arrive_data(
     let own_lens = &mut lens[slot..slots];
     let s = receiver_data::data_step(c, f.number, f.flags, payload, own, own_lens);
     let answer = s.answer;
-    reply(answer, node, c.addresses, true, f.number, out);
-    s
+    reply(answer, node, c.addresses, Acked::Data, f.number, out);
+    acknowledged(s)
 }

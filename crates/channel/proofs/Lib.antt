@@ -5,3 +5,4 @@ pub mod StandingLaws
 pub mod MadeLaws
 pub mod TableLaws
 pub mod FixedLaws
+pub mod PulseLaws

@@ -20,7 +20,7 @@ use Rattle.channel.specs.Places.{slotOf}
 use Rattle.channel.specs.Standing.{named, inRing, inFlight, sided, asking, slotFit, Standing}
 use Rattle.channel.specs.Steps.{enabledOf}
 use Rattle.channel.proofs.SettingsLaws.{fit-is}
-use Rattle.channel.proofs.StandingLaws.{asking-closed, rests}
+use Rattle.channel.proofs.StandingLaws.{named-is, asking-closed, rests}
 
 -- a free slot fits
 pub free-fits : (sending : Bool) (most len : ℕ) → slotFit sending most 0 len ≡ true
@@ -84,9 +84,4 @@ pub enabled-stands : (c : Channel) (lens : List ℕ) (control : Lone) → contro
     → Standing c lens → Standing (enabledOf c control) lens
 unfolding named
 enabled-stands c lens control small a h =
-    let n = both _ _ (h .named) in
-    let n2 = both _ _ (n .0) in
-    let n3 = both _ _ (n2 .0) in
-    let n4 = both _ _ (n3 .0) in
-    let n5 = both (fitAddresses (c .addresses)) _ (n4 .0) in
-    fresh-stands (enabledOf c control) lens refl refl (h .fit) (h .count) (simp (n5 .0, le-leb _ _ small)) (fresh-sided (c .addresses .direction) 1) a
+    fresh-stands (enabledOf c control) lens refl refl (h .fit) (h .count) (simp (named-is c (h .named) .addresses, le-leb _ _ small)) (fresh-sided (c .addresses .direction) 1) a

@@ -139,15 +139,17 @@ counted-flight l w k =
 pub record Named (c : Channel) : Type 0 where
   pub addresses : fitAddresses (c .addresses) ≡ true
   pub state : c .phase .state ≤ 3
-  pub reason : c .phase .reason ≤ 5
+  pub reason : c .phase .reason ≤ 6
   pub kept : c .phase .kept ≤ 1
   pub accepted : c .phase .accepted ≤ 1
   pub control : c .phase .control .state ≤ 3
+  pub beat : c .pulse .beat .state ≤ 3
 
 pub named-is : (c : Channel) → named c ≡ true → Named c
 unfolding named
 named-is c e =
-    let n5 = both _ _ e in
+    let n6 = both _ _ e in
+    let n5 = both _ _ (n6 .0) in
     let n4 = both _ _ (n5 .0) in
     let n3 = both _ _ (n4 .0) in
     let n2 = both _ _ (n3 .0) in
@@ -159,6 +161,7 @@ named-is c e =
       kept = leb-true _ _ (n3 .1);
       accepted = leb-true _ _ (n4 .1);
       control = leb-true _ _ (n5 .1);
+      beat = leb-true _ _ (n6 .1);
     }
 
 pub is-named : (c : Channel) → Named c → named c ≡ true
@@ -171,6 +174,7 @@ is-named c n =
       le-leb _ _ (n .kept),
       le-leb _ _ (n .accepted),
       le-leb _ _ (n .control),
+      le-leb _ _ (n .beat),
     )
 
 -- the own prefix of a record that stands is fit

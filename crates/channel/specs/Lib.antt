@@ -7,4 +7,5 @@ pub mod Lone
 pub mod Standing
 pub mod Asked
 pub mod Steps
+pub mod Pulse
 pub mod Tables

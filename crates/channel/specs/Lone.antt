@@ -1,4 +1,4 @@
--- One packet that is sent alone, an Open or a Close (document 01, Sending).
+-- One packet that is sent alone: an Open or a Close (document 01, Sending), or a Heartbeat (document 02, A2).
 use Prim.Native.Nat.{ℕ, _-_}
 use mathlib.Core.Bool.{Bool, true, false, not, _||_}
 use lib.Dec.{leb, eqb}

@@ -8,6 +8,7 @@ use Rattle.channel.specs.declared.record.Settings.{Settings}
 use Rattle.channel.specs.declared.record.Channel.{Channel}
 use Rattle.channel.specs.declared.record.Lone.{Lone}
 use Rattle.channel.specs.declared.record.Phase.{Phase}
+use Rattle.channel.specs.declared.record.Pulse.{Pulse}
 use Rattle.channel.specs.declared.record.Window.{Window}
 use Rattle.channel.specs.declared.record.Timers.{Timers}
 
@@ -53,6 +54,10 @@ dataNumber = 4
 abbrev pub brokenFlags : ℕ
 brokenFlags = 5
 
+-- a Heartbeat got no answer (document 02, A2)
+abbrev pub unanswered : ℕ
+unanswered = 6
+
 -- ---- a packet sent alone
 
 abbrev pub loneNone : ℕ
@@ -72,6 +77,9 @@ loneAgain = 3
 abbrev pub noLone : Lone
 noLone = record { state = loneNone; timer = 0; tries = 0 }
 
+abbrev pub noPulse : Pulse
+noPulse = record { left = 0; beat = noLone }
+
 abbrev pub freshWindow : Window
 freshWindow = record { start = 1; place = 0; behind = 0; ahead = 0; flight = 0; way = 0 }
 
@@ -86,7 +94,7 @@ freshPhase state control = record { state = state; reason = noReason; kept = 0; 
 
 abbrev pub freshOf : Addresses → Limits → ℕ → Lone → Channel
 freshOf addresses limits state control =
-    record { addresses = addresses; limits = limits; phase = freshPhase state control; window = freshWindow; timers = noTimers; marks = noMarks; acked = noMarks }
+    record { addresses = addresses; limits = limits; phase = freshPhase state control; pulse = noPulse; window = freshWindow; timers = noTimers; marks = noMarks; acked = noMarks }
 
 abbrev pub madeOf : Settings → Channel
 madeOf s = freshOf (s .addresses) (s .limits) closed noLone
@@ -98,19 +106,22 @@ heldIn w = w .behind + w .ahead
 -- ---- the record with one part changed
 
 abbrev pub withPhase : Channel → Phase → Channel
-withPhase c x = record { addresses = c .addresses; limits = c .limits; phase = x; window = c .window; timers = c .timers; marks = c .marks; acked = c .acked }
+withPhase c x = record { addresses = c .addresses; limits = c .limits; phase = x; pulse = c .pulse; window = c .window; timers = c .timers; marks = c .marks; acked = c .acked }
+
+abbrev pub withPulse : Channel → Pulse → Channel
+withPulse c x = record { addresses = c .addresses; limits = c .limits; phase = c .phase; pulse = x; window = c .window; timers = c .timers; marks = c .marks; acked = c .acked }
 
 abbrev pub withWindow : Channel → Window → Channel
-withWindow c x = record { addresses = c .addresses; limits = c .limits; phase = c .phase; window = x; timers = c .timers; marks = c .marks; acked = c .acked }
+withWindow c x = record { addresses = c .addresses; limits = c .limits; phase = c .phase; pulse = c .pulse; window = x; timers = c .timers; marks = c .marks; acked = c .acked }
 
 abbrev pub withTimers : Channel → Timers → Channel
-withTimers c x = record { addresses = c .addresses; limits = c .limits; phase = c .phase; window = c .window; timers = x; marks = c .marks; acked = c .acked }
+withTimers c x = record { addresses = c .addresses; limits = c .limits; phase = c .phase; pulse = c .pulse; window = c .window; timers = x; marks = c .marks; acked = c .acked }
 
 abbrev pub withMarks : Channel → List ℕ → Channel
-withMarks c x = record { addresses = c .addresses; limits = c .limits; phase = c .phase; window = c .window; timers = c .timers; marks = x; acked = c .acked }
+withMarks c x = record { addresses = c .addresses; limits = c .limits; phase = c .phase; pulse = c .pulse; window = c .window; timers = c .timers; marks = x; acked = c .acked }
 
 abbrev pub withAcked : Channel → List ℕ → Channel
-withAcked c x = record { addresses = c .addresses; limits = c .limits; phase = c .phase; window = c .window; timers = c .timers; marks = c .marks; acked = x }
+withAcked c x = record { addresses = c .addresses; limits = c .limits; phase = c .phase; pulse = c .pulse; window = c .window; timers = c .timers; marks = c .marks; acked = x }
 
 -- ---- the record with one number of its phase changed
 

@@ -18,15 +18,16 @@ use Rattle.channel.specs.Settings.{fitLimits, fitAddresses}
 
 -- ---- as a test
 
--- the addresses, state, reason, the two marks 0 or 1, and the control packet's state have a meaning
+-- the addresses, state, reason, the two marks 0 or 1, and the states of the control packet and the Heartbeat have a meaning
 unfoldable pub named : Channel → Bool
 named c =
     fitAddresses (c .addresses)
     && leb (c .phase .state) 3
-    && leb (c .phase .reason) 5
+    && leb (c .phase .reason) 6
     && leb (c .phase .kept) 1
     && leb (c .phase .accepted) 1
     && leb (c .phase .control .state) 3
+    && leb (c .pulse .beat .state) 3
 
 -- what is held is within the slots
 unfoldable pub inRing : Limits → Window → Bool

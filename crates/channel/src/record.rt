@@ -29,6 +29,8 @@ pub const DATA_NUMBER: u8 = 4;
 
 pub const BROKEN_FLAGS: u8 = 5;
 
+pub const UNANSWERED: u8 = 6;
+
 // The protocol ID of SpaceWire-R (000, 4.2.3.3): what a node has unless it is set otherwise.
 pub const PROTOCOL: u8 = 5;
 
@@ -57,7 +59,8 @@ pub struct Addresses {
     pub own: Prefix,
 }
 
-// What the settings fix: window k, slots, P (most payload octets), M (most segments in a unit), and in ticks the timeouts.
+// What the settings fix: window k, slots, P (most payload octets), M (most segments in a unit), and in ticks the timeouts and the interval of this
+// end's own Heartbeat (0: it makes none).
 #[repr(C)]
 pub struct Limits {
     pub window: usize,
@@ -67,6 +70,7 @@ pub struct Limits {
     pub timeout: u16,
     pub closing: u16,
     pub retries: u16,
+    pub interval: u16,
 }
 
 #[repr(C)]
@@ -93,6 +97,13 @@ pub struct Phase {
     pub kept: u8,
     pub accepted: u8,
     pub control: Lone,
+}
+
+// In OPEN: the ticks left until this end makes a Heartbeat (0: it makes none), and the Heartbeat that is sent (document 02, A2).
+#[repr(C)]
+pub struct Pulse {
+    pub left: u16,
+    pub beat: Lone,
 }
 
 // The window's first number, and the place on the ring of slots where that segment lies: the number does not tell it.
@@ -123,13 +134,14 @@ pub struct Channel {
     pub addresses: Addresses,
     pub limits: Limits,
     pub phase: Phase,
+    pub pulse: Pulse,
     pub window: Window,
     pub timers: Timers,
     pub marks: [u8; 128],
     pub acked: [u8; 128],
 }
 
-// A channel with nothing held: its window at number 1, no mark, no timer and no reason.
+// A channel with nothing held: its window at number 1, no mark, no timer, no Heartbeat and no reason.
 pub fn fresh(addresses: Addresses, limits: Limits, state: u8, control: Lone) -> Channel
     ensures { λ r. ⌜ r ≡ freshOf addresses limits state control ⌝ }
 {
@@ -142,6 +154,14 @@ pub fn fresh(addresses: Addresses, limits: Limits, state: u8, control: Lone) -> 
             kept: 0,
             accepted: 0,
             control,
+        },
+        pulse: Pulse {
+            left: 0,
+            beat: Lone {
+                state: 0,
+                timer: 0,
+                tries: 0,
+            },
         },
         window: Window {
             start: 1,

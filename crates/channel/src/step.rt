@@ -26,6 +26,12 @@ pub struct Stepped {
     pub answer: Answer,
 }
 
+// The channel after a tick, and whether it went inactive in it.
+pub struct Ticked {
+    pub channel: Channel,
+    pub inactive: bool,
+}
+
 // An answer, and nothing has changed.
 pub fn unchanged(c: Channel, answer: Answer) -> Stepped
     ensures { λ r. ⌜ r ≡ answered c answer ⌝ }

@@ -63,7 +63,7 @@ fn is_named(c: Channel) -> bool
     if 3 < c.phase.state {
         return false;
     }
-    if 5 < c.phase.reason {
+    if 6 < c.phase.reason {
         return false;
     }
     if 1 < c.phase.kept {
@@ -72,7 +72,10 @@ fn is_named(c: Channel) -> bool
     if 1 < c.phase.accepted {
         return false;
     }
-    c.phase.control.state <= 3
+    if 3 < c.phase.control.state {
+        return false;
+    }
+    c.pulse.beat.state <= 3
 }
 
 // What is held is within the slots.

@@ -1,12 +1,12 @@
--- An arrival at the host: a Data Ack for the channel that is watched is the protocol's, a Control Ack moves its phase, and what is for another
--- channel does not name this one.
+-- An arrival at the host: a Data Ack for the channel that is watched is the protocol's, a Control Ack moves its phase, a Heartbeat and its Ack are
+-- nothing to the protocol, and what else is for another channel does not name this one.
 -- Assumes nothing.
 use mathlib.Core.Path.{_≡_, refl, sym, ap, ap₂, _∙_, subst}
-use mathlib.Core.Bool.{Bool, true, false, true≢false, _&&_, _||_}
+use mathlib.Core.Bool.{Bool, true, false, true≢false, false≢true, _&&_, _||_}
 use mathlib.Core.List.{List}
 use Prim.Native.Nat.{ℕ, _+_, _≤_, _<_}
 use native.Mathlib.Omega.{arith}
-use borrow.Author.Tests.{eqb-true, eqb-false, ne-eqb}
+use borrow.Author.Tests.{eqb-true, eqb-false, ne-eqb, ltb-true, ltb-false}
 use lib.Dec.{ltb, eqb}
 use lib.ListN.{length}
 use Rattle.laws.specs.Choice.{if_then_else_}
@@ -16,23 +16,30 @@ use Rattle.packet.specs.declared.kinds.Kind.the-variants as packet-kind
 use Rattle.packet.specs.Kinds.{kindOf, isData}
 use Rattle.packet.specs.declared.fields.Fields.{Fields}
 use Rattle.packet.specs.Layout.{least, fieldsAt, prefixAt, lengthAt, payloadAt, payloadIn}
+use Rattle.channel.specs.declared.record.Node.{Node}
 use Rattle.channel.specs.declared.record.Addresses.{Addresses}
 use Rattle.channel.specs.declared.record.Channel.{Channel}
 use Rattle.channel.specs.declared.answer.Answer.{Answer}
 use Rattle.channel.specs.declared.answer.Answer.the-variants.{Refused}
 use Rattle.channel.specs.declared.step.Stepped.{Stepped}
 use Rattle.channel.specs.Answers.{numberOf, confirmedOf}
+use Rattle.channel.specs.declared.answer.Refusal.the-variants as refusal
 use Rattle.channel.specs.Record.{sends, receives}
+use Rattle.channel.specs.Steps.{refusing}
+use Rattle.channel.specs.Pulse.{heartbeatStep, heartbeatAckStep}
+use Rattle.receiver.specs.declared.acks.Acked.the-variants as acked
+use Rattle.walks.specs.Serving.{Worked, works}
 use Rattle.sender_acks.specs.Acks.{controlAckStep, dataAckStep}
 use Rattle.table.specs.Waiting.{rankIn}
 use Rattle.table.specs.declared.looking.Look.{Look}
 use Rattle.table.specs.Looking.{looksFor, same, graded, chosen as choice}
 use Rattle.table.proofs.OneLaws.{kind-finds}
 use Rattle.table.specs.Serving.{recordAt}
-use Rattle.arrivals.specs.Arriving.{arriveBy, arrivalFor, Framed}
+use Rattle.arrivals.specs.Arriving.{arriveAs, arriveBy, arrivalFor, Framed}
+use Rattle.arrivals.specs.Replying.{repliedBy, acknowledging, replying}
 use Rattle.arrivals.specs.Finding.{lookOf, prefixRead}
 use Rattle.arrivals.specs.Data.{replyLength, unfit}
-use Rattle.arrivals.proofs.ArriveLaws.{framed, by-kind}
+use Rattle.arrivals.proofs.ArriveLaws.{framed, by-small, by-kind}
 use Rattle.arrivals.proofs.FindLaws.{found-packet}
 use Rattle.node.specs.declared.request.Request.the-variants.{Arrival}
 use Rattle.node.specs.Calls.{served}
@@ -46,22 +53,24 @@ use Rattle.protocol.specs.Sending.{Sender, SenderCall, senderStep, acknowledged
 use Rattle.protocol.specs.Receiving.{Receiver}
 use Rattle.protocol.specs.History as protocol
 use Rattle.ends.proofs.SenderCases.{control-ack-cases}
+use Rattle.ends.proofs.PulseCases.{heartbeat-cases, heartbeat-ack-cases}
 use Rattle.means.proofs.Sends.{Sends, open-state, state-opened}
-use Rattle.means.proofs.SenderControl.{control-ack-sends}
+use Rattle.means.proofs.SenderControl.{stays, control-ack-sends}
+use Rattle.means.proofs.Pulses.{pulse-sends, heartbeat-sends, heartbeat-ack-sends}
 use Rattle.means.proofs.SenderAcks.{ack-sends, ack-near}
 use Rattle.delivery.specs.Calls.{End, arrives, Request, channelOf}
-use Rattle.delivery.specs.History.{Event, names, IsData, IsDataAck, Replied, confirmed}
+use Rattle.delivery.specs.History.{Event, names, isBeat, binds, IsData, IsDataAck, Replied, confirmed}
 use Rattle.delivery.specs.Delivery.{NotLate}
 use Rattle.delivery.proofs.Nodes.{endWith}
 use Rattle.delivery.proofs.Known.{limits}
 use Rattle.delivery.proofs.HostFrame.{hostEvent, host-next}
 use Rattle.delivery.proofs.Own.{Seen, Left, own-cases}
-use Rattle.delivery.proofs.Packets.{named-is, names-so, same-rivals}
+use Rattle.delivery.proofs.Packets.{named-is, names-so, binds-so, same-rivals}
 use Rattle.delivery.proofs.HostNow.{HostAt, asking, own, octets, lengths, own-below, own-addresses, own-sends, own-limits, asked, small, alone-here, indexFor, Next, waits-on, stays-so, counts, was-open, moves-on}
 
 -- ---- what a packet that is found a channel has shown
 
--- no Ack is Data
+-- no other packet is Data
 fit-ack : (c : Channel) (f : Fields) (x : ℕ) (kind : packets.Kind) → kindOf (f .kind) ≡ kind → isData kind ≡ false → unfit c f x ≡ false
 unfolding unfit
 fit-ack c f x kind is not-data = ap (λ (b : Bool). b && ltb (c .limits .payload) x) (ap isData is ∙ not-data)
@@ -70,6 +79,38 @@ fit-ack c f x kind is not-data = ap (λ (b : Bool). b && ltb (c .limits .payload
 control-confirms : (c : Channel) (number : ℕ) → confirmedOf (controlAckStep c number .answer) ≡ 0
 control-confirms c number =
     control-ack-cases c (λ (s : Stepped). confirmedOf (s .answer) ≡ 0) number refl refl (λ e. refl) (λ e. refl) (λ e. refl)
+
+-- nor does a Heartbeat or its Ack
+heartbeat-confirms : (c : Channel) → confirmedOf (heartbeatStep c .answer) ≡ 0
+heartbeat-confirms c = heartbeat-cases c (λ (s : Stepped). confirmedOf (s .answer) ≡ 0) refl (λ e. refl)
+
+heartbeat-ack-confirms : (c : Channel) (number : ℕ) → confirmedOf (heartbeatAckStep c number .answer) ≡ 0
+heartbeat-ack-confirms c number = heartbeat-ack-cases c (λ (s : Stepped). confirmedOf (s .answer) ≡ 0) refl number refl (λ e. refl)
+
+beats-confirm : (node : Node) (u : List ℕ) (c : Channel) (rank : ℕ) (mem lens out : List ℕ) → isBeat (kindOf (fieldsAt u .kind)) ≡ true
+    → confirmedOf (arrivalFor node u c rank mem lens out .made .answer) ≡ 0
+unfolding arrivalFor arriveBy
+beats-confirm node u c rank mem lens out = go (ltb (length out) (replyLength c (kindOf (f .kind)))) (unfit c f (lengthAt u)) (kindOf (f .kind))
+  where
+    f : Fields
+    f = fieldsAt u
+
+    go : (small over : Bool) (kind : packets.Kind) → isBeat kind ≡ true
+        → confirmedOf
+        ((if small then works (refusing c (refusal.Small (replyLength c kind))) mem lens out
+        else if over then works (refusing c refusal.Strange) mem lens out
+        else arriveAs kind node f (payloadIn u) c rank mem lens out) .made .answer)
+        ≡ 0
+    go true over kind e = refl
+    go false true kind e = refl
+    go false false packet-kind.Heartbeat e = heartbeat-confirms c
+    go false false packet-kind.HeartbeatAck e = heartbeat-ack-confirms c (f .number)
+    go false false packet-kind.Data e = absurd (false≢true e)
+    go false false packet-kind.DataAck e = absurd (false≢true e)
+    go false false packet-kind.Open e = absurd (false≢true e)
+    go false false packet-kind.Close e = absurd (false≢true e)
+    go false false packet-kind.ControlAck e = absurd (false≢true e)
+    go false false (packet-kind.Lacking code) e = absurd (false≢true e)
 
 -- ---- what the protocol's ack leaves
 
@@ -97,7 +138,7 @@ module _ {h s : End} {past : List Event} {x : Sender} {y : Receiver} {t : List C
 
   -- what the link must have shown
   abbrev pub FairReply : Type 0
-  FairReply = names h u ≡ true → Replied s past copy u × (IsDataAck u → NotLate (endWith h t mem lens lines n) copy)
+  FairReply = binds h u ≡ true → Replied s past copy u × (IsDataAck u → NotLate (endWith h t mem lens lines n) copy)
 
   confirms : (m : ℕ) (v : Bool) → (v ≡ true → m ≡ 0) → (if v then confirmed h past + m else confirmed h past) ≡ confirmed h past
   confirms m true e = omega (arith, e refl)
@@ -117,13 +158,16 @@ module _ {h s : End} {past : List Event} {x : Sender} {y : Receiver} {t : List C
       framed (h .node) u b (g .lines) j c looked (fieldsAt u) (payloadAt (prefixAt u)) (lengthAt u) refl suits
       (ap (λ (l : Look). l .sought) (found-packet (h .node) u (length b) (g .lines) j c suits .3))
 
-  arrive-elsewhere : (j : ℕ) → j < length t → (j ≡ h .index → ⊥) → (r : ℕ) (m l : List ℕ) → Given looked j r (recordAt t j) m l → (a : Answer) (o : List ℕ)
-      → Next k request copy a o (own k) (octets k) (lengths k)
-  arrive-elsewhere j there apart r m l g a o =
-      arrive-quiet a o
+  arrive-elsewhere : (j : ℕ) → j < length t → (j ≡ h .index → ⊥) → (r : ℕ) (m l : List ℕ) → Given looked j r (recordAt t j) m l
+      → let v = arrivalFor (h .node) u (recordAt t j) r m l b in
+      Next k request copy (v .made .answer) (v .out) (own k) (octets k) (lengths k)
+  arrive-elsewhere j there apart r m l g =
+      arrive-quiet _ _
       (λ named.
+      either-way (isBeat (kindOf (fieldsAt u .kind))) (λ e. beats-confirm (h .node) u (recordAt t j) r m l b e)
+      (λ e.
       absurd (alone-here k j there apart
-      (same-rivals (recordAt t j .addresses) (channelOf h .addresses) (fieldsAt u) (prefixRead u) (told j (recordAt t j) r m l g .ours) (named-is h u named .same))))
+      (same-rivals (recordAt t j .addresses) (channelOf h .addresses) (fieldsAt u) (prefixRead u) e (told j (recordAt t j) r m l g .ours) (named-is h u named .same)))))
 
   -- ---- for its own
 
@@ -179,6 +223,25 @@ module _ {h s : End} {past : List Event} {x : Sender} {y : Receiver} {t : List C
       (controlAckStep (own k) number .channel)
       (control-ack-sends (own k) (octets k) (lengths k) x (asked k) (own-sends k) (k .now .means) number)
 
+  -- a Heartbeat, with its reply, and the Ack of one: the record means the same
+  beat-own : Left (Next k request copy) (replying (h .node) (own k) acked.Heartbeat number (heartbeatStep (own k)) (octets k) (lengths k) b)
+  beat-own =
+      let c = heartbeatStep (own k) .channel in
+      let p = acknowledging (heartbeatStep (own k)) .channel .pulse in
+      let a = heartbeatStep (own k) .answer in
+      moves-on k request copy a (repliedBy a (h .node) (own k .addresses) acked.Heartbeat number b) refl
+      (confirms (confirmedOf a) (names h u) (λ _. heartbeat-confirms (own k))) refl refl
+      (acknowledging (heartbeatStep (own k)) .channel)
+      (stays _ (octets k) (lengths k) x (own k)
+      (pulse-sends c (octets k) (lengths k) x p (heartbeat-sends (own k) (octets k) (lengths k) x (k .now .means))))
+
+  beat-ack-own : Next k request copy (heartbeatAckStep (own k) number .answer) b (heartbeatAckStep (own k) number .channel) (octets k) (lengths k)
+  beat-ack-own =
+      let a = heartbeatAckStep (own k) number .answer in
+      moves-on k request copy a b refl (confirms (confirmedOf a) (names h u) (λ _. heartbeat-ack-confirms (own k) number)) refl refl
+      (heartbeatAckStep (own k) number .channel)
+      (stays _ (octets k) (lengths k) x (own k) (heartbeat-ack-sends (own k) (octets k) (lengths k) x (k .now .means) number))
+
   arrive-own : FairReply → (r : ℕ) → Given looked (h .index) r (own k) (octets k) (lengths k)
       → Left (Next k request copy) (arrivalFor (h .node) u (own k) r (octets k) (lengths k) b)
   unfolding arrivalFor
@@ -198,18 +261,18 @@ module _ {h s : End} {past : List Event} {x : Sender} {y : Receiver} {t : List C
           let q = found-packet (h .node) u (length b) (g .lines) (h .index) (own k) suits in
           names-so h u (q .1) (q .2) (subst (λ (a : Addresses). same a f (prefixRead u) ≡ true) (own-addresses k) ours)
 
-      looks : (kind : packets.Kind) → kindOf (f .kind) ≡ kind → looksFor kind ≡ sends
-      looks kind is = sym (kind-finds (own k .addresses) f (prefixRead u) kind ours is) ∙ own-sends k
+      looks : (kind : packets.Kind) → kindOf (f .kind) ≡ kind → looksFor kind sends ≡ true
+      looks kind is = ap (looksFor kind) (sym (own-sends k)) ∙ kind-finds (own k .addresses) f (prefixRead u) kind ours is
 
       -- no reply is due to an Ack, so what was asked for first is enough
       least-room : least ≤ length b
       least-room = told (h .index) (own k) r (octets k) (lengths k) g .room
 
-      -- a sender is looked for by Acks alone
+      -- a sender is looked for by Acks, and by Heartbeats
       as-kind : (kind : packets.Kind) → kindOf (f .kind) ≡ kind
           → Left (Next k request copy) (arriveBy (h .node) f (lengthAt u) (payloadIn u) (own k) r (octets k) (lengths k) b)
       as-kind packet-kind.DataAck is =
-          let w = fair named in
+          let w = fair (binds-so h u packet-kind.DataAck is refl named) in
           subst (Left (Next k request copy))
           (sym (by-kind (h .node) f (lengthAt u) (payloadIn u) (own k) r (octets k) (lengths k) b
           (subst (λ (z : packets.Kind). replyLength (own k) z ≤ length b) (sym is) least-room) (fit-ack (own k) f (lengthAt u) packet-kind.DataAck is refl) packet-kind.DataAck is))
@@ -219,15 +282,31 @@ module _ {h s : End} {past : List Event} {x : Sender} {y : Receiver} {t : List C
           (sym (by-kind (h .node) f (lengthAt u) (payloadIn u) (own k) r (octets k) (lengths k) b
           (subst (λ (z : packets.Kind). replyLength (own k) z ≤ length b) (sym is) least-room) (fit-ack (own k) f (lengthAt u) packet-kind.ControlAck is refl) packet-kind.ControlAck is))
           control-ack-own
-      as-kind packet-kind.Data is = absurd (omega (arith, looks packet-kind.Data is))
-      as-kind packet-kind.Open is = absurd (omega (arith, looks packet-kind.Open is))
-      as-kind packet-kind.Close is = absurd (omega (arith, looks packet-kind.Close is))
-      as-kind (packet-kind.Lacking code) is = absurd (omega (arith, looks (packet-kind.Lacking code) is))
+      as-kind packet-kind.HeartbeatAck is =
+          subst (Left (Next k request copy))
+          (sym (by-kind (h .node) f (lengthAt u) (payloadIn u) (own k) r (octets k) (lengths k) b
+          (subst (λ (z : packets.Kind). replyLength (own k) z ≤ length b) (sym is) least-room) (fit-ack (own k) f (lengthAt u) packet-kind.HeartbeatAck is refl) packet-kind.HeartbeatAck is))
+          beat-ack-own
+      as-kind packet-kind.Heartbeat is =
+          either-way (ltb (length b) (replyLength (own k) packet-kind.Heartbeat))
+          (λ e.
+          subst (Left (Next k request copy))
+          (sym (by-small (h .node) f (lengthAt u) (payloadIn u) (own k) r (octets k) (lengths k) b packet-kind.Heartbeat is (ltb-true _ _ e)))
+          (arrive-quiet _ b (λ _. refl)))
+          (λ e.
+          subst (Left (Next k request copy))
+          (sym (by-kind (h .node) f (lengthAt u) (payloadIn u) (own k) r (octets k) (lengths k) b
+          (subst (λ (z : packets.Kind). replyLength (own k) z ≤ length b) (sym is) (ltb-false _ _ e)) (fit-ack (own k) f (lengthAt u) packet-kind.Heartbeat is refl) packet-kind.Heartbeat is))
+          beat-own)
+      as-kind packet-kind.Data is = absurd (false≢true (looks packet-kind.Data is))
+      as-kind packet-kind.Open is = absurd (false≢true (looks packet-kind.Open is))
+      as-kind packet-kind.Close is = absurd (false≢true (looks packet-kind.Close is))
+      as-kind (packet-kind.Lacking code) is = absurd (false≢true (looks (packet-kind.Lacking code) is))
 
   pub host-arrives : FairReply → Seen (Next k request copy) (h .index) (served t mem lens lines (Arrival (h .node)) u b)
   host-arrives fair =
       own-cases looked (arrivalFor (h .node) u) t mem lens lines b (shapes looked (arrivalFor (h .node) u) b (arrival-keeps (h .node) u b)) (h .index) (own-below k)
       (Next k request copy)
       (λ why. arrive-quiet (Refused why) b (λ _. refl))
-      (λ j there apart at g. arrive-elsewhere j there apart _ _ _ g _ _)
+      (λ j there apart at g. arrive-elsewhere j there apart _ _ _ g)
       (λ at g. arrive-own fair (rankIn (choice looked lines t .grade)) g)

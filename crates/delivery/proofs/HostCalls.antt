@@ -9,7 +9,7 @@ use Rattle.channel.specs.declared.answer.Answer.the-variants.{Refused}
 use Rattle.channel.specs.declared.answer.Refusal.the-variants as refusal
 use Rattle.sender.specs.Ticking.{tickStep}
 use Rattle.table.specs.Serving.{recordAt, ownMem, ownLens}
-use Rattle.ticks.specs.declared.ticking.Ticked.{Ticked}
+use Rattle.channel.specs.declared.step.Ticked.{Ticked}
 use Rattle.ticks.proofs.TickLaws.{tick-sends as ticked-sends}
 use Rattle.ticks.specs.Ticks.{ticked}
 use Rattle.keeps.specs.Keeping.{staying}
@@ -17,7 +17,7 @@ use Rattle.protocol.specs.Sending.{Sender}
 use Rattle.protocol.specs.Receiving.{Receiver}
 use Rattle.means.proofs.SenderControl.{tick-sends}
 use Rattle.delivery.specs.Calls.{End, Kind, opens, closes, transfers, asks, takes, reclaims, hands, arrives, strays, ticks, Request, called, indexTold}
-use Rattle.delivery.specs.History.{host, Event, is, granted, names, IsDataAck, Replied, openings}
+use Rattle.delivery.specs.History.{host, Event, is, granted, binds, IsDataAck, Replied, openings}
 use Rattle.delivery.specs.Delivery.{Fresh, Alike, NotLate}
 use Rattle.delivery.proofs.Nodes.{endWith}
 use Rattle.delivery.proofs.Known.{InvOf, Numbered, Host}
@@ -56,7 +56,7 @@ module _ (h s : End) (fresh-h : Fresh h) (fresh-s : Fresh s) (alike : Alike h s)
   abbrev pub HostCall : Request → ℕ → Type 0
   HostCall r copy =
       let g = called (endWith h t mem lens lines n) r in
-      (is host arrives (hostCall r copy) ≡ true → names h (r .octets) ≡ true
+      (is host arrives (hostCall r copy) ≡ true → binds h (r .octets) ≡ true
       → Replied s past copy (r .octets) × (IsDataAck (r .octets) → NotLate (endWith h t mem lens lines n) copy))
       → (granted host opens (h .index) (hostEvent r copy n (indexTold (endWith h t mem lens lines n) r) (g .answer) (g .out)) ≡ true → openings host (h .index) past ≡ 0)
       → HostNext h s past y (hostEvent r copy n (indexTold (endWith h t mem lens lines n) r) (g .answer) (g .out)) n (recordAt t (h .index)) (recordAt (g .table) (h .index))

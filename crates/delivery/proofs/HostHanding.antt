@@ -1,4 +1,4 @@
--- The hand-out of a packet at the host: Control is nothing to the data, Data of the channel that is watched carries the segment that the protocol
+-- The hand-out of a packet at the host: Control and a Heartbeat are nothing to the data, Data of the channel that is watched carries the segment that the protocol
 -- hands out, and no packet of another channel names the subscriber's.
 -- Assumes nothing.
 use mathlib.Core.Path.{_≡_, refl, sym, ap, ap₂, _∙_, subst}
@@ -10,7 +10,7 @@ use native.Mathlib.Omega.{arith}
 use borrow.Author.Tests.{eqb-true, eqb-false}
 use lib.Dec.{eqb}
 use lib.ListN.{length, getD, take}
-use Rattle.laws.proofs.Choice.{both}
+use Rattle.laws.proofs.Choice.{both, either-way}
 use Rattle.packet.specs.Kinds.{kindOf}
 use Rattle.packet.specs.declared.fields.Fields.{Fields}
 use Rattle.packet.specs.Layout.{fieldsAt, payloadIn}
@@ -29,7 +29,8 @@ use Rattle.channel.specs.Prefixes.{samePrefix}
 use Rattle.channel.specs.Record.{sends}
 use Rattle.sender_packets.specs.Asked.{Ready}
 use Rattle.sender_packets.specs.HandingOut.{segmentFor, nextOut}
-use Rattle.table.specs.Waiting.{rankIn}
+use Rattle.table.specs.Waiting.{waits, rankIn}
+use Rattle.table.proofs.WaitingLaws.{waits-receives}
 use Rattle.table.specs.declared.looking.Sought.the-variants as sought
 use Rattle.table.specs.Looking.{seeking}
 use Rattle.table.specs.Looking.{looksFor, same, chosen as choice}
@@ -38,7 +39,7 @@ use Rattle.requests.specs.Handing.{nextFor}
 use Rattle.arrivals.specs.Finding.{isOurs, prefixRead}
 use Rattle.node.specs.declared.request.Request.the-variants.{NextPacket}
 use Rattle.node.specs.Calls.{served}
-use Rattle.keeps.proofs.StepsKeep.{next-keeps, given-ready}
+use Rattle.keeps.proofs.StepsKeep.{next-keeps, given-waits, given-ready}
 use Rattle.keeps.proofs.CallsAlone.{shapes}
 use Rattle.protocol.specs.Numbers.{numberAt, distance}
 use Rattle.protocol.specs.Units.{Segment, blank}
@@ -48,7 +49,7 @@ use Rattle.protocol.specs.Receiving.{Receiver}
 use Rattle.protocol.specs.History as protocol
 use Rattle.means.specs.Meaning.{carried}
 use Rattle.means.proofs.Sends.{Sends, state-opened}
-use Rattle.means.proofs.Handing.{DataOut, control-out-sends, data-out-sends}
+use Rattle.means.proofs.Handing.{DataOut, single-out-sends, data-out-sends}
 use Rattle.delivery.specs.Calls.{End, hands, Request, channelOf}
 use Rattle.delivery.specs.History.{Event, names, IsData, Toward, segmentOf}
 use Rattle.delivery.proofs.Nodes.{same-addresses, own-asked}
@@ -57,7 +58,7 @@ use Rattle.delivery.proofs.Counting.{distance-on}
 use Rattle.delivery.proofs.HostFrame.{hostEvent, host-next}
 use Rattle.delivery.proofs.Own.{Seen, Left, own-cases}
 use Rattle.delivery.proofs.Packets.{named-is, names-nothing, equal-rivals}
-use Rattle.delivery.proofs.Handed.{next-destination, next-channel, next-control, next-data, control-kind, payload-data, Carries, hand-cases}
+use Rattle.delivery.proofs.Handed.{next-destination, next-channel, next-single, next-data, single-kind, payload-data, Carries, hand-cases}
 use Rattle.delivery.proofs.HostNow.{HostAt, asking, own, octets, lengths, own-below, own-sends, own-limits, asked, small, alone-here, indexFor, Next, waits-on, stays-so, counts-same, was-open}
 
 -- ---- what an address test has shown
@@ -69,9 +70,17 @@ ours-to node f e = eqb-true (f .destination) (node .address) (both (eqb (f .dest
 same-channel : (a : Addresses) (f : Fields) (q : Prefix) → same a f q ≡ true → a .channel ≡ f .channel
 unfolding same
 same-channel a f q e =
-    let p = both (eqb (a .channel) (f .channel) && eqb (a .remote) (f .source) && samePrefix (a .prefix) q) (eqb (a .direction) (looksFor (kindOf (f .kind)))) e in
+    let p = both (eqb (a .channel) (f .channel) && eqb (a .remote) (f .source) && samePrefix (a .prefix) q) (looksFor (kindOf (f .kind)) (a .direction)) e in
     let r = both (eqb (a .channel) (f .channel) && eqb (a .remote) (f .source)) (samePrefix (a .prefix) q) (p .0) in
     eqb-true (a .channel) (f .channel) (both (eqb (a .channel) (f .channel)) (eqb (a .remote) (f .source)) (r .0) .0)
+
+-- a packet that is Data is a sender's
+data-sent : (node : Node) (c : Channel) (m l : List ℕ) (rank : ℕ) (packet : List ℕ) → waits rank c ≡ true → Carries node c m l rank packet → IsData packet → c .addresses .direction ≡ sends
+data-sent node c m l rank packet waiting carries kind =
+    either-way (eqb (c .addresses .direction) sends) (λ e. eqb-true _ _ e)
+    (λ e.
+    let none = waits-receives c rank (eqb-false _ _ e) waiting .0 in
+    absurd (single-kind node c (sym (ap (λ (f : Fields). kindOf (f .kind)) (carries .fields ∙ next-single node c rank none)) ∙ kind)))
 
 -- the number of a segment, d past the start
 number-on : (start i d : ℕ) → start ≡ numberAt i → (start + d) % 256 ≡ numberAt (i + d)
@@ -109,10 +118,10 @@ module _ {h s : End} {past : List Event} {x : Sender} {y : Receiver} {t : List C
       (dir ∙ sym (k .alike .sends))
       (subst (λ (a : Addresses). samePrefix (a .prefix) (channelOf h .addresses .prefix) ≡ true) (sym (same-addresses h t mem lens (k .now .kept) j)) toward))
 
-  hand-elsewhere : (j : ℕ) (there : j < length t) → (j ≡ h .index → ⊥) → indexFor k request ≡ j → (rank : ℕ) → recordAt t j .addresses .direction ≡ sends → Ready (recordAt t j) rank
+  hand-elsewhere : (j : ℕ) (there : j < length t) → (j ≡ h .index → ⊥) → indexFor k request ≡ j → (rank : ℕ) → waits rank (recordAt t j) ≡ true → Ready (recordAt t j) rank
       → let w = nextFor (h .node) (recordAt t j) rank (ownMem t j mem) (ownLens t j lens) b in
       Next k request copy (w .made .answer) (w .out) (own k) (octets k) (lengths k)
-  hand-elsewhere j there apart index rank dir ready =
+  hand-elsewhere j there apart index rank waiting ready =
       let m = ownMem t j mem in
       let l = ownLens t j lens in
       hand-cases (h .node) (recordAt t j) m l (own-asked h t mem lens (k .now .kept) j there) rank ready
@@ -120,19 +129,21 @@ module _ {h s : End} {past : List Event} {x : Sender} {y : Receiver} {t : List C
       (hand-refused _ b)
       (λ z o carries.
       hand-quiet (Done z 0) o
-      (λ packet e toward named kind. not-named j there apart (subst (Toward h) index toward) dir m l rank packet (subst (Carries (h .node) (recordAt t j) m l rank) e carries) named))
+      (λ packet e toward named kind.
+      let is = subst (Carries (h .node) (recordAt t j) m l rank) e carries in
+      not-named j there apart (subst (Toward h) index toward) (data-sent (h .node) (recordAt t j) m l rank packet waiting is kind) m l rank packet is named))
 
-  -- ---- Control
+  -- ---- Control, or the Heartbeat
 
-  hand-control : (z : ℕ) (o : List ℕ) → Carries (h .node) (own k) (octets k) (lengths k) 0 (take z o)
+  hand-single : (z : ℕ) (o : List ℕ) → Carries (h .node) (own k) (octets k) (lengths k) 0 (take z o)
       → Next k request copy (Done z 0) o (nextOut (own k) 0) (octets k) (lengths k)
-  hand-control z o carries =
+  hand-single z o carries =
       let c = nextOut (own k) 0 in
-      let means = control-out-sends (own k) (octets k) (lengths k) x (asked k) (own-sends k) (k .now .means) in
+      let means = single-out-sends (own k) (octets k) (lengths k) x (asked k) (own-sends k) (k .now .means) in
       host-next h s past y x (k .inv) (k .numbered) (small k) request copy n (indexFor k request) (Done z 0) o SenderCall.noise tt refl refl refl
       (λ j packet _ wrote _ _ _ kind.
-      let fields = subst (Carries (h .node) (own k) (octets k) (lengths k) 0) wrote carries .fields ∙ next-control (h .node) (own k) 0 refl in
-      absurd (control-kind (h .node) (own k) (sym (ap (λ (f : Fields). kindOf (f .kind)) fields) ∙ kind)))
+      let fields = subst (Carries (h .node) (own k) (octets k) (lengths k) 0) wrote carries .fields ∙ next-single (h .node) (own k) 0 refl in
+      absurd (single-kind (h .node) (own k) (sym (ap (λ (f : Fields). kindOf (f .kind)) fields) ∙ kind)))
       (own k) c (octets k) (lengths k) means
       (counts-same k c (octets k) (lengths k) x means refl (was-open k refl))
       (waits-on k (hostEvent request copy n (indexFor k request) (Done z 0) o))
@@ -228,7 +239,7 @@ module _ {h s : End} {past : List Event} {x : Sender} {y : Receiver} {t : List C
       by-rank z o carries true q =
           let e = eqb-true r 0 q in
           subst (λ (r : ℕ). Next k request copy (Done z 0) o (nextOut (own k) r) (octets k) (lengths k)) (sym e)
-          (hand-control z o (subst (λ (r : ℕ). Carries (h .node) (own k) (octets k) (lengths k) r (take z o)) e carries))
+          (hand-single z o (subst (λ (r : ℕ). Carries (h .node) (own k) (octets k) (lengths k) r (take z o)) e carries))
       by-rank z o carries false q = hand-data r ready (eqb-false r 0 q) z o carries
 
   pub host-hands : Seen (Next k request copy) (h .index) (served t mem lens lines (NextPacket (h .node)) u b)
@@ -237,8 +248,5 @@ module _ {h s : End} {past : List Event} {x : Sender} {y : Receiver} {t : List C
       (Next k request copy)
       (λ why. hand-refused why b)
       (λ j there apart at g.
-      let r = given-ready j _ (recordAt t j) _ _ g in
-      hand-elsewhere j there apart at (rankIn (choice (seeking sought.Ready) lines t .grade)) (r .0) (r .1))
-      (λ at g.
-      let r = given-ready (h .index) _ (own k) _ _ g in
-      hand-own (rankIn (choice (seeking sought.Ready) lines t .grade)) (r .1))
+      hand-elsewhere j there apart at (rankIn (choice (seeking sought.Ready) lines t .grade)) (given-waits j _ (recordAt t j) _ _ g) (given-ready j _ (recordAt t j) _ _ g))
+      (λ at g. hand-own (rankIn (choice (seeking sought.Ready) lines t .grade)) (given-ready (h .index) _ (own k) _ _ g))

@@ -27,3 +27,4 @@ pub mod SubscriberRequests
 pub mod SubscriberTakes
 pub mod SubscriberTicks
 pub mod Ticked
+pub mod Holds

@@ -1,13 +1,15 @@
 -- Packets as the two ends see them: what is known of one that names a channel, and that no two channels of a table are named by one.
 -- Assumes nothing.
 use mathlib.Core.Path.{_≡_, refl, sym, ap, ap₂, _∙_}
-use mathlib.Core.Bool.{Bool, true, false, true≢false, _&&_}
+use mathlib.Core.Bool.{Bool, true, false, not, true≢false, _&&_}
 use mathlib.Core.List.{List, []}
 use Prim.Native.Nat.{ℕ}
 use borrow.Author.Tests.{eqb-true, eq-eqb}
 use lib.Dec.{eqb}
 use Rattle.laws.specs.Choice.{if_then_else_}
 use Rattle.laws.proofs.Choice.{both}
+use Rattle.packet.specs.declared.kinds.Kind as packets
+use Rattle.packet.specs.declared.kinds.Kind.the-variants as kinds
 use Rattle.packet.specs.Kinds.{kindOf}
 use Rattle.packet.specs.declared.fields.Fields.{Fields}
 use Rattle.packet.specs.Layout.{fieldsAt, prefixAt, lengthAt, payloadAt}
@@ -31,7 +33,7 @@ use Rattle.table.specs.Looking.{looksFor, same}
 use Rattle.arrivals.specs.Finding.{isOurs, prefixRead}
 use Rattle.arrivals.proofs.FindLaws.{Read-well}
 use Rattle.delivery.specs.Calls.{End, channelOf}
-use Rattle.delivery.specs.History.{namesBy, names}
+use Rattle.delivery.specs.History.{namesBy, names, isBeat, binds}
 
 -- ---- a packet that names the channel
 
@@ -67,24 +69,39 @@ names-so e packet w ours is =
     ap (λ (r : Read). namesBy r packet (e .node) (channelOf e .addresses)) (read-found packet (w .short) (w .damaged) (w .lacking) (w .strange))
     ∙ ap₂ (λ (p q : Bool). p && q) ours is
 
+-- no Heartbeat, so that the premises bind it
+pub binds-so : (e : End) (packet : List ℕ) (kind : packets.Kind) → kindOf (fieldsAt packet .kind) ≡ kind → isBeat kind ≡ false → names e packet ≡ true → binds e packet ≡ true
+binds-so e packet kind is none named = ap₂ (λ (p q : Bool). p && not q) named (ap isBeat is ∙ none)
+
 pub names-nothing : (e : End) → names e [] ≡ false
 unfolding readOf short
 names-nothing e = refl
 
 -- ---- what two channels would have in common
 
-pub same-rivals : (a b : Addresses) (f : Fields) (q : Prefix) → same a f q ≡ true → same b f q ≡ true → rivals a b ≡ true
+-- but for a Heartbeat, a packet tells the direction of the end that it is for
+one-way : (kind : packets.Kind) (a b : ℕ) → isBeat kind ≡ false → looksFor kind a ≡ true → looksFor kind b ≡ true → a ≡ b
+one-way kinds.Data a b none p q = eqb-true _ _ p ∙ sym (eqb-true _ _ q)
+one-way kinds.DataAck a b none p q = eqb-true _ _ p ∙ sym (eqb-true _ _ q)
+one-way kinds.Open a b none p q = eqb-true _ _ p ∙ sym (eqb-true _ _ q)
+one-way kinds.Close a b none p q = eqb-true _ _ p ∙ sym (eqb-true _ _ q)
+one-way kinds.Heartbeat a b none p q = absurd (true≢false none)
+one-way kinds.HeartbeatAck a b none p q = absurd (true≢false none)
+one-way kinds.ControlAck a b none p q = eqb-true _ _ p ∙ sym (eqb-true _ _ q)
+one-way (kinds.Lacking code) a b none p q = eqb-true _ _ p ∙ sym (eqb-true _ _ q)
+
+pub same-rivals : (a b : Addresses) (f : Fields) (q : Prefix) → isBeat (kindOf (f .kind)) ≡ false → same a f q ≡ true → same b f q ≡ true → rivals a b ≡ true
 unfolding same clash
-same-rivals a b f q p r =
-    let p1 = both (eqb (a .channel) (f .channel) && eqb (a .remote) (f .source) && samePrefix (a .prefix) q) (eqb (a .direction) (looksFor (kindOf (f .kind)))) p in
-    let r1 = both (eqb (b .channel) (f .channel) && eqb (b .remote) (f .source) && samePrefix (b .prefix) q) (eqb (b .direction) (looksFor (kindOf (f .kind)))) r in
+same-rivals a b f q none p r =
+    let p1 = both (eqb (a .channel) (f .channel) && eqb (a .remote) (f .source) && samePrefix (a .prefix) q) (looksFor (kindOf (f .kind)) (a .direction)) p in
+    let r1 = both (eqb (b .channel) (f .channel) && eqb (b .remote) (f .source) && samePrefix (b .prefix) q) (looksFor (kindOf (f .kind)) (b .direction)) r in
     let p2 = both (eqb (a .channel) (f .channel) && eqb (a .remote) (f .source)) (samePrefix (a .prefix) q) (p1 .0) in
     let r2 = both (eqb (b .channel) (f .channel) && eqb (b .remote) (f .source)) (samePrefix (b .prefix) q) (r1 .0) in
     let p3 = both (eqb (a .channel) (f .channel)) (eqb (a .remote) (f .source)) (p2 .0) in
     let r3 = both (eqb (b .channel) (f .channel)) (eqb (b .remote) (f .source)) (r2 .0) in
     let x = eq-eqb (a .channel) (b .channel) (eqb-true (a .channel) (f .channel) (p3 .0) ∙ sym (eqb-true (b .channel) (f .channel) (r3 .0))) in
     let y = eq-eqb (a .remote) (b .remote) (eqb-true (a .remote) (f .source) (p3 .1) ∙ sym (eqb-true (b .remote) (f .source) (r3 .1))) in
-    let z = eq-eqb (a .direction) (b .direction) (eqb-true (a .direction) (looksFor (kindOf (f .kind))) (p1 .1) ∙ sym (eqb-true (b .direction) (looksFor (kindOf (f .kind))) (r1 .1))) in
+    let z = eq-eqb (a .direction) (b .direction) (one-way (kindOf (f .kind)) (a .direction) (b .direction) none (p1 .1) (r1 .1)) in
     simp (x, y, z, same-both (a .prefix) (b .prefix) q (p2 .1) (r2 .1))
 
 pub equal-rivals : (a b : Addresses) → a .channel ≡ b .channel → a .remote ≡ b .remote → a .direction ≡ b .direction → samePrefix (a .prefix) (b .prefix) ≡ true

@@ -36,7 +36,7 @@ module _ (t : List Channel) (mem lens lines : List ℕ) (node : Node) (out : Lis
       let i = servedAt (seeking sought.Ready) (nextFor node) t mem lens lines out in
       let asked : Asked (recordAt t i) (ownMem t i mem) (ownLens t i lens) = record { standing = g .standing; sized = g .sized } in
       hand-cases node (recordAt t i) (ownMem t i mem) (ownLens t i lens) asked (rankIn (choice (seeking sought.Ready) lines t .grade))
-      (given-ready i _ (recordAt t i) _ _ g .1)
+      (given-ready i _ (recordAt t i) _ _ g)
       (λ (w : Worked Stepped). HandOutRead (stored sought.Ready t mem lens lines (choice (seeking sought.Ready) lines t) w)) out
       (λ e. absurd (omega (arith, e)))
       (λ n o carries e. ap readNumber (carries .read)))
@@ -47,5 +47,5 @@ module _ (t : List Channel) (mem lens lines : List ℕ) (node : Node) (out : Lis
       serve-cases (lookOf node packet (length out)) (arrivalFor node packet) t mem lens lines out ReplyRead (inl refl) (inl refl)
       (λ h below g.
       let i = servedAt (lookOf node packet (length out)) (arrivalFor node packet) t mem lens lines out in
-      ⊎-elim (λ e. inl e) (⊎-elim (λ a. inr (ap readNumber (a .read))) (λ a. inr (ap readNumber (a .1 .read))))
+      ⊎-elim (λ e. inl e) (⊎-elim (λ a. inr (ap readNumber (a .read))) (⊎-elim (λ a. inr (ap readNumber (a .read))) (λ a. inr (ap readNumber (a .1 .read)))))
       (arrival-wrote node packet out i (rankIn (choice (lookOf node packet (length out)) lines t .grade)) (recordAt t i) (ownMem t i mem) (ownLens t i lens) g))

@@ -11,7 +11,7 @@ use lib.ListN.{length, take, drop}
 use Rattle.laws.specs.Choice.{if_then_else_}
 use Rattle.laws.proofs.Choice.{both, either-way}
 use Rattle.packet.specs.declared.kinds.Kind.{Kind}
-use Rattle.packet.specs.declared.kinds.Kind.the-variants.{Data, DataAck, Open, Close, ControlAck, Lacking}
+use Rattle.packet.specs.declared.kinds.Kind.the-variants.{Data, DataAck, Open, Close, Heartbeat, HeartbeatAck, ControlAck, Lacking}
 use Rattle.packet.specs.Kinds.{kindOf}
 use Rattle.packet.specs.declared.fields.Fields.{Fields}
 use Rattle.packet.specs.Layout.{mostPrefix, prefixFrom, packetOf, payloadAt, fieldsAt, prefixAt, lengthAt, payloadIn}
@@ -39,8 +39,12 @@ use Rattle.channel.proofs.PrefixLaws.{prefix-length, prefix-short}
 use Rattle.channel.proofs.StandingLaws.{own-fits}
 use Rattle.channel.specs.Lone.{isOut}
 use Rattle.sender_acks.specs.Acks.{controlAcked, controlAckStep, awayOf, isAwaited, recorded, confirmedAt, advanced, dataAckStep}
+use Rattle.channel.specs.Pulse.{heartbeatStep, heartbeatAckStep}
+use Rattle.receiver.specs.declared.acks.Acked.{Acked}
+use Rattle.receiver.specs.declared.acks.Acked.the-variants as acked
 use Rattle.receiver.specs.Receiving.{ackLength, ackKind, controlStep}
 use Rattle.receiver_data.specs.Data.{dataStep}
+use Rattle.ends.proofs.PulseCases.{heartbeat-cases, heartbeat-ack-cases}
 use Rattle.ends.proofs.ReceiverCases.{control-cases, data-cases, accept-cases}
 use Rattle.table.specs.declared.looking.Look.{Look}
 use Rattle.table.specs.Looking.{same, graded}
@@ -53,7 +57,7 @@ use Rattle.table.proofs.OneLaws.{kind-finds}
 use Rattle.arrivals.proofs.FindLaws.{found-packet}
 use Rattle.keeps.specs.Keeping.{Given}
 
--- ---- a receiver's steps: with 0 and 15 they have an Ack's octets written
+-- ---- the steps that reply: with 0 and 15 they have an Ack's octets written
 
 abbrev pub AsLong : Addresses → Answer → Type 0
 AsLong a (Done n u) = n ≡ ackLength a
@@ -69,7 +73,13 @@ data-long c number flags =
 pub control-long : (c : Channel) (opens : Bool) (number : ℕ) → AsLong (c .addresses) (controlStep c opens number .answer)
 control-long c opens number = control-cases c (λ (s : Stepped). AsLong (c .addresses) (s .answer)) tt refl opens number refl refl tt tt
 
--- a sender's steps have none
+pub heartbeat-long : (c : Channel) → AsLong (c .addresses) (heartbeatStep c .answer)
+heartbeat-long c = heartbeat-cases c (λ (s : Stepped). AsLong (c .addresses) (s .answer)) tt (λ e. refl)
+
+-- where an Ack arrives they have none
+pub heartbeat-ack-silent : (c : Channel) (number : ℕ) → lengthOf (heartbeatAckStep c number .answer) ≡ 0
+heartbeat-ack-silent c number = heartbeat-ack-cases c (λ (s : Stepped). lengthOf (s .answer) ≡ 0) refl number refl (λ e. refl)
+
 data-ack-silent : (c : Channel) (number : ℕ) → lengthOf (dataAckStep c number .answer) ≡ 0
 unfolding dataAckStep
 data-ack-silent c number = go (not (eqb (c .phase .state) opened)) (not (isAwaited c (awayOf c number)))
@@ -106,23 +116,24 @@ module _ (node : Node) (a : Addresses) (number : ℕ) (fits : fitPrefix (a .own)
   few : ltb mostPrefix (a .own .length) ≡ false
   few = le-ltb mostPrefix (a .own .length) (prefix-short (a .own) fits)
 
-  ack-plain : (ofData : Bool)
-      → (lacking (outgoingOf node a (ackKind ofData) flagsWhole number) (a .own .length) ≡ false) × (strange (outgoingOf node a (ackKind ofData) flagsWhole number) 0 ≡ false)
+  ack-plain : (of : Acked)
+      → (lacking (outgoingOf node a (ackKind of) flagsWhole number) (a .own .length) ≡ false) × (strange (outgoingOf node a (ackKind of) flagsWhole number) 0 ≡ false)
   unfolding lacking strange kindOf
-  ack-plain true = (simp (few), refl)
-  ack-plain false = (simp (few), refl)
+  ack-plain acked.Data = (simp (few), refl)
+  ack-plain acked.Control = (simp (few), refl)
+  ack-plain acked.Heartbeat = (simp (few), refl)
 
-  module _ (ofData : Bool) (out : List ℕ) (room : ackLength a ≤ length out) where
+  module _ (of : Acked) (out : List ℕ) (room : ackLength a ≤ length out) where
     abbrev f : Fields
-    f = outgoingOf node a (ackKind ofData) flagsWhole number
+    f = outgoingOf node a (ackKind of) flagsWhole number
 
     abbrev q : List ℕ
     q = prefixOf (a .own)
 
-    pub ack-written : Acks node a (ackKind ofData) number (take (ackLength a) (packetOf f q [] ++ drop (ackLength a) out))
+    pub ack-written : Acks node a (ackKind of) number (take (ackLength a) (packetOf f q [] ++ drop (ackLength a) out))
     unfolding afterWrite
     ack-written =
-        let plain = ack-plain ofData in
+        let plain = ack-plain of in
         let own = prefix-length (a .own) in
         let done = ap (λ (n : ℕ). writtenOf f n 0 (length out)) own ∙ write-done f (a .own .length) 0 (length out) (plain .0) (plain .1) room in
         let r = written-then-read f q [] out (ackLength a) done in
@@ -139,9 +150,9 @@ module _ (node : Node) (a : Addresses) (number : ℕ) (fits : fitPrefix (a .own)
 
     -- what is written by an answer: nothing, or the Ack
     pub reply-written : (r : Answer) → AsLong a r
-        → (take (lengthOf r) (repliedBy r node a ofData number out) ≡ []) ⊎ Acks node a (ackKind ofData) number (take (lengthOf r) (repliedBy r node a ofData number out))
-    reply-written (Done n u) e = inr (subst (λ (k : ℕ). Acks node a (ackKind ofData) number (take k (packetOf f q [] ++ drop (ackLength a) out))) (sym e) ack-written)
-    reply-written (Repeated n) e = inr (subst (λ (k : ℕ). Acks node a (ackKind ofData) number (take k (packetOf f q [] ++ drop (ackLength a) out))) (sym e) ack-written)
+        → (take (lengthOf r) (repliedBy r node a of number out) ≡ []) ⊎ Acks node a (ackKind of) number (take (lengthOf r) (repliedBy r node a of number out))
+    reply-written (Done n u) e = inr (subst (λ (k : ℕ). Acks node a (ackKind of) number (take k (packetOf f q [] ++ drop (ackLength a) out))) (sym e) ack-written)
+    reply-written (Repeated n) e = inr (subst (λ (k : ℕ). Acks node a (ackKind of) number (take k (packetOf f q [] ++ drop (ackLength a) out))) (sym e) ack-written)
     reply-written (Inactive why) e = inl refl
     reply-written (Refused why) e = inl refl
 
@@ -185,6 +196,7 @@ module _ (node : Node) (packet out : List ℕ) (at rank : ℕ) (c : Channel) (me
   Wrote v =
       (take (lengthOf (v .made .answer)) (v .out) ≡ [])
       ⊎ (Acks node (c .addresses) ControlAck n (take (lengthOf (v .made .answer)) (v .out)))
+      ⊎ (Acks node (c .addresses) HeartbeatAck n (take (lengthOf (v .made .answer)) (v .out)))
       ⊎ ((c .addresses .direction ≡ receives) × Acks node (c .addresses) DataAck n (take (lengthOf (v .made .answer)) (v .out)))
 
   pub arrival-wrote : Wrote (arrivalFor node packet c rank mem lens out)
@@ -209,18 +221,22 @@ module _ (node : Node) (packet out : List ℕ) (at rank : ℕ) (c : Channel) (me
       fits : fitPrefix (c .addresses .own) ≡ true
       fits = own-fits c lens (given .standing)
 
-      control : ackLength (c .addresses) ≤ length out → (opens : Bool) → Wrote (replying node c false n (controlStep c opens n) mem lens out)
+      control : ackLength (c .addresses) ≤ length out → (opens : Bool) → Wrote (replying node c acked.Control n (controlStep c opens n) mem lens out)
       control room opens =
           ⊎-elim (λ e. inl e) (λ e. inr (inl e))
-          (reply-written node (c .addresses) n fits false out room (controlStep c opens n .answer) (control-long c opens n))
+          (reply-written node (c .addresses) n fits acked.Control out room (controlStep c opens n .answer) (control-long c opens n))
 
       as-kind : (k : Kind) → kindOf (f .kind) ≡ k → replyLength c k ≤ length out → Wrote (arriveAs k node f p c rank mem lens out)
       as-kind Data is room =
-          ⊎-elim (λ e. inl e) (λ e. inr (inr (kind-finds (c .addresses) f (prefixRead packet) Data (told .ours) is, e)))
-          (reply-written node (c .addresses) n fits true out room (dataStep c n (f .flags) .answer) (data-long c n (f .flags)))
+          ⊎-elim (λ e. inl e) (λ e. inr (inr (inr (eqb-true _ _ (kind-finds (c .addresses) f (prefixRead packet) Data (told .ours) is), e))))
+          (reply-written node (c .addresses) n fits acked.Data out room (dataStep c n (f .flags) .answer) (data-long c n (f .flags)))
       as-kind DataAck is room = silent (dataAckStep c n) (data-ack-silent c n)
       as-kind Open is room = control room true
       as-kind Close is room = control room false
+      as-kind Heartbeat is room =
+          ⊎-elim (λ e. inl e) (λ e. inr (inr (inl e)))
+          (reply-written node (c .addresses) n fits acked.Heartbeat out room (heartbeatStep c .answer) (heartbeat-long c))
+      as-kind HeartbeatAck is room = silent (heartbeatAckStep c n) (heartbeat-ack-silent c n)
       as-kind ControlAck is room = silent (controlAckStep c n) (control-ack-silent c n)
       as-kind (Lacking code) is room = inl refl
 

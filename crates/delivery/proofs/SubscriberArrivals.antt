@@ -1,5 +1,6 @@
 -- An arrival at the subscriber: Data for its channel is an arrival at the protocol's receiver, with the same Data Ack; a Control packet is a move
--- to a later phase, or nothing; and what is for another channel changes nothing here, and has no Data Ack for the host.
+-- to a later phase, or nothing; a Heartbeat and its Ack are nothing to the protocol; and what is for another channel changes nothing here, and has no Data
+-- Ack for the host.
 -- Assumes nothing.
 use mathlib.Core.Path.{_≡_, refl, sym, ap, _∙_, subst}
 use mathlib.Core.Bool.{Bool, true, false, true≢false, _||_}
@@ -7,13 +8,13 @@ use mathlib.Core.List.{List, []}
 use mathlib.Core.Logic.{_⊎_, ⊎-elim}
 use Prim.Native.Nat.{ℕ, _≤_, _<_}
 use native.Mathlib.Omega.{arith}
-use borrow.Author.Tests.{ltb-true, ltb-false}
+use borrow.Author.Tests.{ltb-true, ltb-false, eqb-true}
 use lib.Dec.{ltb}
 use lib.ListN.{length, take, drop, length-take}
 use Rattle.laws.proofs.Choice.{either-way}
 use Rattle.packet.specs.declared.kinds.Kind as packets
 use Rattle.packet.specs.declared.kinds.Kind.the-variants as packet-kind
-use Rattle.packet.specs.Kinds.{codeOf, kindOf}
+use Rattle.packet.specs.Kinds.{codeOf, kindOf, carried}
 use Rattle.packet.proofs.KindLaws.{kind-back}
 use Rattle.packet.specs.declared.fields.Fields.{Fields}
 use Rattle.packet.specs.Layout.{fieldsAt, prefixAt, lengthAt, payloadAt, payloadIn}
@@ -25,12 +26,15 @@ use Rattle.channel.specs.declared.answer.Answer.the-variants.{Refused}
 use Rattle.channel.specs.declared.answer.Refusal as refusals
 use Rattle.channel.specs.declared.answer.Refusal.the-variants as refusal
 use Rattle.channel.specs.declared.step.Stepped.{Stepped}
-use Rattle.channel.specs.Record.{receives}
+use Rattle.channel.specs.Record.{sends, receives}
 use Rattle.channel.specs.Answers.{lengthOf}
 use Rattle.channel.specs.Prefixes.{fitPrefix, samePrefix}
 use Rattle.channel.proofs.StandingLaws.{own-fits}
 use Rattle.channel.specs.Steps.{refusing}
-use Rattle.receiver.specs.Receiving.{ackLength, controlStep}
+use Rattle.channel.specs.Pulse.{heartbeatStep, heartbeatAckStep}
+use Rattle.receiver.specs.declared.acks.Acked.{Acked}
+use Rattle.receiver.specs.declared.acks.Acked.the-variants as acked
+use Rattle.receiver.specs.Receiving.{ackLength, ackKind, controlStep}
 use Rattle.table.specs.Waiting.{rankIn}
 use Rattle.table.specs.declared.looking.Look.{Look}
 use Rattle.table.specs.Looking.{same, chosen as choice}
@@ -39,7 +43,7 @@ use Rattle.table.specs.Serving.{recordAt, ownMem, ownLens}
 use Rattle.arrivals.specs.Arriving.{arriveAs, arriveBy, arrivalFor, Framed}
 use Rattle.arrivals.specs.Finding.{isOurs, lookOf, prefixRead}
 use Rattle.arrivals.specs.Data.{replyLength, unfit}
-use Rattle.arrivals.specs.Replying.{repliedBy, replying}
+use Rattle.arrivals.specs.Replying.{repliedBy, acknowledging, replying}
 use Rattle.arrivals.proofs.ArriveLaws.{by-small, by-unfit, by-kind}
 use Rattle.arrivals.proofs.FindLaws.{found-packet}
 use Rattle.arrivals.proofs.DataLaws.{fit-payload}
@@ -48,14 +52,16 @@ use Rattle.keeps.proofs.StepsKeep.{arrival-keeps}
 use Rattle.keeps.proofs.CallsAlone.{shapes}
 use Rattle.protocol.specs.Sending.{Sender}
 use Rattle.protocol.specs.Receiving.{Receiver}
-use Rattle.means.proofs.ReceiverControl.{control-receives}
+use Rattle.means.proofs.ReceiverControl.{Moves, control-receives}
+use Rattle.means.proofs.Pulses.{heartbeat-receives, heartbeat-ack-receives}
+use Rattle.means.proofs.PulseMoves.{pulse-moves, still-moves}
 use Rattle.delivery.specs.Calls.{End, arrives, Request, channelOf, calledBy}
-use Rattle.delivery.specs.History.{Event, names, IsData, Toward, HandedOut}
+use Rattle.delivery.specs.History.{Event, names, binds, IsData, Toward, HandedOut}
 use Rattle.delivery.specs.Delivery.{rivals, NotLate}
 use Rattle.delivery.proofs.Own.{Seen, Left, own-cases}
 use Rattle.delivery.proofs.Nodes.{endWith, same-length, same-addresses, toward-itself}
-use Rattle.delivery.proofs.Packets.{named-is, names-so, equal-rivals}
-use Rattle.delivery.proofs.Replies.{control-long, Acks, reply-written, ack-named, arrival-framed, arrival-wrote}
+use Rattle.delivery.proofs.Packets.{named-is, names-so, binds-so, equal-rivals}
+use Rattle.delivery.proofs.Replies.{AsLong, control-long, heartbeat-long, heartbeat-ack-silent, Acks, reply-written, ack-named, arrival-framed, arrival-wrote}
 use Rattle.delivery.proofs.SubscriberData.{data-next}
 use Rattle.delivery.proofs.SubscriberEnd.{Stage, below, addresses-are, receiving, not-sending, asked, indexFor, Next, Unreplied, unwritten, quiet, moves-next}
 
@@ -95,12 +101,19 @@ module _ {h s : End} {past : List Event} {x : Sender} {y : Receiver} {t : List C
   arrives-quiet : (a : Answer) (o : List ℕ) → Unreplied w request copy a o → Next w request copy a o c m l
   arrives-quiet a o u = quiet w request copy a o refl refl u
 
-  control-written : (a : Answer) (o : List ℕ) (d : Addresses) (number : ℕ) → Acks (s .node) d packet-kind.ControlAck number (take (lengthOf a) o) → Unreplied w request copy a o
-  control-written a o d number k q is wrote toward named kind =
-      let is-control : kindOf (fieldsAt q .kind) ≡ packet-kind.ControlAck
-      = ap (λ (o : List ℕ). kindOf (fieldsAt o .kind)) (sym wrote) ∙ ap (λ (g : Fields). kindOf (g .kind)) (k .fields) ∙ kind-back packet-kind.ControlAck refl
+  other-ack : (a : Answer) (o : List ℕ) (d : Addresses) (number : ℕ) (ack : packets.Kind) → carried ack ≡ true → (codeOf ack ≡ codeOf packet-kind.DataAck → ⊥)
+      → Acks (s .node) d ack number (take (lengthOf a) o) → Unreplied w request copy a o
+  other-ack a o d number ack known other k q is wrote toward named kind =
+      let is-ack : kindOf (fieldsAt q .kind) ≡ ack
+      = ap (λ (o : List ℕ). kindOf (fieldsAt o .kind)) (sym wrote) ∙ ap (λ (g : Fields). kindOf (g .kind)) (k .fields) ∙ kind-back ack known
       in
-      omega (arith, ap codeOf (sym is-control ∙ kind))
+      other (ap codeOf (sym is-ack ∙ kind))
+
+  control-written : (a : Answer) (o : List ℕ) (d : Addresses) (number : ℕ) → Acks (s .node) d packet-kind.ControlAck number (take (lengthOf a) o) → Unreplied w request copy a o
+  control-written a o d number k = other-ack a o d number packet-kind.ControlAck refl (λ e. omega (arith, e)) k
+
+  beat-written : (a : Answer) (o : List ℕ) (d : Addresses) (number : ℕ) → Acks (s .node) d packet-kind.HeartbeatAck number (take (lengthOf a) o) → Unreplied w request copy a o
+  beat-written a o d number k = other-ack a o d number packet-kind.HeartbeatAck refl (λ e. omega (arith, e)) k
 
   -- of another channel: it would have the addresses of this one, or goes elsewhere
   other-written : (j : ℕ) → j < length t → (j ≡ i → ⊥) → indexFor w request ≡ j → (a : Answer) (o : List ℕ) (number : ℕ)
@@ -134,16 +147,19 @@ module _ {h s : End} {past : List Event} {x : Sender} {y : Receiver} {t : List C
       (⊎-elim (λ z. unwritten w request copy (v .made .answer) (v .out) z)
       (λ z. ⊎-elim
       (λ k. control-written (v .made .answer) (v .out) (recordAt t j .addresses) (f .number) k)
-      (λ k. other-written j there apart index (v .made .answer) (v .out) (f .number) (k .0) (k .1)) z)
+      (λ z. ⊎-elim
+      (λ k. beat-written (v .made .answer) (v .out) (recordAt t j .addresses) (f .number) k)
+      (λ k. other-written j there apart index (v .made .answer) (v .out) (f .number) (k .0) (k .1)) z) z)
       (subst (λ (u : Worked Stepped).
       (take (lengthOf (u .made .answer)) (u .out) ≡ [])
       ⊎ (Acks (s .node) (recordAt t j .addresses) packet-kind.ControlAck (f .number) (take (lengthOf (u .made .answer)) (u .out)))
+      ⊎ (Acks (s .node) (recordAt t j .addresses) packet-kind.HeartbeatAck (f .number) (take (lengthOf (u .made .answer)) (u .out)))
       ⊎ ((recordAt t j .addresses .direction ≡ receives) × Acks (s .node) (recordAt t j .addresses) packet-kind.DataAck (f .number) (take (lengthOf (u .made .answer)) (u .out)))) e
       (arrival-wrote (s .node) packet buffer j (rankIn (choice look lines t .grade)) (recordAt t j) (ownMem t j mem) (ownLens t j lens) g)))
 
   -- ---- at the channel itself
 
-  module _ (fair : names s packet ≡ true → HandedOut h past copy packet × (IsData packet → NotLate (endWith s t mem lens lines n) copy))
+  module _ (fair : binds s packet ≡ true → HandedOut h past copy packet × (IsData packet → NotLate (endWith s t mem lens lines n) copy))
       (rank : ℕ) (g : Given look i rank c m l) (toward : Toward s (indexFor w request)) where
     told : Framed c f (payloadAt (prefixAt packet)) count packet buffer
     told = arrival-framed (s .node) packet buffer i rank c m l g
@@ -162,24 +178,40 @@ module _ {h s : End} {past : List Event} {x : Sender} {y : Receiver} {t : List C
     fits : fitPrefix (c .addresses .own) ≡ true
     fits = own-fits c l (g .standing)
 
-    control : ackLength (c .addresses) ≤ length buffer → (opens : Bool) → Made (replying (s .node) c false (f .number) (controlStep c opens (f .number)) m l buffer)
-    control room opens =
-        let step : Stepped = controlStep c opens (f .number) in
-        let out : List ℕ = repliedBy (step .answer) (s .node) (c .addresses) false (f .number) buffer in
+    -- a step with its reply, which is no Data Ack
+    replied : ackLength (c .addresses) ≤ length buffer → (of : Acked) → carried (ackKind of) ≡ true → (codeOf (ackKind of) ≡ codeOf packet-kind.DataAck → ⊥)
+        → (step : Stepped) → AsLong (c .addresses) (step .answer) → Moves c (step .channel) m l y → Made (replying (s .node) c of (f .number) step m l buffer)
+    replied room of known other step long moves =
+        let out : List ℕ = repliedBy (step .answer) (s .node) (c .addresses) of (f .number) buffer in
         moves-next w request copy (step .answer) out refl refl
-        (⊎-elim (λ e. unwritten w request copy (step .answer) out e) (λ e. control-written (step .answer) out (c .addresses) (f .number) e)
-        (reply-written (s .node) (c .addresses) (f .number) fits false buffer room (step .answer) (control-long c opens (f .number))))
-        (step .channel) (control-receives c m l y (asked w) (receiving w) (w .now .means) opens (f .number))
+        (⊎-elim (λ e. unwritten w request copy (step .answer) out e) (λ e. other-ack (step .answer) out (c .addresses) (f .number) (ackKind of) known other e)
+        (reply-written (s .node) (c .addresses) (f .number) fits of buffer room (step .answer) long))
+        (acknowledging step .channel) (pulse-moves c (step .channel) m l y (acknowledging step .channel .pulse) moves)
+
+    control : ackLength (c .addresses) ≤ length buffer → (opens : Bool) → Made (replying (s .node) c acked.Control (f .number) (controlStep c opens (f .number)) m l buffer)
+    control room opens =
+        replied room acked.Control refl (λ e. omega (arith, e)) (controlStep c opens (f .number)) (control-long c opens (f .number))
+        (control-receives c m l y (asked w) (receiving w) (w .now .means) opens (f .number))
+
+    beat-ack : Made (works (heartbeatAckStep c (f .number)) m l buffer)
+    beat-ack =
+        let step = heartbeatAckStep c (f .number) in
+        moves-next w request copy (step .answer) buffer refl refl (unwritten w request copy (step .answer) buffer (ap (λ (z : ℕ). take z buffer) (heartbeat-ack-silent c (f .number))))
+        (step .channel) (still-moves c (step .channel) m l y (heartbeat-ack-receives c m l y (w .now .means) (f .number)))
 
     as-kind : unfit c f count ≡ false → (kind : packets.Kind) → kindOf (f .kind) ≡ kind → replyLength c kind ≤ length buffer
         → Made (arriveAs kind (s .node) f p c rank m l buffer)
     as-kind fit packet-kind.Data is room =
-        let q = fair for-us in
+        let q = fair (binds-so s packet packet-kind.Data is refl for-us) in
         data-next w channel packet buffer copy toward for-us is (q .0) (q .1 is) room (told .flags) (short-payload fit is)
-    as-kind fit packet-kind.DataAck is room = absurd (not-sending w (kind-finds (c .addresses) f (prefixRead packet) packet-kind.DataAck (told .ours) is))
+    as-kind fit packet-kind.DataAck is room = absurd (not-sending w (eqb-true _ _ (kind-finds (c .addresses) f (prefixRead packet) packet-kind.DataAck (told .ours) is)))
     as-kind fit packet-kind.Open is room = control room true
     as-kind fit packet-kind.Close is room = control room false
-    as-kind fit packet-kind.ControlAck is room = absurd (not-sending w (kind-finds (c .addresses) f (prefixRead packet) packet-kind.ControlAck (told .ours) is))
+    as-kind fit packet-kind.Heartbeat is room =
+        replied room acked.Heartbeat refl (λ e. omega (arith, e)) (heartbeatStep c) (heartbeat-long c)
+        (still-moves c (heartbeatStep c .channel) m l y (heartbeat-receives c m l y (w .now .means)))
+    as-kind fit packet-kind.HeartbeatAck is room = beat-ack
+    as-kind fit packet-kind.ControlAck is room = absurd (not-sending w (eqb-true _ _ (kind-finds (c .addresses) f (prefixRead packet) packet-kind.ControlAck (told .ours) is)))
     as-kind fit (packet-kind.Lacking code) is room =
         arrives-quiet (Refused refusal.Lacking) buffer (unwritten w request copy (Refused refusal.Lacking) buffer refl)
 
@@ -200,7 +232,7 @@ module _ {h s : End} {past : List Event} {x : Sender} {y : Receiver} {t : List C
     unfolding arrivalFor
     own-arrival = either-way (ltb (length buffer) (replyLength c (kindOf (f .kind)))) small (λ e. by-fit (ltb-false _ _ e) (unfit c f count) refl)
 
-  pub subscriber-arrives : (names s packet ≡ true → HandedOut h past copy packet × (IsData packet → NotLate (endWith s t mem lens lines n) copy))
+  pub subscriber-arrives : (binds s packet ≡ true → HandedOut h past copy packet × (IsData packet → NotLate (endWith s t mem lens lines n) copy))
       → Seen (Next w request copy) i (calledBy arrives (endWith s t mem lens lines n) request)
   subscriber-arrives fair =
       own-cases look (arrivalFor (s .node) packet) t mem lens lines buffer (shapes look (arrivalFor (s .node) packet) buffer (arrival-keeps (s .node) packet buffer)) i (below w)

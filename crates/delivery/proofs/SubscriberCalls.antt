@@ -11,7 +11,7 @@ use Rattle.table.specs.Serving.{recordAt, ownMem, ownLens}
 use Rattle.protocol.specs.Sending.{Sender}
 use Rattle.protocol.specs.Receiving.{Receiver}
 use Rattle.delivery.specs.Calls.{End, Kind, opens, closes, transfers, asks, takes, reclaims, hands, arrives, strays, ticks, Request, called, indexTold}
-use Rattle.delivery.specs.History.{subscriber, Event, is, granted, names, IsData, HandedOut, openings}
+use Rattle.delivery.specs.History.{subscriber, Event, is, granted, binds, IsData, HandedOut, openings}
 use Rattle.delivery.specs.Delivery.{Fresh, Alike, NotLate}
 use Rattle.delivery.proofs.Nodes.{endWith}
 use Rattle.delivery.proofs.Known.{InvOf, Numbered, Subscriber}
@@ -40,7 +40,7 @@ module _ (h s : End) (fresh-h : Fresh h) (fresh-s : Fresh s) (alike : Alike h s)
   abbrev FairArrival : Request → ℕ → Type 0
   FairArrival r copy =
       is subscriber arrives (subscriberCall r copy) ≡ true
-      → names s (r .octets) ≡ true
+      → binds s (r .octets) ≡ true
       → HandedOut h past copy (r .octets) × (IsData (r .octets) → NotLate (endWith s t mem lens lines n) copy)
 
   abbrev FairOpening : Request → ℕ → Type 0

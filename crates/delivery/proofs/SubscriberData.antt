@@ -31,7 +31,7 @@ use Rattle.receiver.specs.Receiving.{ackLength}
 use Rattle.receiver_data.specs.Data.{dataStep, dataMem, dataLens}
 use Rattle.receiver_data.proofs.DataLaws.{data-state, state-mem, state-lens}
 use Rattle.table.specs.Serving.{recordAt, ownMem, ownLens}
-use Rattle.arrivals.specs.Replying.{repliedBy}
+use Rattle.arrivals.specs.Replying.{repliedBy, acknowledging}
 use Rattle.protocol.specs.Numbers.{numberAt, distance}
 use Rattle.protocol.specs.Units.{Segment}
 use Rattle.protocol.specs.Ends as ends
@@ -48,6 +48,8 @@ use Rattle.channel.specs.Prefixes.{fitPrefix, samePrefix}
 use Rattle.channel.proofs.PrefixLaws.{same-laid}
 use Rattle.channel.proofs.StandingLaws.{own-fits}
 use Rattle.arrivals.specs.Finding.{prefixRead}
+use Rattle.receiver.specs.declared.acks.Acked.the-variants as replied-to
+use Rattle.means.proofs.Pulses.{pulse-receives}
 use Rattle.delivery.specs.Calls.{End, arrives, Request, channelOf}
 use Rattle.delivery.specs.History.{Event, namesBy, names, Toward, HandedOut}
 use Rattle.delivery.specs.Delivery.{NotLate}
@@ -146,7 +148,7 @@ module _ {h s : End} {past : List Event} {x : Sender} {y : Receiver} {t : List C
 
     -- the buffer afterwards
     abbrev outOf : Answer → List ℕ
-    outOf a = repliedBy a (s .node) (c .addresses) true (f .number) buffer
+    outOf a = repliedBy a (s .node) (c .addresses) replied-to.Data (f .number) buffer
 
     -- ---- the Data Ack
 
@@ -202,10 +204,10 @@ module _ {h s : End} {past : List Event} {x : Sender} {y : Receiver} {t : List C
 
     reply-by : (a : Answer) → AsLong (c .addresses) a → numberOf a ≡ said .number → Reply a
     reply-by (Done k u) e q =
-        acked (Done k u) (subst (λ (j : ℕ). Acks (s .node) (c .addresses) DataAck (f .number) (take j (outOf (Done k u)))) (sym e) (ack-written (s .node) (c .addresses) (f .number) fits true buffer room))
+        acked (Done k u) (subst (λ (j : ℕ). Acks (s .node) (c .addresses) DataAck (f .number) (take j (outOf (Done k u)))) (sym e) (ack-written (s .node) (c .addresses) (f .number) fits replied-to.Data buffer room))
         (ap isReplied (sym q))
     reply-by (Repeated k) e q =
-        acked (Repeated k) (subst (λ (j : ℕ). Acks (s .node) (c .addresses) DataAck (f .number) (take j (outOf (Repeated k)))) (sym e) (ack-written (s .node) (c .addresses) (f .number) fits true buffer room))
+        acked (Repeated k) (subst (λ (j : ℕ). Acks (s .node) (c .addresses) DataAck (f .number) (take j (outOf (Repeated k)))) (sym e) (ack-written (s .node) (c .addresses) (f .number) fits replied-to.Data buffer room))
         (ap isReplied (sym q))
     reply-by (Inactive why) e q = silent (Inactive why) refl (ap isReplied (sym q))
     reply-by (Refused why) e q = silent (Refused why) refl (ap isReplied (sym q) ∙ unreplied-number why)
@@ -215,12 +217,16 @@ module _ {h s : End} {past : List Event} {x : Sender} {y : Receiver} {t : List C
     abbrev made : Stepped
     made = dataStep c (f .number) (f .flags)
 
-    data-open : rank (y .phase) ≡ 2 → Next w request copy (made .answer) (outOf (made .answer)) (made .channel) (dataMem c (f .number) p m) (dataLens c (f .number) p l)
+    -- once the Data Ack is written: the interval of the Heartbeat alone differs
+    abbrev kept : Channel
+    kept = acknowledging made .channel
+
+    data-open : rank (y .phase) ≡ 2 → Next w request copy (made .answer) (outOf (made .answer)) kept (dataMem c (f .number) p m) (dataLens c (f .number) p l)
     data-open now-open =
         subscriber-next h s past x y (w .inv) (w .numbered) (small w) request copy n (indexFor w request) (made .answer) (outOf (made .answer)) call
         (out, number-is, not-late) refl (reply-by (made .answer) (data-long c (f .number) (f .flags)) (related .1))
-        c (made .channel) (dataMem c (f .number) p m) (dataLens c (f .number) p l) (related .0)
-        (counted-next w z (made .channel) (dataMem c (f .number) p m) (dataLens c (f .number) p l) (related .0)
+        c kept (dataMem c (f .number) p m) (dataLens c (f .number) p l) (related .0)
+        (counted-next w z kept (dataMem c (f .number) p m) (dataLens c (f .number) p l) (related .0)
         (λ q. omega (arith, now-open)) (λ q. omega (arith, now-open)) (near .0) (omega (arith, near .1))
         (λ q other. absurd (other (arrived-stays (limits h s) y (isOpen (y .phase)) (distance (f .number) (numberAt (startOf y))) (carried (f .flags) p) q ∙ now-open))))
         (λ q. absurd (omega (arith, now-open, ap rank (w .now .waits q))))
@@ -234,10 +240,13 @@ module _ {h s : End} {past : List Event} {x : Sender} {y : Receiver} {t : List C
         not-late : startOf y + 1 ≤ copy + 1 + (256 - limits h s .window)
         not-late = omega (arith, late, window-is, w .now .counted (omega (arith, now-open)))
 
-        related : (Receives (made .channel) (dataMem c (f .number) p m) (dataLens c (f .number) p l) z) × (numberOf (made .answer) ≡ said .number)
-        related =
+        before : (Receives (made .channel) (dataMem c (f .number) p m) (dataLens c (f .number) p l) z) × (numberOf (made .answer) ≡ said .number)
+        before =
             subst (λ (k : Limits). (Receives (made .channel) (dataMem c (f .number) p m) (dataLens c (f .number) p l) (receiverStep k y call .0)) × (numberOf (made .answer) ≡ receiverStep k y call .1 .number))
             (sym (limits-are w)) (data-receives c m l y (asked w) (receiving w) (w .now .means) (f .number) (f .flags) copy p few short)
+
+        related : (Receives kept (dataMem c (f .number) p m) (dataLens c (f .number) p l) z) × (numberOf (made .answer) ≡ said .number)
+        related = (pulse-receives (made .channel) (dataMem c (f .number) p m) (dataLens c (f .number) p l) z (kept .pulse) (before .0), before .1)
 
         near : (startOf y ≤ startOf z) × (startOf z ≤ startOf y + 128)
         near =
@@ -246,13 +255,13 @@ module _ {h s : End} {past : List Event} {x : Sender} {y : Receiver} {t : List C
 
     -- ---- in any state: out of OPEN it is refused
 
-    pub data-next : Left (Next w request copy) (works made (dataMem c (f .number) p m) (dataLens c (f .number) p l) (outOf (made .answer)))
+    pub data-next : Left (Next w request copy) (works (acknowledging made) (dataMem c (f .number) p m) (dataLens c (f .number) p l) (outOf (made .answer)))
     data-next = by (eqb (c .phase .state) state.opened) refl
       where
-        by : (b : Bool) → eqb (c .phase .state) state.opened ≡ b → Left (Next w request copy) (works made (dataMem c (f .number) p m) (dataLens c (f .number) p l) (outOf (made .answer)))
+        by : (b : Bool) → eqb (c .phase .state) state.opened ≡ b → Left (Next w request copy) (works (acknowledging made) (dataMem c (f .number) p m) (dataLens c (f .number) p l) (outOf (made .answer)))
         by true e = data-open (opened-rank (y .phase) (sym (w .now .means .state) ∙ eqb-true (c .phase .state) state.opened e))
         by false e =
             let other = eqb-false (c .phase .state) state.opened e in
-            subst₃ (λ (k : Stepped) (a b : List ℕ). Left (Next w request copy) (works k a b (outOf (k .answer))))
+            subst₃ (λ (k : Stepped) (a b : List ℕ). Left (Next w request copy) (works (acknowledging k) a b (outOf (k .answer))))
             (sym (data-state c (f .number) other (f .flags))) (sym (state-mem c (f .number) other p m)) (sym (state-lens c (f .number) other p l))
             (quiet w request copy (Refused refusal.State) buffer refl refl (unwritten w request copy (Refused refusal.State) buffer refl))

@@ -1,5 +1,5 @@
--- Requests at the subscriber but for takes, and the call for a packet. An Open directive begins the opening, and all others leave a receiving
--- record as it was.
+-- Requests at the subscriber but for takes, and the call for a packet. An Open directive begins the opening, a Heartbeat that is handed out is nothing to
+-- the protocol, and all others leave a receiving record as it was.
 -- Assumes nothing.
 use mathlib.Core.Path.{_≡_, refl, sym, ap, _∙_, subst}
 use mathlib.Core.Bool.{Bool, true, false, true≢false}
@@ -31,7 +31,7 @@ use Rattle.requests.specs.Requests.{openedBy, closedBy, transferFor, askedBy, r
 use Rattle.requests.specs.Handing.{nextFor}
 use Rattle.requests.proofs.RequestLaws.{opened-receives, closed-receives, asked-receives}
 use Rattle.keeps.specs.Keeping.{Given}
-use Rattle.keeps.proofs.StepsKeep.{open-keeps, close-keeps, reclaim-keeps, next-keeps, given-ready}
+use Rattle.keeps.proofs.StepsKeep.{open-keeps, close-keeps, reclaim-keeps, next-keeps, given-waits, given-ready}
 use Rattle.keeps.proofs.CallsAlone.{shapes, transfer-shapes}
 use Rattle.keeps.proofs.DoorKeeps.{question-keeps, unknown-keeps}
 use Rattle.keeps.proofs.Alone.{Shapes, index-served}
@@ -39,6 +39,11 @@ use Rattle.protocol.specs.Ends.{fresh, rank}
 use Rattle.protocol.specs.Sending.{Sender}
 use Rattle.protocol.specs.Receiving.{Receiver, ReceiverCall, startOf, controlled}
 use Rattle.means.proofs.ReceiverControl.{Opens, open-receives}
+use Rattle.means.proofs.Pulses.{single-out-receives}
+use Rattle.means.proofs.PulseMoves.{still-moves}
+use Rattle.sender_packets.specs.HandingOut.{nextOut}
+use Rattle.table.proofs.WaitingLaws.{waits-receives}
+use Rattle.delivery.proofs.Handed.{hand-cases}
 use Rattle.delivery.specs.Calls.{End, Kind, opens, closes, transfers, asks, reclaims, hands, strays, Request, calledBy}
 use Rattle.delivery.specs.History.{subscriber, Event, granted, openings}
 use Rattle.delivery.proofs.Own.{View, Seen, Left, own-cases}
@@ -46,7 +51,7 @@ use Rattle.delivery.proofs.Nodes.{endWith}
 use Rattle.delivery.proofs.Counting.{counted-same}
 use Rattle.delivery.proofs.Packets.{refused-not-done}
 use Rattle.delivery.proofs.SubscriberFrame.{subscriberEvent, subscriber-next, no-reply}
-use Rattle.delivery.proofs.SubscriberEnd.{unanswered, for-another, granted-is, Stage, below, receiving, not-sending, asked, small, indexFor, Next, quiet}
+use Rattle.delivery.proofs.SubscriberEnd.{unanswered, for-another, granted-is, Stage, below, receiving, not-sending, asked, small, indexFor, Next, quiet, moves-next}
 
 -- ---- a request that is served at another channel than the one with index i is not for that one
 
@@ -123,12 +128,29 @@ module _ {h s : End} {past : List Event} {x : Sender} {y : Receiver} {t : List C
       (seeking (Index channel)) reclaimFor buffer (shapes (seeking (Index channel)) reclaimFor buffer (reclaim-keeps (seeking (Index channel)) buffer)) refusal.State
       (λ g. reclaim-refused c (rankIn (choice (seeking (Index channel)) lines t .grade)) m l buffer (not-sending w))
 
-  -- a receiver hands out nothing
+  -- a receiver hands out its Heartbeat alone, which is nothing to the protocol
   pub subscriber-hands : Shown hands
   subscriber-hands =
-      unmoved hands (λ a o. quiet w (request hands) copy a o refl refl (λ packet q. absurd (true≢false (sym q))))
-      (seeking Ready) (nextFor (s .node)) buffer (shapes (seeking Ready) (nextFor (s .node)) buffer (next-keeps (s .node) buffer)) refusal.Nothing
-      (λ g. absurd (not-sending w (given-ready i _ c m l g .0)))
+      own-cases (seeking Ready) (nextFor (s .node)) t mem lens lines buffer (shapes (seeking Ready) (nextFor (s .node)) buffer (next-keeps (s .node) buffer)) i (below w)
+      (Next w (request hands) copy)
+      (λ why. nothing (Refused why) buffer)
+      (λ j there apart at g. nothing _ _)
+      (λ at g. own (rankIn (choice (seeking Ready) lines t .grade)) g)
+    where
+      nothing : (a : Answer) (o : List ℕ) → Next w (request hands) copy a o c m l
+      nothing a o = quiet w (request hands) copy a o refl refl (λ packet q. absurd (true≢false (sym q)))
+
+      handed : (z : ℕ) (o : List ℕ) → Next w (request hands) copy (Done z 0) o (nextOut c 0) m l
+      handed z o =
+          moves-next w (request hands) copy (Done z 0) o refl refl (λ packet q. absurd (true≢false (sym q)))
+          (nextOut c 0) (still-moves c (nextOut c 0) m l y (single-out-receives c m l y (w .now .means)))
+
+      own : (rank : ℕ) → Given (seeking Ready) i rank c m l → Left (Next w (request hands) copy) (nextFor (s .node) c rank m l buffer)
+      own rank g =
+          let zero = waits-receives c rank (not-sending w) (given-waits i rank c m l g) .0 in
+          hand-cases (s .node) c m l (asked w) rank (given-ready i rank c m l g) (Left (Next w (request hands) copy)) buffer
+          (nothing _ buffer)
+          (λ z o carries. subst (λ (r : ℕ). Next w (request hands) copy (Done z 0) o (nextOut c r) m l) (sym zero) (handed z o))
 
   -- a request that is none
   pub subscriber-strays : Shown strays

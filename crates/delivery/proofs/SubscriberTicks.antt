@@ -1,4 +1,4 @@
--- A tick at the subscriber: a move of its record to a later phase, or nothing.
+-- A tick at the subscriber: a move of its record to a later phase, or of its Heartbeat, or nothing.
 -- Assumes nothing.
 use mathlib.Core.Path.{refl, sym, ap, subst}
 use mathlib.Core.Bool.{true≢false}
@@ -9,7 +9,7 @@ use Rattle.channel.specs.declared.answer.Answer.the-variants.{Refused}
 use Rattle.channel.specs.declared.answer.Refusal.the-variants as refusal
 use Rattle.receiver.specs.Receiving.{tickStep}
 use Rattle.table.specs.Serving.{recordAt, ownMem, ownLens}
-use Rattle.ticks.specs.declared.ticking.Ticked.{Ticked}
+use Rattle.channel.specs.declared.step.Ticked.{Ticked}
 use Rattle.ticks.proofs.TickLaws as steps
 use Rattle.ticks.specs.Ticks.{ticked}
 use Rattle.protocol.specs.Sending.{Sender}
@@ -42,4 +42,4 @@ module _ {h s : End} {past : List Event} {x : Sender} {y : Receiver} {t : List C
       (quiet w request copy (Refused refusal.Settings) [] refl refl (λ packet q. absurd (true≢false (sym q))))
       (subst (λ (k : Channel). Next w request copy (ticked t mem lens lines .answer) [] k m l) (sym (ap (λ (k : Ticked). k .channel) (steps.tick-receives c (not-sending w))))
       (moves-next w request copy (ticked t mem lens lines .answer) [] refl refl (λ packet q. absurd (true≢false (sym q)))
-      (tickStep c) (tick-receives c m l y (asked w) (receiving w) (w .now .means))))
+      (tickStep c .channel) (tick-receives c m l y (asked w) (receiving w) (w .now .means))))

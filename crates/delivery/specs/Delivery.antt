@@ -21,7 +21,7 @@ use Rattle.table.specs.Serving.{recordAt}
 use Rattle.keeps.specs.Keeping.{Wide}
 use Rattle.means.specs.Meaning.{limitsOf}
 use Rattle.delivery.specs.Calls.{End, opens, arrives, called, indexTold, channelOf, unitsOf, afterCall}
-use Rattle.delivery.specs.History.{Side, host, subscriber, Call, Event, is, granted, names, IsData, IsDataAck, HandedOut, Replied, openings, accepted, confirmed, reclaimed, taken}
+use Rattle.delivery.specs.History.{Side, host, subscriber, Call, Event, is, granted, binds, IsData, IsDataAck, HandedOut, Replied, openings, accepted, confirmed, reclaimed, taken}
 
 -- ---- the two ends at the beginning
 
@@ -100,14 +100,14 @@ abbrev pub NotLate : End → ℕ → Type 0
 NotLate e i = e .start ≤ i + (256 - channelOf e .limits .window)
 
 -- Calls are free, but for what the link may bring and for a second opening. A packet lost is no arrival. What arrives damaged, or for another
--- channel, does not name this channel, and is any octets. What names it is a copy of a packet that the other end handed out or replied, toward this
+-- channel, does not name this channel, and is any octets; so is a Heartbeat or its Ack. What else names it is a copy of a packet that the other end handed out or replied, toward this
 -- end, at any later time, any number of times; and Data or a Data Ack is not late.
 pub record Fair (h s : End) (w : Run) (c : Call) : Type 0 where
   pub at-subscriber : is subscriber arrives c ≡ true
-      → names s (c .request .octets) ≡ true
+      → binds s (c .request .octets) ≡ true
       → HandedOut h (w .past) (c .copyOf) (c .request .octets) × (IsData (c .request .octets) → NotLate (w .subscriber) (c .copyOf))
   pub at-host : is host arrives c ≡ true
-      → names h (c .request .octets) ≡ true
+      → binds h (c .request .octets) ≡ true
       → Replied s (w .past) (c .copyOf) (c .request .octets) × (IsDataAck (c .request .octets) → NotLate (w .host) (c .copyOf))
   -- 'one opening': no second Open directive is accepted at either end
   pub opens-host : granted host opens (h .index) (eventOf w c) ≡ true → openings host (h .index) (w .past) ≡ 0

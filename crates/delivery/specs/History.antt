@@ -2,12 +2,14 @@
 use Prim.Native.Nat.{ℕ, suc, _+_}
 use mathlib.Core.Path.{_≡_}
 use mathlib.Core.Logic.{_⊎_}
-use mathlib.Core.Bool.{Bool, true, false, _&&_}
+use mathlib.Core.Bool.{Bool, true, false, not, _&&_}
 use mathlib.Core.List.{List, [], _∷_, _++_}
 use lib.Dec.{eqb}
 use lib.ListN.{take}
 use Rattle.laws.specs.Choice.{if_then_else_}
+use Rattle.packet.specs.declared.kinds.Kind as packets
 use Rattle.packet.specs.declared.kinds.Kind.the-variants.{Data, DataAck}
+use Rattle.packet.specs.declared.kinds.Kind.the-variants as kinds
 use Rattle.packet.specs.Kinds.{kindOf}
 use Rattle.packet.specs.Layout.{fieldsAt}
 use Rattle.packet.specs.declared.reading.Read.{Read}
@@ -71,6 +73,21 @@ namesBy Lacking packet node a = false
 
 abbrev pub names : End → List ℕ → Bool
 names e packet = namesBy (readOf packet) packet (e .node) (channelOf e .addresses)
+
+-- a Heartbeat or the Ack of one (document 02, A2)
+abbrev pub isBeat : packets.Kind → Bool
+isBeat kinds.Data = false
+isBeat kinds.DataAck = false
+isBeat kinds.Open = false
+isBeat kinds.Close = false
+isBeat kinds.Heartbeat = true
+isBeat kinds.HeartbeatAck = true
+isBeat kinds.ControlAck = false
+isBeat (kinds.Lacking code) = false
+
+-- It names the channel, and the premises bind it: any other packet but a Heartbeat and its Ack. Of these the link may bring what it likes, forged ones too.
+abbrev pub binds : End → List ℕ → Bool
+binds e packet = names e packet && not (isBeat (kindOf (fieldsAt packet .kind)))
 
 -- of what kind it is
 abbrev pub IsData : List ℕ → Type 0

@@ -17,7 +17,7 @@ use Rattle.packet.specs.Layout.{fieldsAt}
 use Rattle.channel.specs.Prefixes.{samePrefix}
 use Rattle.table.specs.Serving.{recordAt}
 use Rattle.delivery.specs.Calls.{End, opens, hands, arrives, channelOf}
-use Rattle.delivery.specs.History.{Side, host, subscriber, Call, Event, is, granted, written, names, segmentOf, HandedOut, Replied, openings}
+use Rattle.delivery.specs.History.{Side, host, subscriber, Call, Event, is, granted, written, binds, segmentOf, HandedOut, Replied, openings}
 use Rattle.delivery.specs.Delivery.{Run, eventOf, step, run, Fair, AllFair}
 
 -- ---- tests of what is asked
@@ -56,6 +56,8 @@ isDataAck packet-kind.Data = false
 isDataAck packet-kind.DataAck = true
 isDataAck packet-kind.Open = false
 isDataAck packet-kind.Close = false
+isDataAck packet-kind.Heartbeat = false
+isDataAck packet-kind.HeartbeatAck = false
 isDataAck packet-kind.ControlAck = false
 isDataAck (packet-kind.Lacking code) = false
 
@@ -146,7 +148,7 @@ callsFor w (m ∷ l) = callFor w m ∷ callsFor (step w (callFor w m)) l
 
 -- ---- a call
 
--- what names the channel is a copy
+-- what names the channel, and is no Heartbeat, is a copy
 copied : (a n : Bool) → (a || not n) ≡ true → n ≡ true → a ≡ true
 copied true n e q = refl
 copied false true e q = absurd (true≢false (sym e))
@@ -160,13 +162,13 @@ module _ (h s : End) where
   toSubscriber w c =
       implies (is subscriber arrives c)
       ((handedIn h 8 (w .past) (c .copyOf) (c .request .octets) && implies (isData (kindOf (fieldsAt (c .request .octets) .kind))) (inTime (w .subscriber) (c .copyOf)))
-      || not (names s (c .request .octets)))
+      || not (binds s (c .request .octets)))
 
   abbrev pub toHost : Run → Call → Bool
   toHost w c =
       implies (is host arrives c)
       ((repliedIn s 8 (w .past) (c .copyOf) (c .request .octets) && implies (isDataAck (kindOf (fieldsAt (c .request .octets) .kind))) (inTime (w .host) (c .copyOf)))
-      || not (names h (c .request .octets)))
+      || not (binds h (c .request .octets)))
 
   abbrev pub opensOnce : Side → ℕ → Run → Call → Bool
   opensOnce side index w c = implies (granted side opens index (eventOf w c)) (eqb (openings side index (w .past)) 0)
@@ -183,11 +185,11 @@ module _ (h s : End) where
       let octets = c .request .octets in
       record {
         at-subscriber = λ a n.
-            let y = copied (handedIn h 8 (w .past) (c .copyOf) octets && implies (isData (kindOf (fieldsAt octets .kind))) (inTime (w .subscriber) (c .copyOf))) (names s octets) (implied (is subscriber arrives c) _ (r .0) a) n in
+            let y = copied (handedIn h 8 (w .past) (c .copyOf) octets && implies (isData (kindOf (fieldsAt octets .kind))) (inTime (w .subscriber) (c .copyOf))) (binds s octets) (implied (is subscriber arrives c) _ (r .0) a) n in
             let z = both (handedIn h 8 (w .past) (c .copyOf) octets) (implies (isData (kindOf (fieldsAt octets .kind))) (inTime (w .subscriber) (c .copyOf))) y in
             (handed-in h 8 (w .past) (c .copyOf) octets (z .0), λ k. leb-true _ _ (implied _ _ (z .1) (ap isData k)));
         at-host = λ a n.
-            let y = copied (repliedIn s 8 (w .past) (c .copyOf) octets && implies (isDataAck (kindOf (fieldsAt octets .kind))) (inTime (w .host) (c .copyOf))) (names h octets) (implied (is host arrives c) _ (r .1) a) n in
+            let y = copied (repliedIn s 8 (w .past) (c .copyOf) octets && implies (isDataAck (kindOf (fieldsAt octets .kind))) (inTime (w .host) (c .copyOf))) (binds h octets) (implied (is host arrives c) _ (r .1) a) n in
             let z = both (repliedIn s 8 (w .past) (c .copyOf) octets) (implies (isDataAck (kindOf (fieldsAt octets .kind))) (inTime (w .host) (c .copyOf))) y in
             (replied-in s 8 (w .past) (c .copyOf) octets (z .0), λ k. leb-true _ _ (implied _ _ (z .1) (ap isDataAck k)));
         opens-host = λ g. eqb-true (openings host (h .index) (w .past)) 0 (implied _ _ (q .1) g);

@@ -3,3 +3,4 @@ pub mod Deciding
 pub mod Script
 pub mod Parts
 pub mod Sample
+pub mod Unanswered

@@ -9,15 +9,15 @@ use Rattle.channel.specs.declared.record.Channel.{Channel}
 use Rattle.channel.specs.declared.record.Timers.{Timers}
 use Rattle.channel.specs.Prefixes.{noPrefix}
 use Rattle.channel.specs.Record.{opened, madeOf, noLone, noMarks, noTimers}
-use Rattle.delivery.specs.Calls.{End, Kind, opens, transfers, asks, takes, reclaims, hands, ticks}
+use Rattle.delivery.specs.Calls.{End, Kind, opens, transfers, asks, takes, reclaims, hands, arrives, ticks}
 use Rattle.delivery.specs.History.{host, subscriber, Event}
 use Rattle.delivery.specs.Delivery.{Run, begin}
 use Rattle.delivery_sample.proofs.Deciding.{Move, does, brings, spoils}
 
--- ---- two nodes with one channel: window 2, 5 slots, at most 2 octets in a segment and 2 segments in a unit
+-- ---- two nodes with one channel: window 2, 5 slots, at most 2 octets in a segment and 2 segments in a unit; both make Heartbeats
 
 abbrev pub limits : Limits
-limits = record { window = 2; slots = 5; payload = 2; segments = 2; timeout = 3; closing = 3; retries = 1 }
+limits = record { window = 2; slots = 5; payload = 2; segments = 2; timeout = 3; closing = 3; retries = 1; interval = 7 }
 
 abbrev pub sending : Settings
 sending = record { addresses = record { channel = 7; remote = 65; direction = 0; prefix = noPrefix; own = noPrefix }; limits = limits }
@@ -42,16 +42,44 @@ atHost kind octets buffer = does (record { side = host; request = record { kind 
 abbrev pub atStation : Kind → List ℕ → List ℕ → Move
 atStation kind octets buffer = does (record { side = subscriber; request = record { kind = kind; channel = 0; octets = octets; buffer = buffer }; copyOf = 0 })
 
+-- ---- Heartbeats: the host's is answered; the station's is not, and two that nobody sent come, a Heartbeat and an Ack
+
+abbrev pub sevenTicks : (Kind → List ℕ → List ℕ → Move) → List Move → List Move
+sevenTicks at rest =
+    at ticks [] [] ∷ at ticks [] [] ∷ at ticks [] [] ∷ at ticks [] [] ∷ at ticks [] [] ∷ at ticks [] [] ∷ at ticks [] [] ∷ rest
+
+-- a Heartbeat numbered 9 for the host, and the Ack of one for the station
+abbrev pub forgedBeat : List ℕ
+forgedBeat = 64 ∷ 5 ∷ 92 ∷ 0 ∷ 0 ∷ 0 ∷ 7 ∷ 9 ∷ 0 ∷ 65 ∷ 169 ∷ 101 ∷ []
+
+abbrev pub forgedAck : List ℕ
+forgedAck = 65 ∷ 5 ∷ 93 ∷ 0 ∷ 0 ∷ 0 ∷ 7 ∷ 0 ∷ 0 ∷ 64 ∷ 15 ∷ 67 ∷ []
+
+abbrev pub beating : List Move
+beating =
+    sevenTicks atHost
+    (atHost hands [] room
+    ∷ brings subscriber 0 0
+    ∷ brings host 0 0
+    ∷ sevenTicks atStation
+    (atStation hands [] room
+    ∷ atHost arrives forgedBeat room
+    ∷ atStation arrives forgedAck room
+    ∷ []))
+
 -- ---- the channel is opened, and n units of one octet go through, one after another
 
-abbrev pub opening : List Move
-opening =
+abbrev pub entering : List Move
+entering =
     atHost opens [] []
     ∷ atStation opens [] []
     ∷ atHost hands [] room
     ∷ brings subscriber 0 0
     ∷ brings host 0 0
     ∷ []
+
+abbrev pub opening : List Move
+opening = entering ++ beating
 
 abbrev pub rounds : ℕ → ℕ → List Move
 rounds zero i = []
@@ -136,6 +164,7 @@ standingAt s i accepted timers acked =
       addresses = s .addresses;
       limits = s .limits;
       phase = record { state = opened; reason = 0; kept = 0; accepted = accepted; control = noLone };
+      pulse = record { left = s .limits .interval; beat = noLone };
       window = record { start = (i + 1) % 256; place = 0; behind = 0; ahead = 0; flight = 0; way = 0 };
       timers = timers;
       marks = noMarks;

@@ -14,22 +14,24 @@ use Rattle.channel.specs.declared.record.Lone.{Lone}
 use Rattle.channel.specs.declared.record.Timers.{Timers}
 use Rattle.channel.specs.declared.record.Channel.{Channel}
 use Rattle.channel.specs.declared.lone.Fallen.{Fallen}
-use Rattle.channel.specs.Record.{sends, closed, enabled, opened, closing, retriesOut, loneNone, noLone, freshPhase, withState, withReason, withKept, withControl, withTimers, withAcked}
+use Rattle.channel.specs.Record.{sends, closed, enabled, opened, closing, retriesOut, unanswered, loneNone, noLone, freshPhase, withState, withReason, withKept, withControl, withTimers, withAcked}
 use Rattle.channel.specs.Lone.{readyLone, fallen}
+use Rattle.channel.specs.Pulse.{startedPulse}
 use Rattle.channel.specs.Standing.{named, asking, oldestOf, Standing}
 use Rattle.channel.proofs.StandingLaws.{counted-is, named-is, is-named, asking-has, asking-closed, rests, open-rests, rested-on}
 use Rattle.channel.proofs.MadeLaws.{enabled-stands}
 use Rattle.sender.specs.Directives.{parked, parkedWindow, shutFor, openStep, closeStep}
 use Rattle.sender_acks.specs.Acks.{controlAckStep}
-use Rattle.sender.specs.Ticking.{tickStep}
+use Rattle.sender.specs.Ticking.{dataFallen, tickStep}
 use Rattle.channel.specs.declared.step.Stepped.{Stepped}
+use Rattle.ends.proofs.KeepsPulse.{pulse-keeps, beaten-keeps}
 use Rattle.ends.proofs.SenderCases.{open-cases, close-cases, control-ack-cases, tick-cases}
 use Rattle.ends.proofs.SenderKeeps.{sided-way, still-sided, open-sided, stand, back-none}
 
 module _ (c : Channel) (lens : List ℕ) (h : Standing c lens) where
   -- ---- it does not look at timers and acks, and at the small numbers only as far as they have a meaning; a control packet that is there stays
 
-  pub changed-stands : (reason kept : ℕ) (control : Lone) (timers : Timers) (acked : List ℕ) → reason ≤ 5 → kept ≤ 1 → control .state ≤ 3
+  pub changed-stands : (reason kept : ℕ) (control : Lone) (timers : Timers) (acked : List ℕ) → reason ≤ 6 → kept ≤ 1 → control .state ≤ 3
       → ((c .phase .control .state ≡ loneNone → ⊥) → control .state ≡ loneNone → ⊥)
       → Standing (withAcked (withTimers (withControl (withKept (withReason c reason) kept) control) timers) acked) lens
   changed-stands reason kept control timers acked r k l there =
@@ -38,7 +40,7 @@ module _ (c : Channel) (lens : List ℕ) (h : Standing c lens) where
         fit = h .fit;
         count = h .count;
         named = is-named (withAcked (withTimers (withControl (withKept (withReason c reason) kept) control) timers) acked)
-            (record { addresses = n .addresses; state = n .state; reason = r; kept = k; accepted = n .accepted; control = l });
+            (record { addresses = n .addresses; state = n .state; reason = r; kept = k; accepted = n .accepted; control = l; beat = n .beat });
         ring = h .ring;
         flight = h .flight;
         sided = h .sided;
@@ -67,7 +69,7 @@ module _ (c : Channel) (lens : List ℕ) (h : Standing c lens) where
       let n = named-is c (h .named) in
       changed-stands (c .phase .reason) k (c .phase .control) (c .timers) (c .acked) (n .reason) small (n .control) (λ q. q)
 
-  pub reason-stands : (why : ℕ) → why ≤ 5 → Standing (withReason c why) lens
+  pub reason-stands : (why : ℕ) → why ≤ 6 → Standing (withReason c why) lens
   reason-stands why small =
       let n = named-is c (h .named) in
       changed-stands why (c .phase .kept) (c .phase .control) (c .timers) (c .acked) small (n .kept) (n .control) (λ q. q)
@@ -86,7 +88,7 @@ module _ (c : Channel) (lens : List ℕ) (h : Standing c lens) where
         let slots = c .limits .slots in
         let o = back-lt slots (c .window .place) (c .window .behind) (k .place) in
         stand (parked c state control) lens (h .fit) (h .count)
-        (record { addresses = n .addresses; state = small; reason = n .reason; kept = omega arith; accepted = n .accepted; control = lone })
+        (record { addresses = n .addresses; state = small; reason = n .reason; kept = omega arith; accepted = n .accepted; control = lone; beat = omega arith })
         (record { place = o; held = omega (arith, k .held); flight = omega arith; window = omega arith; way = omega arith; unit = k .unit })
         (still-sided (c .addresses .direction) state (parkedWindow (c .limits) (c .window)) s z refl refl)
         (rests (c .addresses .direction) (withKept (withControl (withState c state) control) 0 .phase) (parkedWindow (c .limits) (c .window)) refl z asks)
@@ -101,7 +103,7 @@ module _ (c : Channel) (lens : List ℕ) (h : Standing c lens) where
         let k = counted-is (c .limits) (c .window) (h .ring) (h .flight) in
         let z = sided-way (c .addresses .direction) (c .phase .state) (c .window) s (h .sided) in
         stand (withControl (withState c opened) noLone) lens (h .fit) (h .count)
-        (record { addresses = n .addresses; state = omega arith; reason = n .reason; kept = n .kept; accepted = n .accepted; control = omega arith })
+        (record { addresses = n .addresses; state = omega arith; reason = n .reason; kept = n .kept; accepted = n .accepted; control = omega arith; beat = n .beat })
         k
         (open-sided (c .addresses .direction) opened (c .window) s z refl)
         (open-rests (c .addresses .direction) (withControl (withState c opened) noLone .phase) (c .window) refl)
@@ -119,7 +121,7 @@ module _ (c : Channel) (lens : List ℕ) (h : Standing c lens) where
         (asking-has (c .addresses .direction) (withKept (withControl (withState c closing) readyLone) 0 .phase) (λ z. omega arith))
 
 -- inactive
-pub shut-stands : (c : Channel) (lens : List ℕ) → Standing c lens → c .addresses .direction ≡ sends → (why : ℕ) → why ≤ 5 → Standing (shutFor c why) lens
+pub shut-stands : (c : Channel) (lens : List ℕ) → Standing c lens → c .addresses .direction ≡ sends → (why : ℕ) → why ≤ 6 → Standing (shutFor c why) lens
 shut-stands c lens h s why small =
     reason-stands (parked c closed noLone) lens (closed-stands c lens h s) why small
 
@@ -139,7 +141,7 @@ pub control-ack-stands : (c : Channel) (lens : List ℕ) (number : ℕ) → Stan
 control-ack-stands c lens number h s =
     control-ack-cases c (λ (s : Stepped). Standing (s .channel) lens) number h h
     (λ e. closed-stands c lens h s)
-    (λ e. opened-stands c lens h s)
+    (λ e. pulse-keeps (withControl (withState c opened) noLone) lens (startedPulse (c .limits)) (omega arith) (opened-stands c lens h s))
     (λ e. closing-stands c lens h s)
 
 -- a packet sent alone keeps a state that has a meaning, and is gone only when its retries are used up
@@ -166,7 +168,9 @@ pub tick-stands : (c : Channel) (lens : List ℕ) → Standing c lens → c .add
 tick-stands c lens h s =
     let shut = shut-stands c lens h s retriesOut (omega arith) in
     let falls = fallen-state (c .phase .control) (named-is c (h .named) .control) in
+    let down = timers-stand c lens h (dataFallen c .timers) in
     tick-cases c (λ (k : Channel). Standing k lens) (λ e. shut) (λ e. shut) (λ e. shut)
-    (timers-stand c lens h _)
+    (λ e. shut-stands (dataFallen c) lens down s unanswered (omega arith))
+    (λ e. beaten-keeps (dataFallen c) lens down (c .limits))
     (λ left. control-stands c lens h (fallen (c .phase .control) .lone) (falls .0) (falls .1 left))
     h

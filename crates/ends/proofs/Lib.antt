@@ -1,3 +1,6 @@
+pub mod PulseCases
+pub mod KeepsPulse
+pub mod PulseFixed
 pub mod SenderCases
 pub mod SenderKeeps
 pub mod KeepsDirectives

@@ -4,7 +4,7 @@ use mathlib.Core.Path.{_≡_, refl, sym, subst₃}
 use mathlib.Core.Bool.{Bool, true, false, not}
 use mathlib.Core.List.{List}
 use Prim.Native.Nat.{ℕ, _+_, _-_, _*_, _<_}
-use borrow.Author.Tests.{eqb-true, eqb-false, leb-true, leb-false, not-false}
+use borrow.Author.Tests.{eqb-true, eqb-false, leb-true, leb-false}
 use lib.Dec.{eqb, leb, ltb}
 use lib.ListN.{length, set}
 use Rattle.laws.proofs.Choice.{either, by-test}
@@ -12,9 +12,11 @@ use Rattle.slots.specs.Slots.{laid}
 use Rattle.channel.specs.Places.{slotOf}
 use Rattle.channel.specs.declared.record.Channel.{Channel}
 use Rattle.channel.specs.declared.step.Stepped.{Stepped}
+use Rattle.channel.specs.declared.step.Ticked.{Ticked}
 use Rattle.channel.specs.declared.answer.Refusal.the-variants as refusal
-use Rattle.channel.specs.Record.{closed, enabled, opened, closing, lateOpen, controlNumber, dataNumber, brokenFlags, noLone, heldIn, withState, withWindow, withTimers}
+use Rattle.channel.specs.Record.{closed, enabled, opened, closing, lateOpen, controlNumber, dataNumber, brokenFlags, unanswered, noLone, heldIn, withState, withPulse, withWindow, withTimers}
 use Rattle.channel.specs.Steps.{refusing, doing, repeating, failing, enabledOf}
+use Rattle.channel.specs.Pulse.{startedPulse, beaten}
 use Rattle.receiver_data.specs.declared.sorting.Sort.{Sort}
 use Rattle.receiver_data.specs.declared.sorting.Sort.the-variants.{New, Held, Behind, Other}
 use Rattle.receiver_data.specs.Sorting.{placeAt}
@@ -34,7 +36,9 @@ open-cases c P state untaken done =
     either P (not (eqb (c .phase .state) closed)) _ _ state (either P (not (eqb (heldIn (c .window)) 0)) _ _ untaken done)
 
 module _ (c : Channel) (P : Stepped → Type 0) (refused : P (refusing c refusal.State)) (repeated : P (repeating c (ackLength (c .addresses)))) where
-  open-arrives-cases : P (doing (withState c opened) (ackLength (c .addresses))) → P (failing (shutFor c lateOpen) lateOpen) → P (openArrives c)
+  open-arrives-cases : P (doing (withPulse (withState c opened) (startedPulse (c .limits))) (ackLength (c .addresses)))
+      → P (failing (shutFor c lateOpen) lateOpen)
+      → P (openArrives c)
   unfolding openArrives
   open-arrives-cases opens late =
       either P (eqb (c .phase .state) enabled) _ _ opens
@@ -45,7 +49,7 @@ module _ (c : Channel) (P : Stepped → Type 0) (refused : P (refusing c refusal
   close-arrives-cases closes = either P (eqb (c .phase .state) opened) _ _ closes (either P (eqb (c .phase .state) closing) _ _ repeated refused)
 
   pub control-cases : (opens : Bool) (number : ℕ)
-      → P (doing (withState c opened) (ackLength (c .addresses)))
+      → P (doing (withPulse (withState c opened) (startedPulse (c .limits))) (ackLength (c .addresses)))
       → P (doing (leaving c closing (c .limits .closing)) (ackLength (c .addresses)))
       → P (failing (shutFor c lateOpen) lateOpen)
       → P (failing (shutFor c controlNumber) controlNumber)
@@ -69,10 +73,18 @@ pub tick-cases : (c : Channel) (P : Channel → Type 0)
     → P c
     → P (withTimers c (withClosing (c .timers) (c .timers .closing - 1)))
     → (c .phase .state ≡ closing → P (withState (withTimers c (withClosing (c .timers) 0)) closed))
-    → P (tickStep c)
+    → (c .phase .state ≡ opened → P (shutFor c unanswered))
+    → (c .phase .state ≡ opened → P (withPulse c (beaten (c .limits) (c .pulse) .pulse)))
+    → P (tickStep c .channel)
 unfolding tickStep
-tick-cases c P idle falls ends =
-    by-test P (not (eqb (c .phase .state) closing)) _ _ (λ e. idle) (λ e. either P (leb 2 (c .timers .closing)) _ _ falls (ends (eqb-true _ _ (not-false _ e))))
+tick-cases c P idle falls ends unheard paces =
+    by-test Ticks (eqb (c .phase .state) opened) _ _
+    (λ e. let o = eqb-true _ _ e in either Ticks (beaten (c .limits) (c .pulse) .spent) _ _ (unheard o) (paces o))
+    (λ e.
+    by-test Ticks (eqb (c .phase .state) closing) _ _ (λ q. either P (leb 2 (c .timers .closing)) _ _ falls (ends (eqb-true _ _ q))) (λ q. idle))
+  where
+    Ticks : Ticked → Type 0
+    Ticks s = P (s .channel)
 
 -- ---- Data
 

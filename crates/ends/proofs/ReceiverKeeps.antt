@@ -27,7 +27,8 @@ use Rattle.channel.specs.declared.record.Window.{Window}
 use Rattle.channel.specs.declared.record.Timers.{Timers}
 use Rattle.channel.specs.declared.record.Channel.{Channel}
 use Rattle.channel.specs.declared.step.Stepped.{Stepped}
-use Rattle.channel.specs.Record.{receives, enabled, opened, freshPhase, noLone, withState, withWindow, withTimers}
+use Rattle.channel.specs.Record.{receives, enabled, opened, unanswered, freshPhase, noLone, withState, withWindow, withTimers}
+use Rattle.channel.specs.Pulse.{startedPulse}
 use Rattle.channel.specs.Standing.{rested, slotFit, Standing, oldestOf}
 use Rattle.channel.proofs.SettingsLaws.{fit-is}
 use Rattle.channel.proofs.StandingLaws.{asking-receives, open-rests, rests, rested-is, rested-on}
@@ -39,6 +40,7 @@ use Rattle.receiver_data.specs.Data.{marking, acceptStep, awayOf, placeOf, data
 use Rattle.receiver_data.specs.Taking.{completeIn, unitAt, dropped, takeStep}
 use Rattle.receiver_data.proofs.MoveLaws.{move-keeps, way-le}
 use Rattle.receiver_data.proofs.TakeLaws.{unit-behind}
+use Rattle.ends.proofs.KeepsPulse.{pulse-keeps, beaten-keeps}
 use Rattle.ends.proofs.Rings.{back-back, back-next, back-on, back-then, set-some}
 use Rattle.ends.proofs.Receivers.{Kept, Marked, Fitting, Receives, receives-is, receives-stands}
 use Rattle.ends.proofs.ReceiverCases.{open-cases, control-cases, take-cases, tick-cases, data-cases, accept-cases}
@@ -98,7 +100,7 @@ leaving-receives c lens state ticks small r =
       fit = r .fit;
       count = r .count;
       direction = r .direction;
-      small = record { addresses = r .small .addresses; state = small; reason = r .small .reason; kept = r .small .kept; accepted = r .small .accepted; control = r .small .control };
+      small = record { addresses = r .small .addresses; state = small; reason = r .small .reason; kept = r .small .kept; accepted = r .small .accepted; control = r .small .control; beat = omega arith };
       window = record { place = on; behind = omega arith; ahead = k .ahead; flight = k .flight; way = omega arith; unit = omega arith };
       rested = rests (c .addresses .direction) (leaving c state ticks .phase) (leaving c state ticks .window) refl refl (asking-receives (c .addresses .direction) (leaving c state ticks .phase) (r .direction));
       held = λ i less e.
@@ -112,7 +114,7 @@ leaving-receives c lens state ticks small r =
       slots = cleared-fits (c .limits) (c .marks) lens (slots - kept) f (r .slots);
     }
 
-shut-receives : (c : Channel) (lens : List ℕ) (why : ℕ) → why ≤ 5 → Receives c lens → Receives (shutFor c why) lens
+shut-receives : (c : Channel) (lens : List ℕ) (why : ℕ) → why ≤ 6 → Receives c lens → Receives (shutFor c why) lens
 shut-receives c lens why small r =
     let q = leaving-receives c lens 0 0 (omega arith) r in
     let s = q .small in
@@ -120,7 +122,7 @@ shut-receives c lens why small r =
       fit = q .fit;
       count = q .count;
       direction = q .direction;
-      small = record { addresses = s .addresses; state = s .state; reason = small; kept = s .kept; accepted = s .accepted; control = s .control };
+      small = record { addresses = s .addresses; state = s .state; reason = small; kept = s .kept; accepted = s .accepted; control = s .control; beat = s .beat };
       window = q .window;
       rested = rested-on (leaving c 0 0 .addresses .direction) (leaving c 0 0 .phase) (shutFor c why .phase) refl (λ x. x) (leaving c 0 0 .window) (leaving c 0 0 .window) refl refl (q .rested);
       held = q .held;
@@ -135,7 +137,7 @@ state-receives c lens state small rest r =
       fit = r .fit;
       count = r .count;
       direction = r .direction;
-      small = record { addresses = s .addresses; state = small; reason = s .reason; kept = s .kept; accepted = s .accepted; control = s .control };
+      small = record { addresses = s .addresses; state = small; reason = s .reason; kept = s .kept; accepted = s .accepted; control = s .control; beat = s .beat };
       window = r .window;
       rested = rest;
       held = r .held;
@@ -198,7 +200,7 @@ marking-receives c lens place flags n on few short r =
       fit = r .fit;
       count = length-set lens (slotOf c place) n ∙ r .count;
       direction = r .direction;
-      small = record { addresses = s .addresses; state = s .state; reason = s .reason; kept = s .kept; accepted = omega arith; control = s .control };
+      small = record { addresses = s .addresses; state = s .state; reason = s .reason; kept = s .kept; accepted = omega arith; control = s .control; beat = s .beat };
       window = r .window;
       rested = rested-on (c .addresses .direction) (c .phase) (marking c place flags .phase) refl (λ x. x) (c .window) (c .window) refl refl (r .rested);
       held = λ i less. set-some (c .marks) place (roundOf (c .limits .slots) (backOf (c .limits .slots) (c .window .place) (c .window .behind) + i)) (flags + 1) (r .held i less) (λ z. omega arith);
@@ -213,7 +215,7 @@ moving-receives c lens o r =
       fit = r .fit;
       count = r .count;
       direction = r .direction;
-      small = record { addresses = r .small .addresses; state = r .small .state; reason = r .small .reason; kept = r .small .kept; accepted = r .small .accepted; control = r .small .control };
+      small = record { addresses = r .small .addresses; state = r .small .state; reason = r .small .reason; kept = r .small .kept; accepted = r .small .accepted; control = r .small .control; beat = r .small .beat };
       window = m .0;
       rested = open-rests (c .addresses .direction) (c .phase) (movedOf (c .limits) (c .marks) (c .window) .window) o;
       held = m .1;
@@ -233,7 +235,7 @@ dropped-receives c lens n some few r =
       fit = r .fit;
       count = r .count;
       direction = r .direction;
-      small = record { addresses = r .small .addresses; state = r .small .state; reason = r .small .reason; kept = r .small .kept; accepted = r .small .accepted; control = r .small .control };
+      small = record { addresses = r .small .addresses; state = r .small .state; reason = r .small .reason; kept = r .small .kept; accepted = r .small .accepted; control = r .small .control; beat = r .small .beat };
       window = record { place = k .place; behind = omega arith; ahead = k .ahead; flight = k .flight; way = omega arith; unit = k .unit };
       rested = rested-on (c .addresses .direction) (c .phase) (c .phase) refl (λ x. x) w (dropped c n .window) refl refl (r .rested);
       held = λ i less e.
@@ -254,7 +256,7 @@ timers-receives c lens t r =
       fit = r .fit;
       count = r .count;
       direction = r .direction;
-      small = record { addresses = s .addresses; state = s .state; reason = s .reason; kept = s .kept; accepted = s .accepted; control = s .control };
+      small = record { addresses = s .addresses; state = s .state; reason = s .reason; kept = s .kept; accepted = s .accepted; control = s .control; beat = s .beat };
       window = r .window;
       rested = r .rested;
       held = r .held;
@@ -273,14 +275,15 @@ module _ (c : Channel) (lens : List ℕ) (d : c .addresses .direction ≡ receiv
       open-cases c (λ (s : Stepped). Standing (s .channel) lens) h h
       (enabled-stands c lens noLone (omega arith) (asking-receives (c .addresses .direction) (freshPhase enabled noLone) d) h)
 
-  shut-stands : (why : ℕ) → why ≤ 5 → Standing (shutFor c why) lens
+  shut-stands : (why : ℕ) → why ≤ 6 → Standing (shutFor c why) lens
   shut-stands why small = receives-stands (shutFor c why) lens (shut-receives c lens why small is)
 
   -- an Open or a Close that arrives
   pub control-stands : (opens : Bool) (number : ℕ) → Standing (controlStep c opens number .channel) lens
   control-stands opens number =
       control-cases c (λ (s : Stepped). Standing (s .channel) lens) h h opens number
-      (receives-stands (withState c 2) lens (state-receives c lens 2 (omega arith) (open-rests (c .addresses .direction) (withState c 2 .phase) (c .window) refl) is))
+      (pulse-keeps (withState c 2) lens (startedPulse (c .limits)) (omega arith)
+      (receives-stands (withState c 2) lens (state-receives c lens 2 (omega arith) (open-rests (c .addresses .direction) (withState c 2 .phase) (c .window) refl) is)))
       (receives-stands (leaving c 3 (c .limits .closing)) lens (leaving-receives c lens 3 (c .limits .closing) (omega arith) is))
       (shut-stands 2 (omega arith))
       (shut-stands 3 (omega arith))
@@ -336,7 +339,7 @@ module _ (c : Channel) (lens : List ℕ) (d : c .addresses .direction ≡ receiv
       (dropped-receives c lens (unitAt c) (unit-some (c .marks) (c .limits .slots) (completeIn (c .window)) (oldestOf (c .limits .slots) (c .window)) low) (unit-behind c) is))
 
   -- a tick
-  pub tick-stands : Standing (tickStep c) lens
+  pub tick-stands : Standing (tickStep c .channel) lens
   tick-stands =
       tick-cases c (λ (k : Channel). Standing k lens) h
       (receives-stands (withTimers c (withClosing (c .timers) (c .timers .closing - 1))) lens
@@ -347,3 +350,5 @@ module _ (c : Channel) (lens : List ℕ) (d : c .addresses .direction ≡ receiv
       (state-receives (withTimers c (withClosing (c .timers) 0)) lens 0 (omega arith)
       (rests (c .addresses .direction) (withState c 0 .phase) (c .window) (n .0) (n .1) (asking-receives (c .addresses .direction) (withState c 0 .phase) d))
       (timers-receives c lens (withClosing (c .timers) 0) is)))
+      (λ o. shut-stands unanswered (omega arith))
+      (λ o. beaten-keeps c lens h (c .limits))

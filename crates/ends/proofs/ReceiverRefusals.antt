@@ -11,11 +11,13 @@ use lib.ListN.{length}
 use Rattle.channel.specs.declared.record.Channel.{Channel}
 use Rattle.channel.specs.declared.step.Stepped.{Stepped}
 use Rattle.channel.specs.Answers.{numberOf}
+use Rattle.channel.specs.Pulse.{heartbeatStep, heartbeatAckStep}
 use Rattle.receiver_data.specs.Sorting.{placeAt}
 use Rattle.receiver.specs.Receiving.{openStep, closeStep, controlStep}
 use Rattle.receiver_data.specs.Data.{awayOf, dataStep, dataMem, dataLens}
 use Rattle.receiver_data.specs.Taking.{completeIn, sizeAt, takeStep, takeOut}
 use Rattle.receiver_data.proofs.TakeLaws.{take-nothing, take-small, take-done, out-nothing, out-small}
+use Rattle.ends.proofs.PulseCases.{heartbeat-cases, heartbeat-ack-cases}
 use Rattle.ends.proofs.ReceiverCases.{open-cases, control-cases, data-cases, accept-cases}
 
 -- the answer says that something may have changed
@@ -48,6 +50,16 @@ control-refusals-change-nothing c opens number =
     (λ n. absurd (n (inl refl)))
     (λ n. absurd (n (inr (inl refl))))
     (λ n. absurd (n (inr (inl refl))))
+
+-- a Heartbeat that arrives, and the Ack of one
+pub heartbeat-refusals-change-nothing : (c : Channel) → (Changing (heartbeatStep c) → ⊥) → heartbeatStep c .channel ≡ c
+heartbeat-refusals-change-nothing c = heartbeat-cases c (λ (s : Stepped). (Changing s → ⊥) → s .channel ≡ c) (λ n. refl) (λ e n. refl)
+
+pub heartbeat-ack-refusals-change-nothing : (c : Channel) (number : ℕ)
+    → (Changing (heartbeatAckStep c number) → ⊥)
+    → heartbeatAckStep c number .channel ≡ c
+heartbeat-ack-refusals-change-nothing c number =
+    heartbeat-ack-cases c (λ (s : Stepped). (Changing s → ⊥) → s .channel ≡ c) (λ n. refl) number (λ n. refl) (λ e n. absurd (n (inl refl)))
 
 -- directives
 pub opening-refusals-change-nothing : (c : Channel) → (Changing (openStep c) → ⊥) → openStep c .channel ≡ c

@@ -2,7 +2,7 @@
 -- Assumes nothing.
 use mathlib.Core.Path.{_≡_, sym, ap, _∙_}
 use mathlib.Core.Bool.{Bool, true, false, not, _||_, or-false}
-use mathlib.Core.List.{List, map}
+use mathlib.Core.List.{List}
 use Prim.Native.Nat.{ℕ}
 use borrow.Author.Tests.{eqb-true, eqb-false, not-false}
 use lib.Dec.{ltb, eqb}
@@ -16,12 +16,13 @@ use Rattle.channel.specs.declared.record.Channel.{Channel}
 use Rattle.channel.specs.declared.answer.Answer.the-variants.{Done}
 use Rattle.channel.specs.declared.answer.Refusal.the-variants as refusal
 use Rattle.channel.specs.declared.step.Stepped.{Stepped}
-use Rattle.channel.specs.Record.{closed, enabled, opened, closing, retriesOut, noLone, heldIn, withState, withKept, withControl, withTimers}
+use Rattle.channel.specs.declared.step.Ticked.{Ticked}
+use Rattle.channel.specs.Record.{closed, enabled, opened, closing, retriesOut, unanswered, noLone, heldIn, withState, withKept, withControl, withPulse}
 use Rattle.channel.specs.Lone.{readyLone, isOut, fallen}
+use Rattle.channel.specs.Pulse.{startedPulse, beaten}
 use Rattle.channel.specs.Steps.{refusing, doing, enabledOf}
-use Rattle.sender.specs.declared.ticking.Ticked.{Ticked}
 use Rattle.sender.specs.Directives.{parked, shutFor, openStep, closeStep}
-use Rattle.sender.specs.Ticking.{lowered, anySpent, tickStep}
+use Rattle.sender.specs.Ticking.{anySpent, dataFallen, tickStep}
 use Rattle.sender_acks.specs.Acks.{controlAckStep, awayOf, isAwaited, recorded, confirmedAt, advanced, dataAckStep}
 use Rattle.sender_units.specs.Reclaiming.{unitAt, sizeAt, dropped, reclaimStep, reclaimOut}
 
@@ -44,7 +45,7 @@ module _ (c : Channel) (P : Stepped → Type 0) where
       → P (refusing c refusal.State)
       → P (refusing c refusal.Ignored)
       → (c .phase .state ≡ closing → P (doing (parked c closed noLone) 0))
-      → (c .phase .state ≡ enabled → P (doing (withControl (withState c opened) noLone) 0))
+      → (c .phase .state ≡ enabled → P (doing (withPulse (withControl (withState c opened) noLone) (startedPulse (c .limits))) 0))
       → (c .phase .state ≡ enabled → P (doing (parked c closing readyLone) 0))
       → P (controlAckStep c number)
   unfolding controlAckStep
@@ -105,14 +106,17 @@ pub tick-cases : (c : Channel) (P : Channel → Type 0)
     → (c .phase .state ≡ opened → P (shutFor c retriesOut))
     → (c .phase .state ≡ enabled → P (shutFor c retriesOut))
     → (c .phase .state ≡ closing → P (shutFor c retriesOut))
-    → P (withTimers c (record { closing = c .timers .closing; left = map lowered (c .timers .left); tries = c .timers .tries }))
+    → (c .phase .state ≡ opened → P (shutFor (dataFallen c) unanswered))
+    → (c .phase .state ≡ opened → P (withPulse (dataFallen c) (beaten (c .limits) (c .pulse) .pulse)))
     → (fallen (c .phase .control) .spent ≡ false → P (withControl c (fallen (c .phase .control) .lone)))
     → P c
     → P (tickStep c .channel)
 unfolding tickStep
-tick-cases c P in-opened in-enabled in-closing timers control same =
+tick-cases c P in-opened in-enabled in-closing unheard timers control same =
     by-test Ticks (eqb (c .phase .state) opened) _ _
-    (λ e. either Ticks (anySpent (c .timers .left) (c .timers .tries)) _ _ (in-opened (eqb-true _ _ e)) timers)
+    (λ e.
+    let o = eqb-true _ _ e in
+    either Ticks (anySpent (c .timers .left) (c .timers .tries)) _ _ (in-opened o) (either Ticks (beaten (c .limits) (c .pulse) .spent) _ _ (unheard o) (timers o)))
     (λ e.
     by-test Ticks (eqb (c .phase .state) enabled || eqb (c .phase .state) closing) _ _
     (λ q. by-test Ticks (fallen (c .phase .control) .spent) _ _ (λ t. by-control q) control)

@@ -9,16 +9,16 @@ use Rattle.laws.proofs.Choice.{either}
 use Rattle.channel.specs.declared.record.Lone.{Lone}
 use Rattle.channel.specs.declared.record.Channel.{Channel}
 use Rattle.channel.specs.declared.step.Stepped.{Stepped}
-use Rattle.channel.specs.Record.{sends, closed, closing, retriesOut, noLone}
+use Rattle.channel.specs.Record.{sends, closed, closing, retriesOut, unanswered, noLone}
 use Rattle.channel.specs.Lone.{readyLone}
 use Rattle.channel.specs.Asked.{Asked}
 use Rattle.channel.proofs.FixedLaws.{SameSettings, asked-again}
 use Rattle.sender_packets.specs.Asked.{Ready}
 use Rattle.sender.specs.Directives.{parked, shutFor, openStep, closeStep}
 use Rattle.sender_units.specs.Transfer.{isAccepted, transferStep, transferMem, transferLens}
-use Rattle.sender_packets.specs.HandingOut.{controlOut, againOut, newOut, nextOut, nextLength, handStep}
+use Rattle.sender_packets.specs.HandingOut.{singleOut, againOut, newOut, nextOut, nextLength, handStep}
 use Rattle.sender_acks.specs.Acks.{controlAckStep, awayOf, recorded, advanced, dataAckStep}
-use Rattle.sender.specs.Ticking.{tickStep}
+use Rattle.sender.specs.Ticking.{dataFallen, tickStep}
 use Rattle.sender_units.specs.Reclaiming.{reclaimStep}
 use Rattle.ends.proofs.SenderCases.{open-cases, close-cases, control-ack-cases, data-ack-cases, reclaim-cases, tick-cases}
 use Rattle.ends.proofs.KeepsDirectives.{open-stands, close-stands, control-ack-stands, tick-stands}
@@ -35,6 +35,10 @@ module _ (c : Channel) where
   shut-fixed : (why : ℕ) → SameSettings c (shutFor c why)
   unfolding parked
   shut-fixed why = (refl, refl)
+
+  unheard-fixed : SameSettings c (shutFor (dataFallen c) unanswered)
+  unfolding parked
+  unheard-fixed = (refl, refl)
 
   advanced-fixed : SameSettings c (advanced c)
   unfolding advanced
@@ -55,12 +59,12 @@ module _ (c : Channel) where
 
   pub tick-fixed : SameSettings c (tickStep c .channel)
   tick-fixed =
-      tick-cases c (SameSettings c) (λ e. shut-fixed retriesOut) (λ e. shut-fixed retriesOut) (λ e. shut-fixed retriesOut) (refl, refl) (λ e. (refl, refl)) (refl, refl)
+      tick-cases c (SameSettings c) (λ e. shut-fixed retriesOut) (λ e. shut-fixed retriesOut) (λ e. shut-fixed retriesOut) (λ e. unheard-fixed) (λ e. (refl, refl)) (λ e. (refl, refl)) (refl, refl)
 
   next-fixed : (rank : ℕ) → SameSettings c (nextOut c rank)
   unfolding nextOut
   next-fixed rank =
-      either (SameSettings c) (eqb rank 0) (controlOut c) _ (refl, refl) (either (SameSettings c) (eqb rank 1) (againOut c) (newOut c) (refl, refl) (refl, refl))
+      either (SameSettings c) (eqb rank 0) (singleOut c) _ (refl, refl) (either (SameSettings c) (eqb rank 1) (againOut c) (newOut c) (refl, refl) (refl, refl))
 
   pub hand-fixed : (lens : List ℕ) (rank n : ℕ) → SameSettings c (handStep c lens rank n .channel)
   unfolding handStep
@@ -79,6 +83,11 @@ data-ack-fixed c number = data-ack-cases c (Fixed c) number (refl, refl) (refl, 
 
 -- ---- what the steps ask
 
+-- a hand-out, at either end
+pub hand-asked : (c : Channel) (mem lens : List ℕ) → Asked c mem lens → (rank n : ℕ) → Ready c rank → Asked (handStep c lens rank n .channel) mem lens
+hand-asked c mem lens a rank n r =
+    asked-again c (handStep c lens rank n .channel) mem lens (hand-fixed c lens rank n) (hand-stands c lens rank n (a .standing) r) (a .sized)
+
 module _ (c : Channel) (mem lens : List ℕ) (a : Asked c mem lens) (s : c .addresses .direction ≡ sends) where
   pub open-asked : Asked (openStep c .channel) mem lens
   open-asked = asked-again c (openStep c .channel) mem lens (open-fixed c) (open-stands c lens (a .standing)) (a .sized)
@@ -88,9 +97,6 @@ module _ (c : Channel) (mem lens : List ℕ) (a : Asked c mem lens) (s : c .addr
 
   pub tick-asked : Asked (tickStep c .channel) mem lens
   tick-asked = asked-again c (tickStep c .channel) mem lens (tick-fixed c) (tick-stands c lens (a .standing) s) (a .sized)
-
-  pub hand-asked : (rank n : ℕ) → Ready c rank → Asked (handStep c lens rank n .channel) mem lens
-  hand-asked rank n r = asked-again c (handStep c lens rank n .channel) mem lens (hand-fixed c lens rank n) (hand-stands c lens rank n (a .standing) s r) (a .sized)
 
   pub control-ack-asked : (number : ℕ) → Asked (controlAckStep c number .channel) mem lens
   control-ack-asked number =

@@ -18,12 +18,14 @@ use Rattle.channel.specs.declared.answer.Refusal.the-variants as refusal
 use Rattle.channel.specs.Answers.{numberOf}
 use Rattle.channel.specs.Prefixes.{prefixOf}
 use Rattle.channel.specs.Steps.{refusing, doing}
+use Rattle.channel.specs.Pulse.{heartbeatStep, heartbeatAckStep}
 use Rattle.sender.specs.Directives.{openStep, closeStep}
 use Rattle.sender_units.specs.Transfer.{isAccepted, transferStep, transferMem, transferLens}
 use Rattle.sender_packets.specs.HandingOut.{nextLength, nextFields, nextPayload, nextOut, handStep, handOut}
 use Rattle.sender_acks.specs.Acks.{controlAckStep, dataAckStep}
 use Rattle.sender_units.specs.Reclaiming.{reclaimStep, reclaimOut}
 use Rattle.sender_units.proofs.UnitLaws.{transfer-no, transfer-no-mem, transfer-no-lens, transfer-done}
+use Rattle.ends.proofs.PulseCases.{heartbeat-cases, heartbeat-ack-cases}
 use Rattle.ends.proofs.SenderCases.{open-cases, close-cases, control-ack-cases, data-ack-cases, reclaim-out-cases}
 
 -- the step answers another number than 0. No step here answers 9: only a tick makes a transmit end inactive
@@ -58,6 +60,12 @@ pub control-ack-unchanged : (c : Channel) (number : ℕ) → Refuses (controlAck
 control-ack-unchanged c number =
     control-ack-cases c (Keeps c) number (λ n. refl) (λ n. refl) (λ e n. absurd (n refl)) (λ e n. absurd (n refl)) (λ e n. absurd (n refl))
 
+pub heartbeat-unchanged : (c : Channel) → Refuses (heartbeatStep c) → heartbeatStep c .channel ≡ c
+heartbeat-unchanged c = heartbeat-cases c (Keeps c) (λ n. refl) (λ e n. refl)
+
+pub heartbeat-ack-unchanged : (c : Channel) (number : ℕ) → Refuses (heartbeatAckStep c number) → heartbeatAckStep c number .channel ≡ c
+heartbeat-ack-unchanged c number = heartbeat-ack-cases c (Keeps c) (λ n. refl) number (λ n. refl) (λ e n. absurd (n refl))
+
 pub hand-unchanged : (node : Node) (c : Channel) (lens mem : List ℕ) (rank : ℕ) (out : List ℕ) → Refuses (handStep c lens rank (length out))
     → (handStep c lens rank (length out) .channel ≡ c) × (handOut node c lens mem rank out ≡ out)
 unfolding handStep handOut
@@ -91,6 +99,8 @@ pub record Unchanged (node : Node) (c : Channel) (u mem lens out : List ℕ) (ra
       → (handStep c lens rank (length out) .channel ≡ c) × (handOut node c lens mem rank out ≡ out)
   pub control-ack : Refuses (controlAckStep c number) → controlAckStep c number .channel ≡ c
   pub data-ack : Refuses (dataAckStep c number) → dataAckStep c number .channel ≡ c
+  pub heartbeat : Refuses (heartbeatStep c) → heartbeatStep c .channel ≡ c
+  pub heartbeat-ack : Refuses (heartbeatAckStep c number) → heartbeatAckStep c number .channel ≡ c
   pub reclaim : Refuses (reclaimStep c lens (length out))
       → (reclaimStep c lens (length out) .channel ≡ c) × (reclaimOut c lens mem out ≡ out)
 
@@ -103,5 +113,7 @@ refusals-change-nothing node c u mem lens out rank number =
       hand = hand-unchanged node c lens mem rank out;
       control-ack = control-ack-unchanged c number;
       data-ack = data-ack-unchanged c number;
+      heartbeat = heartbeat-unchanged c;
+      heartbeat-ack = heartbeat-ack-unchanged c number;
       reclaim = reclaim-unchanged c lens mem out;
     }

@@ -9,7 +9,7 @@ use Rattle.slots.specs.Units.{segmentsOf}
 use Rattle.channel.specs.declared.record.Channel.{Channel}
 use Rattle.channel.specs.Answers.{numberOf}
 use Rattle.channel.specs.Prefixes.{noPrefix}
-use Rattle.channel.specs.Record.{receives, opened, freshPhase, noLone, noTimers, noMarks}
+use Rattle.channel.specs.Record.{receives, opened, freshPhase, noLone, noPulse, noTimers, noMarks}
 use Rattle.receiver_data.specs.Sorting.{isHeld, sortAt}
 use Rattle.receiver_data.specs.Moving.{movedBy}
 use Rattle.receiver_data.specs.Data.{acceptStep, dataStep}
@@ -19,8 +19,9 @@ abbrev pub openAt : ℕ → ℕ → Channel
 openAt start k =
     record {
       addresses = record { channel = 1; remote = 65; direction = receives; prefix = noPrefix; own = noPrefix };
-      limits = record { window = k; slots = 128; payload = 16; segments = 4; timeout = 4; closing = 4; retries = 2 };
+      limits = record { window = k; slots = 128; payload = 16; segments = 4; timeout = 4; closing = 4; retries = 2; interval = 0 };
       phase = freshPhase opened noLone;
+      pulse = noPulse;
       window = record { start = start; place = 0; behind = 0; ahead = 0; flight = 0; way = 0 };
       timers = noTimers;
       marks = noMarks;

@@ -12,7 +12,7 @@ ghost use mathlib.Core.List.{map};
 ghost use Rattle.engine.specs.Records.{settingsFor, settingsOf};
 ghost use Rattle.channel.specs.Record.{madeOf};
 
-// One channel's: k 4, slots 8, P 16, M 4, timeouts 4, retries 2; no prefixes.
+// One channel's: k 4, slots 8, P 16, M 4, timeouts 4, retries 2; no prefixes, and no Heartbeat of its own.
 fn settings_for(channel: u16, remote: u8, direction: u8) -> Settings
     ensures { λ r. ⌜ r ≡ settingsFor channel remote direction ⌝ }
 {
@@ -36,6 +36,7 @@ fn settings_for(channel: u16, remote: u8, direction: u8) -> Settings
             timeout: 4,
             closing: 4,
             retries: 2,
+            interval: 0,
         },
     }
 }

@@ -11,7 +11,7 @@ use borrow.Author.Tests.{eq-eqb, ne-eqb}
 use lib.Dec.{ltb, eqb}
 use lib.ListN.{length, set, length-set, length-map, replicate, take, drop}
 use lib.Seq.{getD-set-same, getD-set-other}
-use Rattle.laws.proofs.Choice.{either-way, chosen, first-not, last-not}
+use Rattle.laws.proofs.Choice.{either, either-way, chosen, passed-by, first-not}
 use Rattle.laws.specs.Choice.{if_then_else_}
 use Rattle.walks.specs.Serving.{Worked, Called, Changed}
 use Rattle.lines.specs.Lines.{stands, lineIn, partAt, lineAt, noLines}
@@ -36,7 +36,7 @@ use Rattle.packet.specs.Layout.{least, prefixFrom}
 use Rattle.packet.specs.Reading.{readOf}
 use Rattle.sender_packets.proofs.HandLaws.{control-other}
 use Rattle.channel.specs.declared.step.Stepped.{Stepped}
-use Rattle.sender_packets.specs.HandingOut.{againAt, nextInWindow, readyControl, readyAgain, readyNew, ready}
+use Rattle.sender_packets.specs.HandingOut.{againAt, nextInWindow, readyControl, readyBeat, readySingle, readyAgain, readyNew, ready}
 use Rattle.table.specs.declared.looking.Look.{Look}
 use Rattle.table.specs.declared.looking.Sought.{Sought}
 use Rattle.table.specs.declared.looking.Sought.the-variants.{Index, Question, Packet, Ready, Nobody}
@@ -279,9 +279,15 @@ closed-waits c e =
     let is = eqb (c .addresses .direction) sends in
     let not : eqb (c .phase .state) opened ≡ false = ne-eqb (c .phase .state) opened (λ p. omega (arith, p, e)) in
     of-three (λ (q : ℕ). waits q c ≡ false)
-    (last-not is (readyControl c) (control-other (c .phase .state) (isReady (c .phase .control)) (λ p. omega (arith, p, e)) (λ p. omega (arith, p, e))))
-    (last-not is (readyAgain c) (first-not (eqb (c .phase .state) opened) (ltb (againAt c) (c .window .flight)) not))
-    (last-not is (readyNew c) (first-not (eqb (c .phase .state) opened) (nextInWindow (c .limits) (c .window)) not))
+    (either IsFalse is (readySingle c) (readyBeat c)
+    (passed-by (eqb (c .phase .state) opened) (isReady (c .pulse .beat)) (readyControl c) not
+    ∙ control-other (c .phase .state) (isReady (c .phase .control)) (λ p. omega (arith, p, e)) (λ p. omega (arith, p, e)))
+    (first-not (eqb (c .phase .state) opened) (isReady (c .pulse .beat)) not))
+    (either IsFalse is (readyAgain c) false (first-not (eqb (c .phase .state) opened) (ltb (againAt c) (c .window .flight)) not) refl)
+    (either IsFalse is (readyNew c) false (first-not (eqb (c .phase .state) opened) (nextInWindow (c .limits) (c .window)) not) refl)
+  where
+    IsFalse : Bool → Type 0
+    IsFalse b = b ≡ false
 
 pub nobody-stands : (i q : ℕ) → q < 3 → stands i (lineAt q noLines) ≡ false
 unfolding stands lineIn partAt

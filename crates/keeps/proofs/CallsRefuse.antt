@@ -15,7 +15,7 @@ use Rattle.packet.specs.declared.fields.Fields.{Fields}
 use Rattle.packet.specs.Layout.{fieldsAt, lengthAt}
 use Rattle.walks.specs.Serving.{Worked, works, changes}
 use Rattle.packet.specs.declared.kinds.Kind.{Kind}
-use Rattle.packet.specs.declared.kinds.Kind.the-variants.{Data, DataAck, Open, Close, ControlAck, Lacking}
+use Rattle.packet.specs.declared.kinds.Kind.the-variants.{Data, DataAck, Open, Close, Heartbeat, HeartbeatAck, ControlAck, Lacking}
 use Rattle.packet.specs.Kinds.{kindOf}
 use Rattle.channel.specs.declared.record.Node.{Node}
 use Rattle.channel.specs.declared.record.Addresses.{Addresses}
@@ -33,6 +33,9 @@ use Rattle.sender_units.specs.Reclaiming.{unitAt, sizeAt, dropped, reclaimStep}
 use Rattle.sender_packets.specs.HandingOut.{nextOut, nextLength, handStep}
 use Rattle.sender_acks.specs.Acks.{controlAckStep, dataAckStep}
 use Rattle.ends.proofs.SenderRefusals as sent
+use Rattle.channel.specs.Pulse.{heartbeatStep, heartbeatAckStep}
+use Rattle.receiver.specs.declared.acks.Acked.{Acked}
+use Rattle.receiver.specs.declared.acks.Acked.the-variants as acked
 use Rattle.receiver.specs.Receiving as receiver
 use Rattle.receiver_data.specs.Data.{dataStep}
 use Rattle.ends.proofs.ReceiverCases.{take-cases}
@@ -50,7 +53,8 @@ use Rattle.requests.specs.Requests.{openedBy, closedBy, transferFor, askedBy, t
 use Rattle.requests.specs.Handing.{nextFor}
 use Rattle.arrivals.specs.Finding.{lookOf}
 use Rattle.arrivals.specs.Data.{replyLength, unfit, dataFor}
-use Rattle.arrivals.specs.Replying.{repliedBy}
+use Rattle.arrivals.specs.Replying.{repliedBy, replies, acknowledging, replying}
+use Rattle.arrivals.proofs.ReplyLaws.{acks-none}
 use Rattle.arrivals.specs.Arriving.{arriveAs, arriveBy, arrivalFor}
 use Rattle.packet.specs.Layout.{payloadIn}
 use Rattle.table.proofs.Parts.{laid-own}
@@ -198,19 +202,29 @@ module _ (c : Channel) (rank : ℕ) (mem lens out : List ℕ) where
 
 -- ---- an arrival
 
-replied-still : (r : Answer) (node : Node) (a : Addresses) (ofData : Bool) (number : ℕ) (out : List ℕ) → (MayChange r → ⊥)
-    → repliedBy r node a ofData number out ≡ out
-replied-still (Done n u) node a ofData number out quiet = absurd (quiet (inl refl))
-replied-still (Repeated n) node a ofData number out quiet = absurd (quiet (inr (inr refl)))
-replied-still (Inactive why) node a ofData number out quiet = refl
-replied-still (Refused why) node a ofData number out quiet = refl
+replied-still : (r : Answer) (node : Node) (a : Addresses) (of : Acked) (number : ℕ) (out : List ℕ) → (MayChange r → ⊥)
+    → repliedBy r node a of number out ≡ out
+replied-still (Done n u) node a of number out quiet = absurd (quiet (inl refl))
+replied-still (Repeated n) node a of number out quiet = absurd (quiet (inr (inr refl)))
+replied-still (Inactive why) node a of number out quiet = refl
+replied-still (Refused why) node a of number out quiet = refl
 
-replied-silent : (r : Answer) (node : Node) (a : Addresses) (ofData : Bool) (number : ℕ) (out : List ℕ) → numberOf r ≡ 9
-    → repliedBy r node a ofData number out ≡ out
-replied-silent (Done n u) node a ofData number out e = absurd (omega (arith, e))
-replied-silent (Repeated n) node a ofData number out e = absurd (omega (arith, e))
-replied-silent (Inactive why) node a ofData number out e = refl
-replied-silent (Refused why) node a ofData number out e = refl
+-- nor does the channel then change
+acks-still : (s : Stepped) → (MayChange (s .answer) → ⊥) → acknowledging s ≡ s
+acks-still s quiet = acks-none s (go (s .answer) quiet)
+  where
+    go : (r : Answer) → (MayChange r → ⊥) → replies r ≡ false
+    go (Done n u) quiet = absurd (quiet (inl refl))
+    go (Repeated n) quiet = absurd (quiet (inr (inr refl)))
+    go (Inactive why) quiet = refl
+    go (Refused why) quiet = refl
+
+replied-silent : (r : Answer) (node : Node) (a : Addresses) (of : Acked) (number : ℕ) (out : List ℕ) → numberOf r ≡ 9
+    → repliedBy r node a of number out ≡ out
+replied-silent (Done n u) node a of number out e = absurd (omega (arith, e))
+replied-silent (Repeated n) node a of number out e = absurd (omega (arith, e))
+replied-silent (Inactive why) node a of number out e = refl
+replied-silent (Refused why) node a of number out e = refl
 
 -- what holds for each type of packet holds of the arrival
 module _ (node : Node) (f : Fields) (x : ℕ) (p : List ℕ) (c : Channel) (rank : ℕ) (mem lens out : List ℕ) (P : Worked Stepped → Type 0) where
@@ -218,11 +232,12 @@ module _ (node : Node) (f : Fields) (x : ℕ) (p : List ℕ) (c : Channel) (rank
       → P (dataFor node f p c rank mem lens out)
       → P (works (dataAckStep c (f .number)) mem lens out)
       → P (works (controlAckStep c (f .number)) mem lens out)
-      → ((opens : Bool)
-      → P (works (receiver.controlStep c opens (f .number)) mem lens (repliedBy (receiver.controlStep c opens (f .number) .answer) node (c .addresses) false (f .number) out)))
+      → ((opens : Bool) → P (replying node c acked.Control (f .number) (receiver.controlStep c opens (f .number)) mem lens out))
+      → P (replying node c acked.Heartbeat (f .number) (heartbeatStep c) mem lens out)
+      → P (works (heartbeatAckStep c (f .number)) mem lens out)
       → P (arriveBy node f x p c rank mem lens out)
   unfolding arriveBy
-  arrive-cases refuses filed data-ack control-ack control = go (ltb (length out) (replyLength c (kindOf (f .kind)))) (unfit c f x) (kindOf (f .kind))
+  arrive-cases refuses filed data-ack control-ack control beat beat-ack = go (ltb (length out) (replyLength c (kindOf (f .kind)))) (unfit c f x) (kindOf (f .kind))
     where
       go : (small over : Bool) (k : Kind)
           → P
@@ -235,10 +250,17 @@ module _ (node : Node) (f : Fields) (x : ℕ) (p : List ℕ) (c : Channel) (rank
       go false false DataAck = data-ack
       go false false Open = control true
       go false false Close = control false
+      go false false Heartbeat = beat
+      go false false HeartbeatAck = beat-ack
       go false false ControlAck = control-ack
       go false false (Lacking code) = refuses refusal.Lacking
 
 module _ (node : Node) (packet : List ℕ) (c : Channel) (rank : ℕ) (mem lens out : List ℕ) where
+  replies-still : (of : Acked) (s : Stepped) → ((MayChange (s .answer) → ⊥) → s .channel ≡ c)
+      → Still c mem lens out (replying node c of (fieldsAt packet .number) s mem lens out)
+  replies-still of s same quiet =
+      (ap (λ (r : Stepped). r .channel) (acks-still s quiet) ∙ same quiet, refl, refl, replied-still (s .answer) node (c .addresses) of (fieldsAt packet .number) out quiet)
+
   arrival-still : Still c mem lens out (arrivalFor node packet c rank mem lens out)
   unfolding arrivalFor
   arrival-still =
@@ -248,11 +270,13 @@ module _ (node : Node) (packet : List ℕ) (c : Channel) (rank : ℕ) (mem lens 
       let s = dataStep c n (f .flags) in
       arrive-cases node f (lengthAt packet) p c rank mem lens out (Still c mem lens out)
       (λ why quiet. (refl, refl, refl, refl))
-      (λ quiet. let u = received.refusals-change-nothing c n (f .flags) p mem lens quiet in (u .0, u .1, u .2, replied-still (s .answer) node (c .addresses) true n out quiet))
+      (λ quiet. let u = received.refusals-change-nothing c n (f .flags) p mem lens quiet in
+      (ap (λ (r : Stepped). r .channel) (acks-still s quiet) ∙ u .0, u .1, u .2, replied-still (s .answer) node (c .addresses) acked.Data n out quiet))
       (λ quiet. (sent.data-ack-unchanged c n (λ e. quiet (inl e)), refl, refl, refl))
       (λ quiet. (sent.control-ack-unchanged c n (λ e. quiet (inl e)), refl, refl, refl))
-      (λ opens quiet.
-      (received.control-refusals-change-nothing c opens n quiet, refl, refl, replied-still (receiver.controlStep c opens n .answer) node (c .addresses) false n out quiet))
+      (λ opens. replies-still acked.Control (receiver.controlStep c opens n) (received.control-refusals-change-nothing c opens n))
+      (replies-still acked.Heartbeat (heartbeatStep c) (received.heartbeat-refusals-change-nothing c))
+      (λ quiet. (received.heartbeat-ack-refusals-change-nothing c n quiet, refl, refl, refl))
 
   arrival-silent : Silent out (arrivalFor node packet c rank mem lens out)
   unfolding arrivalFor
@@ -260,10 +284,12 @@ module _ (node : Node) (packet : List ℕ) (c : Channel) (rank : ℕ) (mem lens 
       let f = fieldsAt packet in
       let n = f .number in
       arrive-cases node f (lengthAt packet) (payloadIn packet) c rank mem lens out (Silent out) (λ why e. refl)
-      (λ e. replied-silent (dataStep c n (f .flags) .answer) node (c .addresses) true n out e)
+      (λ e. replied-silent (dataStep c n (f .flags) .answer) node (c .addresses) acked.Data n out e)
       (λ e. refl)
       (λ e. refl)
-      (λ opens e. replied-silent (receiver.controlStep c opens n .answer) node (c .addresses) false n out e)
+      (λ opens e. replied-silent (receiver.controlStep c opens n .answer) node (c .addresses) acked.Control n out e)
+      (λ e. replied-silent (heartbeatStep c .answer) node (c .addresses) acked.Heartbeat n out e)
+      (λ e. refl)
 
 -- ---- each call: every answer but 0, 9 and 15 changes nothing
 

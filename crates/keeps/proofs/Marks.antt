@@ -24,19 +24,21 @@ use Rattle.channel.specs.declared.answer.Answer.{Answer}
 use Rattle.channel.specs.declared.answer.Answer.the-variants.{Refused}
 use Rattle.channel.specs.declared.answer.Refusal.the-variants as refusal
 use Rattle.channel.specs.declared.step.Stepped.{Stepped}
-use Rattle.channel.specs.Record.{sends, receives, closed as closedState, closing, noLone, noMarks}
+use Rattle.channel.specs.Record.{sends, receives, closed as closedState, closing, unanswered, noLone, noMarks}
 use Rattle.channel.specs.Lone.{readyLone}
 use Rattle.channel.specs.Standing.{oldestOf}
 use Rattle.sender.specs.Directives as sender
-use Rattle.sender.specs.Ticking.{tickStep as senderTick}
+use Rattle.sender.specs.Ticking.{dataFallen, tickStep as senderTick}
 use Rattle.sender_units.specs.Transfer.{isAccepted, freeAt, transferStep}
 use Rattle.sender_units.specs.Reclaiming.{unitAt, reclaimStep}
-use Rattle.sender_packets.specs.HandingOut.{controlOut, againOut, newOut, nextOut, nextLength, handStep}
+use Rattle.sender_packets.specs.HandingOut.{singleOut, againOut, newOut, nextOut, nextLength, handStep}
 use Rattle.sender_acks.specs.Acks.{controlAckStep, awayOf, recorded, wholeAt, advanced, dataAckStep}
 use Rattle.receiver.specs.Receiving as receiver
 use Rattle.receiver_data.specs.Sorting.{placeAt}
 use Rattle.receiver_data.specs.Data as received
 use Rattle.receiver_data.specs.Taking as taking
+use Rattle.channel.specs.Pulse.{heartbeatStep, heartbeatAckStep}
+use Rattle.ends.proofs.PulseCases.{heartbeat-cases, heartbeat-ack-cases}
 use Rattle.ends.proofs.SenderCases as sent
 use Rattle.ends.proofs.ReceiverCases.{open-cases, control-cases, take-cases, tick-cases, data-cases, accept-cases}
 use Rattle.table.specs.declared.looking.Look.{Look}
@@ -48,7 +50,7 @@ use Rattle.table.specs.Lent.{passes}
 use Rattle.table.specs.Serving.{blank, recordAt, ownMem, ownLens, Step, alone, stored, serveOne}
 use Rattle.requests.specs.Requests.{openedBy, closedBy, transferFor, takeFor, reclaimFor}
 use Rattle.requests.specs.Handing.{nextFor}
-use Rattle.ticks.specs.declared.ticking.Ticked.{Ticked as OneTick}
+use Rattle.channel.specs.declared.step.Ticked.{Ticked as OneTick}
 use Rattle.ticks.specs.Ticking.{tickedBy}
 use Rattle.arrivals.specs.Finding.{lookOf}
 use Rattle.arrivals.specs.Arriving.{arrivalFor}
@@ -94,7 +96,7 @@ module _ (c : Channel) (w : Full c) where
 
   next-full : (rank : ℕ) → Full (nextOut c rank)
   unfolding nextOut
-  next-full rank = either Full (eqb rank 0) (controlOut c) _ w (either Full (eqb rank 1) (againOut c) (newOut c) w w)
+  next-full rank = either Full (eqb rank 0) (singleOut c) _ w (either Full (eqb rank 1) (againOut c) (newOut c) w w)
 
   hand-full : (lens : List ℕ) (rank n : ℕ) → Fills (handStep c lens rank n)
   unfolding handStep
@@ -111,11 +113,26 @@ module _ (c : Channel) (w : Full c) where
       either (λ (m : List ℕ). length m ≡ 128) (eqb done 0) _ _ w
       (cleared-length (c .marks) (c .limits .slots) (c .window .behind + done) (oldestOf (c .limits .slots) (c .window)) ∙ w)
 
+  shut-fallen : Full (sender.shutFor (dataFallen c) unanswered)
+  unfolding sender.parked
+  shut-fallen = w
+
   sender-tick-full : Full (senderTick c .channel)
-  sender-tick-full = let shut = parked-full closedState noLone in sent.tick-cases c Full (λ e. shut) (λ e. shut) (λ e. shut) w (λ e. w) w
+  sender-tick-full =
+      let shut = parked-full closedState noLone in
+      sent.tick-cases c Full (λ e. shut) (λ e. shut) (λ e. shut) (λ e. shut-fallen) (λ e. w) (λ e. w) w
 
 data-ack-full : (c : Channel) → Full c → (number : ℕ) → Fills (dataAckStep c number)
 data-ack-full c w number = sent.data-ack-cases c Fills number w w (λ e. advanced-full (recorded c (awayOf c number)) w)
+
+-- ---- a Heartbeat, at either end
+
+module _ (c : Channel) (w : Full c) where
+  heartbeat-full : Fills (heartbeatStep c)
+  heartbeat-full = heartbeat-cases c Fills w (λ e. w)
+
+  heartbeat-ack-full : (number : ℕ) → Fills (heartbeatAckStep c number)
+  heartbeat-ack-full number = heartbeat-ack-cases c Fills w number w (λ e. w)
 
 -- ---- each step of a receiver
 
@@ -146,7 +163,7 @@ module _ (c : Channel) (w : Full c) where
   tick-full : Full (tickOf c)
   unfolding tickedBy
   tick-full =
-      either (λ (x : OneTick). Full (x .channel)) (eqb (c .addresses .direction) sends) _ _ (sender-tick-full c w) (tick-cases c Full w w (λ e. w))
+      either (λ (x : OneTick). Full (x .channel)) (eqb (c .addresses .direction) sends) _ _ (sender-tick-full c w) (tick-cases c Full w w (λ e. w) (λ e. leaving-full c w closedState 0) (λ e. w))
 
 -- ---- each call
 
@@ -215,6 +232,8 @@ arrival-marking node packet out c rank mem lens w =
     (data-ack-full c w n)
     (control-ack-full c w n)
     (λ opens. control-full c w opens n)
+    (heartbeat-full c w)
+    (heartbeat-ack-full c w n)
 
 module _ (t : List Channel) (mem lens lines : List ℕ) (wide : Wide t) where
   pub arrival-wide : (node : Node) (packet reply : List ℕ) → Wide (arrivalCall t mem lens lines node packet reply .table)

@@ -9,13 +9,13 @@ use borrow.Author.Tests.{ltb-true, ltb-false, eqb-true, eqb-false, eq-eqb, ne-eq
 use lib.Dec.{ltb, eqb}
 use lib.ListN.{length, drop, length-take}
 use Rattle.channel.proofs.SettingsLaws.{directed}
-use Rattle.laws.proofs.Choice.{either-way, chosen, passed-by}
+use Rattle.laws.proofs.Choice.{either, either-way, chosen, passed-by}
 use Rattle.slots.specs.Slots.{Sized}
 use Rattle.packet.specs.declared.fields.Fields.{Fields}
 use Rattle.packet.specs.Layout.{fieldsAt, prefixAt, lengthAt, payloadAt, payloadIn}
 use Rattle.walks.specs.Serving.{works}
 use Rattle.packet.specs.declared.kinds.Kind.{Kind}
-use Rattle.packet.specs.declared.kinds.Kind.the-variants.{Data, DataAck, Open, Close, ControlAck, Lacking}
+use Rattle.packet.specs.declared.kinds.Kind.the-variants.{Data, DataAck, Open, Close, Heartbeat, HeartbeatAck, ControlAck, Lacking}
 use Rattle.packet.specs.Kinds.{kindOf}
 use Rattle.channel.specs.declared.record.Node.{Node}
 use Rattle.channel.specs.declared.record.Channel.{Channel}
@@ -38,6 +38,7 @@ use Rattle.ends.proofs.KeepsAcks.{data-ack-stands}
 use Rattle.ends.proofs.KeepsTransfer.{transfer-stands, transfer-sized}
 use Rattle.ends.proofs.SenderFixed as sent
 use Rattle.receiver.specs.Receiving as receiver
+use Rattle.receiver_data.specs.Data.{dataStep}
 use Rattle.receiver_data.specs.Taking.{takeStep, takeOut}
 use Rattle.ends.proofs.ReceiverKeeps as received
 use Rattle.ends.proofs.ReceiverFixed as fixed
@@ -46,16 +47,24 @@ use Rattle.sender_packets.specs.Asked.{Ready as IsReady}
 use Rattle.table.specs.declared.looking.Sought.the-variants.{Ready}
 use Rattle.table.specs.Looking.{seeking}
 use Rattle.table.specs.Looking.{looksFor, graded}
+use Rattle.table.specs.Waiting.{waits}
 use Rattle.table.specs.Serving.{alone}
-use Rattle.ticks.specs.declared.ticking.Ticked.{Ticked}
+use Rattle.channel.specs.declared.step.Ticked.{Ticked}
+use Rattle.channel.specs.declared.record.Pulse.{Pulse}
+use Rattle.channel.specs.Pulse.{heartbeatStep, heartbeatAckStep}
+use Rattle.channel.proofs.PulseLaws.{sending-small}
+use Rattle.ends.proofs.KeepsPulse.{pulse-keeps, heartbeat-keeps, heartbeat-ack-keeps}
+use Rattle.ends.proofs.PulseFixed.{heartbeat-fixed, heartbeat-ack-fixed}
+use Rattle.receiver.specs.declared.acks.Acked.{Acked}
+use Rattle.receiver.specs.declared.acks.Acked.the-variants as acked
 use Rattle.requests.specs.Requests.{openedBy, closedBy, transferFor, takeFor, reclaimFor}
 use Rattle.requests.specs.Handing.{nextFor}
 use Rattle.arrivals.specs.Finding.{lookOf, prefixRead}
 use Rattle.arrivals.specs.Data.{replyLength, unfit}
-use Rattle.arrivals.specs.Replying.{repliedBy, replying}
+use Rattle.arrivals.specs.Replying.{repliedBy, replies, acknowledging, replying}
 use Rattle.arrivals.specs.Arriving.{arriveAs, arriveBy, arrivalFor, Framed}
 use Rattle.table.proofs.OneLaws.{kind-finds}
-use Rattle.requests.proofs.HandLaws.{ready-is}
+use Rattle.requests.proofs.HandLaws.{turn-waits, ready-is}
 use Rattle.ticks.proofs.TickLaws.{tick-sends, tick-receives}
 use Rattle.requests.proofs.RequestLaws.{opened-sends, opened-receives, closed-sends, closed-receives}
 use Rattle.arrivals.proofs.FindLaws.{found-packet}
@@ -84,6 +93,13 @@ module _ (c : Channel) (mem lens out : List ℕ) (sized : Sized (c .limits .slot
 
   refused-kept : (why : Refusal) → Standing c lens → Kept c (works (refusing c why) mem lens out)
   refused-kept why h = quiet-kept (refusing c why) (refl, refl) h
+
+-- a step and the reply to it, at either end
+pub acks-stand : (s : Stepped) (lens : List ℕ) → Standing (s .channel) lens → Standing (acknowledging s .channel) lens
+acks-stand s lens h =
+    let c = s .channel in
+    let small = named-is c (h .named) .beat in
+    pulse-keeps c lens _ (either (λ (p : Pulse). p .beat .state ≤ 3) (replies (s .answer)) _ (c .pulse) (sending-small c small) small) h
 
 -- ---- directives
 
@@ -151,18 +167,19 @@ reclaim-keeps look out at rank c mem lens g =
 
 -- ---- the next packet
 
--- whose turn it is, is a sender, and a packet of the rank is ready
-pub given-ready : (at rank : ℕ) (c : Channel) (mem lens : List ℕ) → Given (seeking Ready) at rank c mem lens → (c .addresses .direction ≡ sends) × IsReady c rank
-given-ready at rank c mem lens g =
-    let r = ready-is at c (g .lines) (g .grade) (g .suits) (g .found) in
-    (r .0, subst (λ (k : ℕ). IsReady c k) (sym (g .ranked)) (r .1))
+-- whose turn it is, waits, and a packet of the rank is ready
+module _ (at rank : ℕ) (c : Channel) (mem lens : List ℕ) (g : Given (seeking Ready) at rank c mem lens) where
+  pub given-waits : waits rank c ≡ true
+  given-waits = ap (λ (r : ℕ). waits r c) (g .ranked) ∙ turn-waits at c (g .lines) (g .grade) (g .suits) (g .found)
+
+  pub given-ready : IsReady c rank
+  given-ready = subst (λ (k : ℕ). IsReady c k) (sym (g .ranked)) (ready-is at c (g .lines) (g .grade) (g .suits) (g .found))
 
 pub next-keeps : (node : Node) (out : List ℕ) → Keeps (seeking Ready) (nextFor node) out
 unfolding nextFor
 next-keeps node out at rank c mem lens g =
-    let r = given-ready at rank c mem lens g in
     quiet-kept c mem lens (handOut node c lens mem rank out) (g .sized) (handStep c lens rank (length out)) (sent.hand-fixed c lens rank (length out))
-    (hand-stands c lens rank (length out) (g .standing) (r .0) (r .1))
+    (hand-stands c lens rank (length out) (g .standing) (given-ready at rank c mem lens g))
 
 -- ---- an arrival
 
@@ -198,27 +215,39 @@ arrival-keeps node packet out at rank c mem lens g = either-way (ltb (length out
     Wanted : Type 0
     Wanted = Kept c (arriveBy node f x p c rank mem lens out)
 
-    control : c .addresses .direction ≡ receives → (opens : Bool)
-        → Kept c (replying node c false n (receiver.controlStep c opens n) mem lens out)
-    control dir opens =
-        quiet-kept c mem lens (repliedBy (receiver.controlStep c opens n .answer) node (c .addresses) false n out) (g .sized) (receiver.controlStep c opens n)
-        (fixed.control-fixed c opens n) (received.control-stands c lens dir (g .standing) opens n)
+    replied : (of : Acked) (s : Stepped) → SameSettings c (s .channel) → Standing (s .channel) lens → Kept c (replying node c of n s mem lens out)
+    replied of s same h =
+        quiet-kept c mem lens (repliedBy (s .answer) node (c .addresses) of n out) (g .sized) (acknowledging s) same (acks-stand s lens h)
 
-    as-kind : unfit c f x ≡ false → (k : Kind) → kindOf (f .kind) ≡ k → c .addresses .direction ≡ looksFor k → Kept c (arriveAs k node f p c rank mem lens out)
+    receiving : eqb (c .addresses .direction) receives ≡ true → c .addresses .direction ≡ receives
+    receiving e = eqb-true _ _ e
+
+    sending : eqb (c .addresses .direction) sends ≡ true → c .addresses .direction ≡ sends
+    sending e = eqb-true _ _ e
+
+    control : c .addresses .direction ≡ receives → (opens : Bool)
+        → Kept c (replying node c acked.Control n (receiver.controlStep c opens n) mem lens out)
+    control dir opens =
+        replied acked.Control (receiver.controlStep c opens n) (fixed.control-fixed c opens n) (received.control-stands c lens dir (g .standing) opens n)
+
+    as-kind : unfit c f x ≡ false → (k : Kind) → kindOf (f .kind) ≡ k → looksFor k (c .addresses .direction) ≡ true → Kept c (arriveAs k node f p c rank mem lens out)
     as-kind fit Data is dir =
         let short = payload-short c packet fit is in
         record {
           addresses = fixed.data-fixed c n (f .flags) .0;
           limits = fixed.data-fixed c n (f .flags) .1;
-          standing = received.data-stands c lens dir (g .standing) n p mem short (f .flags) (told .flags);
-          sized = received.data-sized c lens dir (g .standing) n p mem short (g .sized);
+          standing = acks-stand (dataStep c n (f .flags)) _ (received.data-stands c lens (receiving dir) (g .standing) n p mem short (f .flags) (told .flags));
+          sized = received.data-sized c lens (receiving dir) (g .standing) n p mem short (g .sized);
         }
     as-kind fit DataAck is dir =
-        quiet-kept c mem lens out (g .sized) (dataAckStep c n) (sent.data-ack-fixed c n) (data-ack-stands c lens n (g .standing) dir)
-    as-kind fit Open is dir = control dir true
-    as-kind fit Close is dir = control dir false
+        quiet-kept c mem lens out (g .sized) (dataAckStep c n) (sent.data-ack-fixed c n) (data-ack-stands c lens n (g .standing) (sending dir))
+    as-kind fit Open is dir = control (receiving dir) true
+    as-kind fit Close is dir = control (receiving dir) false
+    as-kind fit Heartbeat is dir = replied acked.Heartbeat (heartbeatStep c) (heartbeat-fixed c) (heartbeat-keeps c lens (g .standing))
+    as-kind fit HeartbeatAck is dir =
+        quiet-kept c mem lens out (g .sized) (heartbeatAckStep c n) (heartbeat-ack-fixed c n) (heartbeat-ack-keeps c lens (g .standing) n)
     as-kind fit ControlAck is dir =
-        quiet-kept c mem lens out (g .sized) (controlAckStep c n) (sent.control-ack-fixed c n) (control-ack-stands c lens n (g .standing) dir)
+        quiet-kept c mem lens out (g .sized) (controlAckStep c n) (sent.control-ack-fixed c n) (control-ack-stands c lens n (g .standing) (sending dir))
     as-kind fit (Lacking code) is dir = refused-kept c mem lens out (g .sized) refusal.Lacking (g .standing)
 
     small : ltb (length out) (replyLength c (kindOf (f .kind))) ≡ true → Wanted

@@ -1,4 +1,4 @@
--- The hand-out of a packet: a Control packet is nothing to the protocol's data, a Data packet carries a segment that it may hand out.
+-- The hand-out of a packet: a Control packet or a Heartbeat is nothing to the protocol's data, a Data packet carries a segment that it may hand out.
 -- Assumes nothing.
 use mathlib.Core.Path.{_≡_, refl, sym, ap, _∙_, subst}
 use mathlib.Core.Bool.{Bool, true, false, not, _&&_}
@@ -19,12 +19,11 @@ use Rattle.channel.specs.Places.{slotOf}
 use Rattle.channel.specs.declared.record.Channel.{Channel}
 use Rattle.channel.specs.Record.{sends}
 use Rattle.channel.specs.Record as record-of
-use Rattle.channel.specs.Lone as lone
 use Rattle.channel.specs.Asked.{Asked}
 use Rattle.channel.proofs.SettingsLaws.{fit-is}
 use Rattle.channel.proofs.StandingLaws.{counted-is}
 use Rattle.sender.specs.Directives.{placeAt}
-use Rattle.sender_packets.specs.HandingOut.{againIn, againAt, ready, againOut, newOut, segmentFor, nextOut}
+use Rattle.sender_packets.specs.HandingOut.{againIn, againAt, ready, singleOut, againOut, newOut, segmentFor, nextOut}
 use Rattle.sender_packets.proofs.HandLaws.{ready-as, ready-open, ready-1-is, ready-2-is}
 use Rattle.protocol.specs.Units.{blank}
 use Rattle.protocol.specs.Ends as ends-of
@@ -32,6 +31,7 @@ use Rattle.protocol.specs.Sending.{Sender, mayHandOut, handedOut}
 use Rattle.protocol.proofs.Small.{not-true}
 use Rattle.means.specs.Meaning.{limitsOf, carried, lying}
 use Rattle.means.proofs.Sends.{Holds, Windowed, Sends, not-fresh, state-opened}
+use Rattle.means.proofs.Pulses.{pulse-sends}
 use Rattle.means.proofs.SenderControl.{changed-sends}
 use Rattle.means.proofs.SenderPlaces.{carried-is}
 
@@ -72,10 +72,13 @@ pub record DataOut (c : Channel) (mem lens : List ℕ) (s : Sender) (rank : ℕ)
       ≡ getD (s .line) (s .start + segmentFor c rank) blank
 
 module _ (c : Channel) (mem lens : List ℕ) (s : Sender) (a : Asked c mem lens) (d : c .addresses .direction ≡ sends) (r : Sends c mem lens s) where
-  pub control-out-sends : Sends (nextOut c 0) mem lens s
+  -- an Open, a Close or a Heartbeat
+  pub single-out-sends : Sends (nextOut c 0) mem lens s
   unfolding nextOut
-  control-out-sends =
-      changed-sends c mem lens s (c .phase .reason) (c .phase .kept) (lone.handedOut (c .phase .control) (c .limits .timeout) (c .limits .retries)) (c .timers) r
+  single-out-sends =
+      let control = singleOut c .phase .control in
+      pulse-sends (record-of.withControl c control) mem lens s (singleOut c .pulse)
+      (changed-sends c mem lens s (c .phase .reason) (c .phase .kept) control (c .timers) r)
 
   module _ (o : c .phase .state ≡ record-of.opened) where
     is-open : s .phase ≡ ends-of.opened
@@ -178,7 +181,8 @@ module _ (c : Channel) (mem lens : List ℕ) (s : Sender) (a : Asked c mem lens)
             (sym (y .noted k (omega (arith, n .flight))) ∙ eq-eqb _ _ unacked);
         related = subst (λ (i : ℕ). Sends (againOut c) mem lens (nextAt s i))
             (sym (passed-by (eqb (s .start + k) (s .next)) (suc (s .start + k)) (s .next) (ne-eqb (s .start + k) (s .next) (λ q. omega (arith, y .flight)))))
-            (changed-sends c mem lens s (c .phase .reason) (c .phase .kept) (c .phase .control) (againOut c .timers) r);
+            (pulse-sends (record-of.withTimers c (againOut c .timers)) mem lens s (againOut c .pulse)
+            (changed-sends c mem lens s (c .phase .reason) (c .phase .kept) (c .phase .control) (againOut c .timers) r));
         segment = carried-is c mem lens (s .line) (s .oldest) (s .start) (s .next) (s .acked) a x y k (omega (arith, n .flight));
       }
 

@@ -23,3 +23,8 @@ pub mod ReceiverData
 pub mod Near
 pub mod Taking
 pub mod ReceiverHeld
+-- What means nothing in the protocol, at either end: the pulse.
+pub mod Pulses
+-- The units that a record holds stay as they are.
+pub mod UnitsStay
+pub mod PulseMoves

@@ -13,14 +13,18 @@ use lib.ListN.{getD, replicate, length-replicate}
 use Rattle.slots.specs.Ring.{roundOf}
 use Rattle.channel.specs.declared.record.Channel.{Channel}
 use Rattle.channel.specs.declared.record.Timers.{Timers}
+use Rattle.channel.specs.declared.record.Pulse.{Pulse}
+use Rattle.channel.specs.declared.pulse.Beaten.{Beaten}
 use Rattle.channel.specs.declared.step.Stepped.{Stepped}
+use Rattle.channel.specs.declared.step.Ticked.{Ticked}
 use Rattle.channel.specs.Record as record-of
-use Rattle.channel.specs.Record.{receives, heldIn, noLone, withState, withTimers, lateOpen, controlNumber}
+use Rattle.channel.specs.Record.{receives, heldIn, noLone, withState, withPulse, withTimers, lateOpen, controlNumber, unanswered}
+use Rattle.channel.specs.Pulse.{startedPulse, beaten}
 use Rattle.channel.specs.Steps.{enabledOf}
 use Rattle.channel.specs.Standing.{oldestOf}
 use Rattle.channel.specs.Answers.{numberOf}
 use Rattle.channel.specs.Asked.{Asked}
-use Rattle.receiver.specs.Receiving.{leaving, shutFor, withClosing, openStep, controlStep, tickStep}
+use Rattle.receiver.specs.Receiving.{leaving, shutFor, withClosing, openStep, controlStep, closeTick, beatTick, tickStep}
 use Rattle.receiver.proofs.StepLaws as law
 use Rattle.ends.proofs.Receivers.{receives-is}
 use Rattle.protocol.specs.Numbers.{numberAt}
@@ -31,6 +35,7 @@ use Rattle.protocol.proofs.Small.{none-some}
 use Rattle.means.specs.Meaning.{stateOf}
 use Rattle.means.proofs.Lying.{lying-none}
 use Rattle.means.proofs.Receives.{Within, Whole, Receives}
+use Rattle.means.proofs.Pulses.{pulse-receives}
 use Rattle.means.proofs.Leaving.{Turned, receives-whole, left, shut-left, after-state, within-state}
 
 -- from c to k the record makes a move to a phase, where it is a later one, and else none; never out of the phase before the Open directive
@@ -155,16 +160,17 @@ module _ (c : Channel) (mem lens : List ℕ) (r : Receiver) (asked : Asked c mem
         after = λ p. left c mem lens (r .oldest) (r .passed) ring (whole was) record-of.closing ticks;
       })
 
-  opens-now : r .phase ≡ enabled → Moves c (withState c record-of.opened) mem lens r
+  opens-now : r .phase ≡ enabled → Moves c (withPulse (withState c record-of.opened) (startedPulse (c .limits))) mem lens r
   opens-now e =
       let was : rank (r .phase) ≡ 1 = ap rank e in
-      moves (withState c record-of.opened) opened (omega arith) (omega arith)
+      moves (withPulse (withState c record-of.opened) (startedPulse (c .limits))) opened (omega arith) (omega arith)
+      (pulse-receives (withState c record-of.opened) mem lens (inPhase r opened) (startedPulse (c .limits))
       (record {
         state = refl;
         before = λ z. absurd (omega arith);
         within = λ p q. within-state c mem lens (r .oldest) (r .passed) (r .filed) record-of.opened (t .within (omega arith) (omega arith));
         after = λ p. absurd (omega arith);
-      })
+      }))
 
   -- ---- Control packets, phase by phase
 
@@ -231,8 +237,12 @@ module _ (c : Channel) (mem lens : List ℕ) (r : Receiver) (asked : Asked c mem
 
   -- ---- a tick
 
-  abbrev To : Channel → Type 0
-  To k = Moves c k mem lens r
+  abbrev To : Ticked → Type 0
+  To x = Moves c (x .channel) mem lens r
+
+  -- the pulse alone moves
+  paces : (p : Pulse) → Moves c (withPulse c p) mem lens r
+  paces p = record { phase = r .phase; related = stays (withPulse c p) mem lens r (pulse-receives c mem lens r p t); waits = λ e. e }
 
   waits-on : (timers : Timers) → r .phase ≡ closing → Moves c (withTimers c timers) mem lens r
   waits-on timers e =
@@ -250,12 +260,32 @@ module _ (c : Channel) (mem lens : List ℕ) (r : Receiver) (asked : Asked c mem
         waits = λ z. z;
       }
 
+  -- in OPEN the Heartbeat: that it got no answer makes the channel inactive
+  tick-opened : r .phase ≡ opened → To (tickStep c)
+  tick-opened e = subst To (sym (law.tick-open c (t .state ∙ ap stateOf e))) (by (b .spent) refl)
+    where
+      b : Beaten
+      b = beaten (c .limits) (c .pulse)
+
+      was : rank (r .phase) ≡ 2
+      was = ap rank e
+
+      by : (u : Bool) → b .spent ≡ u → To (beatTick c b)
+      by true z = subst To (sym (law.beat-spent c b z)) (shuts unanswered (omega (arith, was)) (omega (arith, was)))
+      by false z = subst To (sym (law.beat-falls c b z)) (paces (b .pulse))
+
+  -- elsewhere, but in CLOSING, nothing
+  tick-still : (p : Phase) → r .phase ≡ p → (stateOf p ≡ record-of.opened → ⊥) → (stateOf p ≡ record-of.closing → ⊥) → To (tickStep c)
+  tick-still p e n m =
+      let now = t .state ∙ ap stateOf e in
+      subst To (sym (law.tick-idle c (λ z. n (sym now ∙ z)) (λ z. m (sym now ∙ z)))) idle
+
   tick-by : (p : Phase) → r .phase ≡ p → To (tickStep c)
-  tick-by fresh e = subst To (sym (law.tick-idle c (λ z. omega (arith, t .state ∙ ap stateOf e)))) idle
-  tick-by enabled e = subst To (sym (law.tick-idle c (λ z. omega (arith, t .state ∙ ap stateOf e)))) idle
-  tick-by opened e = subst To (sym (law.tick-idle c (λ z. omega (arith, t .state ∙ ap stateOf e)))) idle
-  tick-by shut e = subst To (sym (law.tick-idle c (λ z. omega (arith, t .state ∙ ap stateOf e)))) idle
-  tick-by closing e = by (leb 2 (c .timers .closing)) refl
+  tick-by fresh e = tick-still fresh e (λ z. omega arith) (λ z. omega arith)
+  tick-by enabled e = tick-still enabled e (λ z. omega arith) (λ z. omega arith)
+  tick-by opened e = tick-opened e
+  tick-by shut e = tick-still shut e (λ z. omega arith) (λ z. omega arith)
+  tick-by closing e = subst To (sym (law.tick-closing c (λ z. omega (arith, now)) now)) (by (leb 2 (c .timers .closing)) refl)
     where
       now : c .phase .state ≡ record-of.closing
       now = t .state ∙ ap stateOf e
@@ -263,10 +293,11 @@ module _ (c : Channel) (mem lens : List ℕ) (r : Receiver) (asked : Asked c mem
       was : rank (r .phase) ≡ 3
       was = ap rank e
 
-      by : (b : Bool) → leb 2 (c .timers .closing) ≡ b → To (tickStep c)
-      by true z = subst To (sym (law.tick-falls c now (leb-true _ _ z))) (waits-on (withClosing (c .timers) (c .timers .closing - 1)) e)
+      by : (b : Bool) → leb 2 (c .timers .closing) ≡ b → Moves c (closeTick c) mem lens r
+      by true z =
+          subst (λ (k : Channel). Moves c k mem lens r) (sym (law.close-falls c (leb-true _ _ z))) (waits-on (withClosing (c .timers) (c .timers .closing - 1)) e)
       by false z =
-          subst To (sym (law.tick-ends c now (leb-false _ _ z)))
+          subst (λ (k : Channel). Moves c k mem lens r) (sym (law.close-ends c (leb-false _ _ z)))
           (moves (withState (withTimers c (withClosing (c .timers) 0)) record-of.closed) shut (omega (arith, was)) (omega (arith, was))
           (record {
             state = refl;
@@ -276,5 +307,5 @@ module _ (c : Channel) (mem lens : List ℕ) (r : Receiver) (asked : Asked c mem
                 after-state c mem lens (r .oldest) (r .passed) record-of.closed (withClosing (c .timers) 0) (t .after (omega (arith, was)));
           }))
 
-  pub tick-receives : Moves c (tickStep c) mem lens r
+  pub tick-receives : Moves c (tickStep c .channel) mem lens r
   tick-receives = tick-by (r .phase) refl

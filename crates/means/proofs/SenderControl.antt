@@ -2,7 +2,7 @@
 -- Assumes nothing.
 use mathlib.Core.Path.{_≡_, refl, sym, ap, _∙_, subst}
 use mathlib.Core.Bool.{Bool, true}
-use mathlib.Core.List.{List, map}
+use mathlib.Core.List.{List}
 use Prim.Native.Nat.{ℕ, _+_, _≤_, _<_}
 use native.Mathlib.Nat.{le-refl}
 use native.Mathlib.Omega.{arith}
@@ -16,15 +16,16 @@ use Rattle.channel.specs.declared.record.Timers.{Timers}
 use Rattle.channel.specs.declared.record.Channel.{Channel}
 use Rattle.channel.specs.declared.step.Stepped.{Stepped}
 use Rattle.channel.specs.Answers.{numberOf}
-use Rattle.channel.specs.Record.{sends, retriesOut, noLone, withState, withReason, withKept, withControl, withTimers}
+use Rattle.channel.specs.Record.{sends, retriesOut, unanswered, noLone, withState, withReason, withKept, withControl, withPulse, withTimers}
 use Rattle.channel.specs.Record as record-of
 use Rattle.channel.specs.Lone.{readyLone, fallen}
+use Rattle.channel.specs.Pulse.{startedPulse, beaten}
 use Rattle.channel.specs.Standing.{oldestOf}
 use Rattle.channel.specs.Steps.{enabledOf}
 use Rattle.channel.specs.Asked.{Asked}
 use Rattle.channel.proofs.StandingLaws.{counted-is}
 use Rattle.sender.specs.Directives.{parked, shutFor, openStep, closeStep}
-use Rattle.sender.specs.Ticking.{lowered, tickStep}
+use Rattle.sender.specs.Ticking.{dataFallen, tickStep}
 use Rattle.sender_acks.specs.Acks.{controlAckStep}
 use Rattle.ends.proofs.SenderCases.{open-cases, close-cases, control-ack-cases, tick-cases}
 use Rattle.ends.proofs.SenderKeeps.{back-none}
@@ -35,6 +36,7 @@ use Rattle.protocol.specs.Sending.{Sender, controlled}
 use Rattle.protocol.proofs.Small.{yes-no}
 use Rattle.means.specs.Meaning.{stateOf, lying}
 use Rattle.means.proofs.Sends.{Holds, Sends, not-fresh, state-opened, state-enabled, state-closing}
+use Rattle.means.proofs.Pulses.{pulse-sends}
 
 -- the record k after a step on c: the protocol's sender moves to a phase, or stays; before the Open directive it stays
 pub record Moves (c k : Channel) (mem lens : List ℕ) (s : Sender) : Type 0 where
@@ -130,12 +132,13 @@ module _ (c : Channel) (mem lens : List ℕ) (s : Sender) (a : Asked c mem lens)
   is-closing : c .phase .state ≡ record-of.closing → rank (s .phase) ≡ 3
   is-closing e = ap rank (state-closing (s .phase) (sym (r .state) ∙ e))
 
-  -- inactive
-  shuts : 1 ≤ rank (s .phase) → rank (s .phase) < 4 → (why : ℕ) → Moves c (shutFor c why) mem lens s
-  shuts h l why =
+  -- inactive, whatever the timers then are
+  shuts : 1 ≤ rank (s .phase) → rank (s .phase) < 4 → (timers : Timers) (why : ℕ) → Moves c (shutFor (withTimers c timers) why) mem lens s
+  unfolding parked
+  shuts h l timers why =
       let q = parked c record-of.closed noLone in
-      goes (shutFor c why) mem lens s c shut h l
-      (changed-sends q mem lens (inPhase s shut) why (q .phase .kept) (q .phase .control) (q .timers) (leaves shut record-of.closed noLone refl (omega arith) h))
+      goes (shutFor (withTimers c timers) why) mem lens s c shut h l
+      (changed-sends q mem lens (inPhase s shut) why (q .phase .kept) (q .phase .control) timers (leaves shut record-of.closed noLone refl (omega arith) h))
 
   -- the Open is acknowledged
   opens : s .phase ≡ enabled → Sends (withControl (withState c record-of.opened) noLone) mem lens (inPhase s opened)
@@ -200,7 +203,9 @@ module _ (c : Channel) (mem lens : List ℕ) (s : Sender) (a : Asked c mem lens)
       (leaves shut record-of.closed noLone refl (omega arith) (omega arith)))
       (λ e.
       let z : rank (s .phase) ≡ 1 = ap rank (is-enabled e) in
-      goes (withControl (withState c record-of.opened) noLone) mem lens s c opened (omega arith) (omega arith) (opens (is-enabled e)))
+      let k = withControl (withState c record-of.opened) noLone in
+      goes (withPulse k (startedPulse (c .limits))) mem lens s c opened (omega arith) (omega arith)
+      (pulse-sends k mem lens (inPhase s opened) (startedPulse (c .limits)) (opens (is-enabled e))))
       (λ e.
       let z : rank (s .phase) ≡ 1 = ap rank (is-enabled e) in
       goes (parked c record-of.closing readyLone) mem lens s c closing (omega arith) (omega arith)
@@ -208,12 +213,16 @@ module _ (c : Channel) (mem lens : List ℕ) (s : Sender) (a : Asked c mem lens)
 
   pub tick-sends : Moves c (tickStep c .channel) mem lens s
   tick-sends =
-      let timers : Timers = record { closing = c .timers .closing; left = map lowered (c .timers .left); tries = c .timers .tries } in
+      let down = dataFallen c in
+      let p = beaten (c .limits) (c .pulse) .pulse in
       tick-cases c (λ (k : Channel). Moves c k mem lens s)
-      (λ e. let z = is-opened e in shuts (omega arith) (omega arith) retriesOut)
-      (λ e. let z : rank (s .phase) ≡ 1 = ap rank (is-enabled e) in shuts (omega arith) (omega arith) retriesOut)
-      (λ e. let z = is-closing e in shuts (omega arith) (omega arith) retriesOut)
-      (stays (withTimers c timers) mem lens s c (changed-sends c mem lens s (c .phase .reason) (c .phase .kept) (c .phase .control) timers r))
+      (λ e. let z = is-opened e in shuts (omega arith) (omega arith) (c .timers) retriesOut)
+      (λ e. let z : rank (s .phase) ≡ 1 = ap rank (is-enabled e) in shuts (omega arith) (omega arith) (c .timers) retriesOut)
+      (λ e. let z = is-closing e in shuts (omega arith) (omega arith) (c .timers) retriesOut)
+      (λ e. let z = is-opened e in shuts (omega arith) (omega arith) (down .timers) unanswered)
+      (λ e.
+      stays (withPulse down p) mem lens s c
+      (pulse-sends down mem lens s p (changed-sends c mem lens s (c .phase .reason) (c .phase .kept) (c .phase .control) (down .timers) r)))
       (λ left.
       stays (withControl c (fallen (c .phase .control) .lone)) mem lens s c
       (changed-sends c mem lens s (c .phase .reason) (c .phase .kept) (fallen (c .phase .control) .lone) (c .timers) r))

@@ -4,13 +4,15 @@ use mathlib.Core.Bool.{Bool, true, false}
 use lib.Dec.{eqb}
 use Rattle.laws.specs.Choice.{if_then_else_}
 use Rattle.packet.specs.declared.kinds.Kind.{Kind}
-use Rattle.packet.specs.declared.kinds.Kind.the-variants.{Data, DataAck, Open, Close, ControlAck, Lacking}
+use Rattle.packet.specs.declared.kinds.Kind.the-variants.{Data, DataAck, Open, Close, Heartbeat, HeartbeatAck, ControlAck, Lacking}
 
 abbrev pub codeOf : Kind → ℕ
 codeOf Data = 0
 codeOf DataAck = 1
 codeOf Open = 2
 codeOf Close = 3
+codeOf Heartbeat = 4
+codeOf HeartbeatAck = 5
 codeOf ControlAck = 7
 codeOf (Lacking code) = code
 
@@ -20,6 +22,8 @@ kindOf code =
     else if eqb code (codeOf DataAck) then DataAck
     else if eqb code (codeOf Open) then Open
     else if eqb code (codeOf Close) then Close
+    else if eqb code (codeOf Heartbeat) then Heartbeat
+    else if eqb code (codeOf HeartbeatAck) then HeartbeatAck
     else if eqb code (codeOf ControlAck) then ControlAck
     else Lacking code
 
@@ -28,14 +32,18 @@ isData Data = true
 isData DataAck = false
 isData Open = false
 isData Close = false
+isData Heartbeat = false
+isData HeartbeatAck = false
 isData ControlAck = false
 isData (Lacking code) = false
 
--- the base has it: not Heartbeat, its Ack, Flow Control
+-- it is carried: all but Flow Control, which document 01 leaves out (document 02, A2: Heartbeat and its Ack are)
 abbrev pub carried : Kind → Bool
 carried Data = true
 carried DataAck = true
 carried Open = true
 carried Close = true
+carried Heartbeat = true
+carried HeartbeatAck = true
 carried ControlAck = true
 carried (Lacking code) = false

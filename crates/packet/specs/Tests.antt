@@ -30,7 +30,7 @@ short s = ltb (length s) least || not (eqb (length s) (wholeLength (prefixAt s) 
 unfoldable pub damaged : List ℕ → Bool
 damaged s = not (eqb (crcOf (take (length s - 2) s)) (pairAt s (length s - 2)))
 
--- ---- 4: a secondary header, a prefix of n octets where four bits cannot count them, or a type that the base lacks. No packet that is read
+-- ---- 4: a secondary header, a prefix of n octets where four bits cannot count them, or a type that is not carried. No packet that is read
 -- has such a prefix: it is for a writer (document 02, A7)
 
 unfoldable pub lacking : Fields → ℕ → Bool

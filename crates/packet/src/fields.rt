@@ -44,7 +44,7 @@ pub const WHOLE: u8 = 3;
 // The version of the protocol (000, 4.2.3.4.2).
 pub const VERSION: u8 = 1;
 
-// A secondary header, a prefix of more octets than can be counted, or a type that the base lacks.
+// A secondary header, a prefix of more octets than can be counted, or a type that is not carried.
 pub fn is_lacking(f: Fields, prefix: usize) -> bool
     ensures { λ r. ⌜ r ≡ lacking f prefix ⌝ }
 {
@@ -74,7 +74,7 @@ pub fn is_strange(f: Fields, length: usize) -> bool
     !allows_payload(kind, f.flags, length)
 }
 
-// The kinds that the base has.
+// The kinds that are carried.
 fn is_carried(kind: Kind) -> bool
     ensures { λ r. ⌜ r ≡ carried kind ⌝ }
 {
@@ -83,6 +83,8 @@ fn is_carried(kind: Kind) -> bool
         Kind::DataAck => true,
         Kind::Open => true,
         Kind::Close => true,
+        Kind::Heartbeat => true,
+        Kind::HeartbeatAck => true,
         Kind::ControlAck => true,
         Kind::Lacking(_) => false,
     }

@@ -7,8 +7,10 @@ pub enum Kind {
     DataAck,
     Open,
     Close,
+    Heartbeat,
+    HeartbeatAck,
     ControlAck,
-    // A type that the base lacks, by its code: Heartbeat and its Ack, Flow Control, or no type at all.
+    // A type that is not carried, by its code: Flow Control, or no type at all.
     Lacking(u8),
 }
 
@@ -20,6 +22,10 @@ const OPEN: u8 = 2;
 
 const CLOSE: u8 = 3;
 
+const HEARTBEAT: u8 = 4;
+
+const HEARTBEAT_ACK: u8 = 5;
+
 const CONTROL_ACK: u8 = 7;
 
 pub fn code_of(kind: Kind) -> u8
@@ -30,6 +36,8 @@ pub fn code_of(kind: Kind) -> u8
         Kind::DataAck => DATA_ACK,
         Kind::Open => OPEN,
         Kind::Close => CLOSE,
+        Kind::Heartbeat => HEARTBEAT,
+        Kind::HeartbeatAck => HEARTBEAT_ACK,
         Kind::ControlAck => CONTROL_ACK,
         Kind::Lacking(code) => code,
     }
@@ -50,6 +58,12 @@ pub fn kind_of(code: u8) -> Kind
     if code == CLOSE {
         return Kind::Close;
     }
+    if code == HEARTBEAT {
+        return Kind::Heartbeat;
+    }
+    if code == HEARTBEAT_ACK {
+        return Kind::HeartbeatAck;
+    }
     if code == CONTROL_ACK {
         return Kind::ControlAck;
     }
@@ -64,6 +78,8 @@ pub fn is_data(kind: Kind) -> bool
         Kind::DataAck => false,
         Kind::Open => false,
         Kind::Close => false,
+        Kind::Heartbeat => false,
+        Kind::HeartbeatAck => false,
         Kind::ControlAck => false,
         Kind::Lacking(_) => false,
     }

@@ -17,13 +17,18 @@ use Rattle.channel.specs.declared.record.Node.{Node}
 use Rattle.channel.specs.declared.record.Addresses.{Addresses}
 use Rattle.channel.specs.declared.record.Channel.{Channel}
 use Rattle.channel.specs.declared.answer.Refusal.the-variants as refusal
-use Rattle.channel.specs.Record.{closed, enabled, opened, closing, lateOpen, controlNumber, noLone, heldIn, withState, withTimers}
+use Rattle.channel.specs.declared.pulse.Beaten.{Beaten}
+use Rattle.channel.specs.Record.{closed, enabled, opened, closing, lateOpen, controlNumber, unanswered, noLone, heldIn, withState, withPulse, withTimers}
 use Rattle.packet.specs.declared.kinds.Kind.{Kind}
 use Rattle.packet.specs.Kinds.{kindOf}
 use Rattle.channel.specs.Prefixes.{prefixOf, fitPrefix}
 use Rattle.channel.proofs.PrefixLaws.{prefix-short}
 use Rattle.channel.specs.Steps.{refusing, doing, repeating, failing, enabledOf, outgoingOf}
-use Rattle.receiver.specs.Receiving.{ackLength, ackKind, leaving, shutFor, withClosing, openStep, openArrives, closeArrives, controlStep, tickStep}
+use Rattle.channel.specs.Pulse.{startedPulse, beaten}
+use Rattle.laws.proofs.Choice.{chosen, passed-by}
+use Rattle.receiver.specs.declared.acks.Acked.{Acked}
+use Rattle.receiver.specs.declared.acks.Acked.the-variants as acked
+use Rattle.receiver.specs.Receiving.{ackLength, ackKind, leaving, shutFor, withClosing, openStep, openArrives, closeArrives, controlStep, closeTick, beatTick, tickStep}
 
 -- ---- the Open directive
 
@@ -42,7 +47,7 @@ module _ (c : Channel) where
 
   -- ---- an Open
 
-  pub open-opens : c .phase .state ≡ enabled → openArrives c ≡ doing (withState c opened) (ackLength (c .addresses))
+  pub open-opens : c .phase .state ≡ enabled → openArrives c ≡ doing (withPulse (withState c opened) (startedPulse (c .limits))) (ackLength (c .addresses))
   unfolding openArrives
   open-opens h = simp (eq-eqb _ _ h)
 
@@ -93,45 +98,59 @@ module _ (c : Channel) where
 
   -- ---- a tick
 
-  pub tick-idle : (c .phase .state ≡ closing → ⊥) → tickStep c ≡ c
+  pub tick-open : c .phase .state ≡ opened → tickStep c ≡ beatTick c (beaten (c .limits) (c .pulse))
   unfolding tickStep
-  tick-idle h = simp (ne-eqb _ _ h)
+  tick-open h = simp (eq-eqb _ _ h)
 
-  pub tick-falls : c .phase .state ≡ closing → 2 ≤ c .timers .closing → tickStep c ≡ withTimers c (withClosing (c .timers) (c .timers .closing - 1))
+  pub tick-closing : (c .phase .state ≡ opened → ⊥) → c .phase .state ≡ closing → tickStep c ≡ record { channel = closeTick c; inactive = false }
   unfolding tickStep
-  tick-falls h k = simp (eq-eqb _ _ h, le-leb _ _ k)
+  tick-closing h k = simp (ne-eqb _ _ h, eq-eqb _ _ k)
 
-  pub tick-ends : c .phase .state ≡ closing → c .timers .closing < 2 → tickStep c ≡ withState (withTimers c (withClosing (c .timers) 0)) closed
+  pub tick-idle : (c .phase .state ≡ opened → ⊥) → (c .phase .state ≡ closing → ⊥) → tickStep c ≡ record { channel = c; inactive = false }
   unfolding tickStep
-  tick-ends h k = simp (eq-eqb _ _ h, lt-leb _ _ k)
+  tick-idle h k = simp (ne-eqb _ _ h, ne-eqb _ _ k)
+
+  pub close-falls : 2 ≤ c .timers .closing → closeTick c ≡ withTimers c (withClosing (c .timers) (c .timers .closing - 1))
+  close-falls k = chosen _ _ _ (le-leb _ _ k)
+
+  pub close-ends : c .timers .closing < 2 → closeTick c ≡ withState (withTimers c (withClosing (c .timers) 0)) closed
+  close-ends k = passed-by _ _ _ (lt-leb _ _ k)
+
+  pub beat-spent : (b : Beaten) → b .spent ≡ true → beatTick c b ≡ record { channel = shutFor c unanswered; inactive = true }
+  beat-spent b h = chosen (b .spent) _ _ h
+
+  pub beat-falls : (b : Beaten) → b .spent ≡ false → beatTick c b ≡ record { channel = withPulse c (b .pulse); inactive = false }
+  beat-falls b h = passed-by (b .spent) _ _ h
 
 -- ---- an ack: the writer never refuses its fields
 
 module _ (node : Node) (a : Addresses) (number : ℕ) (fits : fitPrefix (a .own) ≡ true) where
-  ack-base : (ofData : Bool) → lacking (outgoingOf node a (ackKind ofData) flagsWhole number) (a .own .length) ≡ false
+  ack-base : (of : Acked) → lacking (outgoingOf node a (ackKind of) flagsWhole number) (a .own .length) ≡ false
   unfolding lacking kindOf
-  ack-base true = simp (le-ltb mostPrefix (a .own .length) (prefix-short (a .own) fits))
-  ack-base false = simp (le-ltb mostPrefix (a .own .length) (prefix-short (a .own) fits))
+  ack-base acked.Data = simp (le-ltb mostPrefix (a .own .length) (prefix-short (a .own) fits))
+  ack-base acked.Control = simp (le-ltb mostPrefix (a .own .length) (prefix-short (a .own) fits))
+  ack-base acked.Heartbeat = simp (le-ltb mostPrefix (a .own .length) (prefix-short (a .own) fits))
 
-  ack-plain : (ofData : Bool) → strange (outgoingOf node a (ackKind ofData) flagsWhole number) 0 ≡ false
+  ack-plain : (of : Acked) → strange (outgoingOf node a (ackKind of) flagsWhole number) 0 ≡ false
   unfolding strange kindOf
-  ack-plain true = refl
-  ack-plain false = refl
+  ack-plain acked.Data = refl
+  ack-plain acked.Control = refl
+  ack-plain acked.Heartbeat = refl
 
-  pub ack-written : (ofData : Bool) (kind : Kind) (f : Fields) (w : Written) (out s : List ℕ)
-      → kind ≡ ackKind ofData
+  pub ack-written : (of : Acked) (kind : Kind) (f : Fields) (w : Written) (out s : List ℕ)
+      → kind ≡ ackKind of
       → f ≡ outgoingOf node a kind flagsWhole number
       → w ≡ writtenOf f (a .own .length) 0 (length out)
       → s ≡ afterWrite w f (prefixOf (a .own)) [] out
       → ackLength a ≤ length out
-      → s ≡ packetOf (outgoingOf node a (ackKind ofData) flagsWhole number) (prefixOf (a .own)) [] ++ drop (ackLength a) out
+      → s ≡ packetOf (outgoingOf node a (ackKind of) flagsWhole number) (prefixOf (a .own)) [] ++ drop (ackLength a) out
   unfolding afterWrite
-  ack-written ofData kind f w out s ek ef ew es h =
-      let g = outgoingOf node a (ackKind ofData) flagsWhole number in
+  ack-written of kind f w out s ek ef ew es h =
+      let g = outgoingOf node a (ackKind of) flagsWhole number in
       let q = prefixOf (a .own) in
       let same : f ≡ g = ef ∙ ap (λ (x : Kind). outgoingOf node a x flagsWhole number) ek in
       let done : w ≡ written.Done (ackLength a) =
       ew
       ∙ ap (λ (x : Fields). writtenOf x (a .own .length) 0 (length out)) same
-      ∙ write-done g (a .own .length) 0 (length out) (ack-base ofData) (ack-plain ofData) h in
+      ∙ write-done g (a .own .length) 0 (length out) (ack-base of) (ack-plain of) h in
       es ∙ ap (λ (x : Written). afterWrite x f q [] out) done ∙ ap (λ (x : Fields). packetOf x q [] ++ drop (ackLength a) out) same

@@ -1,31 +1,38 @@
--- A receive end, step by step (document 01, Receiving; 000, 4.5.2 and 4.5.3.4).
+-- A receive end, step by step (document 01, Receiving; 000, 4.5.2 and 4.5.3.4; its Heartbeat: document 02, A2).
 use Prim.Native.Nat.{ℕ, _-_}
-use mathlib.Core.Bool.{Bool, not}
+use mathlib.Core.Bool.{Bool, true, false, not}
 use mathlib.Core.List.{List}
 use lib.Dec.{leb, eqb}
 use Rattle.laws.specs.Choice.{if_then_else_}
 use Rattle.slots.specs.Ring.{backOf, cleared}
 use Rattle.packet.specs.declared.kinds.Kind.{Kind}
-use Rattle.packet.specs.declared.kinds.Kind.the-variants.{DataAck, ControlAck}
+use Rattle.packet.specs.declared.kinds.Kind.the-variants.{DataAck, ControlAck, HeartbeatAck}
 use Rattle.channel.specs.declared.record.Addresses.{Addresses}
 use Rattle.channel.specs.declared.record.Limits.{Limits}
 use Rattle.channel.specs.declared.record.Window.{Window}
 use Rattle.channel.specs.declared.record.Timers.{Timers}
 use Rattle.channel.specs.declared.record.Channel.{Channel}
 use Rattle.channel.specs.declared.step.Stepped.{Stepped}
+use Rattle.channel.specs.declared.step.Ticked.{Ticked}
+use Rattle.channel.specs.declared.pulse.Beaten.{Beaten}
 use Rattle.channel.specs.declared.answer.Refusal.the-variants as refusal
-use Rattle.channel.specs.Record.{closed, enabled, opened, closing, lateOpen, controlNumber, noLone, heldIn, withState, withReason, withWindow, withTimers, withMarks}
+use Rattle.channel.specs.Record.{closed, enabled, opened, closing, lateOpen, controlNumber, unanswered, noLone, noPulse, heldIn, withState, withReason, withPulse, withWindow, withTimers, withMarks}
 use Rattle.channel.specs.Steps.{refusing, doing, repeating, failing, enabledOf, outgoingLength}
+use Rattle.channel.specs.Pulse.{startedPulse, beaten}
+use Rattle.receiver.specs.declared.acks.Acked.{Acked}
+use Rattle.receiver.specs.declared.acks.Acked.the-variants as acked
 
 -- the octets of an Ack to a channel's other end: it has no payload
 abbrev pub ackLength : Addresses → ℕ
 ackLength a = outgoingLength a 0
 
--- the kind of the Ack of a Data packet, or else of a Control packet
-abbrev pub ackKind : Bool → Kind
-ackKind ofData = if ofData then DataAck else ControlAck
+-- the kind of the Ack of a Data packet, a Control packet, or a Heartbeat
+abbrev pub ackKind : Acked → Kind
+ackKind acked.Data = DataAck
+ackKind acked.Control = ControlAck
+ackKind acked.Heartbeat = HeartbeatAck
 
--- ---- leaving OPEN: complete units stay to be taken, unfinished ones and segments past the start are dropped (house)
+-- ---- leaving OPEN: complete units stay to be taken, unfinished ones and segments past the start are dropped (house), and so is the Heartbeat
 
 abbrev pub leftWindow : Limits → Window → Window
 leftWindow l w =
@@ -48,7 +55,7 @@ withClosing t ticks = record { closing = ticks; left = t .left; tries = t .tries
 unfoldable pub leaving : Channel → ℕ → ℕ → Channel
 leaving c state ticks =
     withState
-    (withTimers (withMarks (withWindow c (leftWindow (c .limits) (c .window))) (leftMarks (c .limits) (c .window) (c .marks))) (withClosing (c .timers) ticks))
+    (withTimers (withMarks (withWindow (withPulse c noPulse) (leftWindow (c .limits) (c .window))) (leftMarks (c .limits) (c .window) (c .marks))) (withClosing (c .timers) ticks))
     state
 
 -- inactive: state CLOSED, and the record says why
@@ -69,10 +76,10 @@ closeStep c = refusing c refusal.State
 
 -- ---- Control packets
 
--- in ENABLED it leads to OPEN; in OPEN it is acknowledged while no Data was accepted, and makes the channel inactive after that
+-- in ENABLED it leads to OPEN, where the interval of the Heartbeat starts; in OPEN it is acknowledged while no Data was accepted, and makes the channel inactive after that
 unfoldable pub openArrives : Channel → Stepped
 openArrives c =
-    if eqb (c .phase .state) enabled then doing (withState c opened) (ackLength (c .addresses))
+    if eqb (c .phase .state) enabled then doing (withPulse (withState c opened) (startedPulse (c .limits))) (ackLength (c .addresses))
     else if not (eqb (c .phase .state) opened) then refusing c refusal.State
     else if eqb (c .phase .accepted) 0 then repeating c (ackLength (c .addresses))
     else failing (shutFor c lateOpen) lateOpen
@@ -92,10 +99,22 @@ controlStep c opens number =
     else if opens then openArrives c
     else closeArrives c
 
--- ---- a tick: the close timer falls, and its end leads from CLOSING to CLOSED
+-- ---- a tick
 
-unfoldable pub tickStep : Channel → Channel
-tickStep c =
-    if not (eqb (c .phase .state) closing) then c
-    else if leb 2 (c .timers .closing) then withTimers c (withClosing (c .timers) (c .timers .closing - 1))
+-- the close timer falls, and its end leads from CLOSING to CLOSED
+abbrev pub closeTick : Channel → Channel
+closeTick c =
+    if leb 2 (c .timers .closing) then withTimers c (withClosing (c .timers) (c .timers .closing - 1))
     else withState (withTimers c (withClosing (c .timers) 0)) closed
+
+-- the Heartbeat's timer and the interval; that it got no answer makes the channel inactive
+abbrev pub beatTick : Channel → Beaten → Ticked
+beatTick c b =
+    if b .spent then record { channel = shutFor c unanswered; inactive = true }
+    else record { channel = withPulse c (b .pulse); inactive = false }
+
+unfoldable pub tickStep : Channel → Ticked
+tickStep c =
+    if eqb (c .phase .state) opened then beatTick c (beaten (c .limits) (c .pulse))
+    else if eqb (c .phase .state) closing then record { channel = closeTick c; inactive = false }
+    else record { channel = c; inactive = false }

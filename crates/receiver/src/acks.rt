@@ -1,4 +1,4 @@
-// Acks, the only packets that a receive end sends.
+// Acks: what an end replies. A transmit end has one of them, that of a Heartbeat.
 use channel::Addresses;
 use channel::Node;
 use channel::step::outgoing;
@@ -16,21 +16,28 @@ ghost use Rattle.packet.specs.Layout.{packetOf};
 ghost use Rattle.packet.specs.Tests.{flagsWhole};
 ghost use Rattle.receiver.specs.Receiving.{ackLength, ackKind};
 
-fn ack_kind(of_data: bool) -> Kind
-    ensures { λ r. ⌜ r ≡ ackKind of_data ⌝ }
+// What is acknowledged.
+pub enum Acked {
+    Data,
+    Control,
+    Heartbeat,
+}
+
+fn ack_kind(of: Acked) -> Kind
+    ensures { λ r. ⌜ r ≡ ackKind of ⌝ }
 {
-    if of_data {
-        Kind::DataAck
-    } else {
-        Kind::ControlAck
+    match of {
+        Acked::Data => Kind::DataAck,
+        Acked::Control => Kind::ControlAck,
+        Acked::Heartbeat => Kind::HeartbeatAck,
     }
 }
 
-// The ack of a Data packet, or else of a Control packet, with its number, at the front of the reply. The octets past it stay.
-pub fn acknowledge(node: Node, a: Addresses, of_data: bool, number: u8, reply: &mut [u8])
+// The ack of a packet, with its number, at the front of the reply. The octets past it stay.
+pub fn acknowledge(node: Node, a: Addresses, of: Acked, number: u8, reply: &mut [u8])
     requires { ⌜ (fitPrefix (a .own) ≡ true) × (ackLength a ≤ length (now reply)) ⌝ }
-    ensures { λ _. ⌜ now (reply .exit) ≡ packetOf (outgoingOf node a (ackKind of_data) flagsWhole number) (prefixOf (a .own)) [] ++ drop (ackLength a) (now (reply .entry)) ⌝ }
+    ensures { λ _. ⌜ now (reply .exit) ≡ packetOf (outgoingOf node a (ackKind of) flagsWhole number) (prefixOf (a .own)) [] ++ drop (ackLength a) (now (reply .entry)) ⌝ }
 {
-    let fields = outgoing(node, a, ack_kind(of_data), WHOLE, number);
+    let fields = outgoing(node, a, ack_kind(of), WHOLE, number);
     write_outgoing(a, fields, &[], reply);
 }

@@ -7,6 +7,7 @@ use channel::Channel;
 use channel::Lone;
 use channel::Refusal;
 use channel::Stepped;
+use channel::pulse;
 use channel::record::CLOSED;
 use channel::record::CLOSING;
 use channel::record::CONTROL_NUMBER;
@@ -54,8 +55,10 @@ fn open_arrives(c: Channel) -> Stepped
     ensures { λ r. ⌜ r ≡ openArrives c ⌝ }
 {
     if c.phase.state == ENABLED {
+        let pulse = pulse::start(c.limits);
         let mut d = c;
         d.phase.state = OPEN;
+        d.pulse = pulse;
         return done(d, ack_length(c.addresses));
     }
     if c.phase.state != OPEN {

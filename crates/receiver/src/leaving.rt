@@ -1,8 +1,9 @@
-// A channel leaves OPEN: complete units stay to be taken (house), unfinished ones and segments past the start are dropped.
+// A channel leaves OPEN: complete units stay to be taken (house), unfinished ones and segments past the start are dropped, and so is the Heartbeat.
 use channel::Addresses;
 use channel::Answer;
 use channel::Channel;
 use channel::Stepped;
+use channel::pulse;
 use channel::record::CLOSED;
 use packet::fields::LEAST;
 use slots::ring;
@@ -28,8 +29,10 @@ pub fn leave(c: Channel, state: u8, ticks: u16) -> Channel
     let place = ring::back(slots, c.window.place, c.window.way);
     let held = c.marks;
     let marks = ring::clear(held, slots, slots - kept, place);
+    let pulse = pulse::none();
     let mut d = c;
     d.phase.state = state;
+    d.pulse = pulse;
     d.window.start = 1;
     d.window.place = place;
     d.window.behind = kept;
@@ -40,7 +43,7 @@ pub fn leave(c: Channel, state: u8, ticks: u16) -> Channel
 }
 
 // Inactive: CLOSED, and the record says why.
-fn shut(c: Channel, why: u8) -> Channel
+pub fn shut(c: Channel, why: u8) -> Channel
     requires { ⌜ Ringed (c .limits) (c .window) ⌝ }
     ensures { λ r. ⌜ r ≡ shutFor c why ⌝ }
 {

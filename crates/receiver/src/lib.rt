@@ -5,6 +5,7 @@ pub mod control;
 pub mod leaving;
 pub mod ticking;
 
+pub use acks::Acked;
 pub use acks::acknowledge;
 pub use control::close_step;
 pub use control::control_step;

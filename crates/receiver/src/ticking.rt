@@ -1,16 +1,20 @@
-// A tick: the close timer falls, and its end leads from CLOSING to CLOSED.
+// A tick: in OPEN the Heartbeat; in CLOSING the close timer falls, and its end leads to CLOSED.
+use crate::leaving::shut;
 use channel::Channel;
+use channel::Ticked;
+use channel::pulse;
 use channel::record::CLOSED;
 use channel::record::CLOSING;
+use channel::record::OPEN;
+use channel::record::UNANSWERED;
 ghost use mathlib.Core.Path.{_≡_};
-ghost use Rattle.receiver.specs.Receiving.{tickStep};
+ghost use Rattle.channel.specs.Asked.{Ringed};
+ghost use Rattle.channel.specs.Pulse.{beaten};
+ghost use Rattle.receiver.specs.Receiving.{closeTick, beatTick, tickStep};
 
-pub fn tick_step(c: Channel) -> Channel
-    ensures { λ r. ⌜ r ≡ tickStep c ⌝ }
+fn close_tick(c: Channel) -> Channel
+    ensures { λ r. ⌜ r ≡ closeTick c ⌝ }
 {
-    if c.phase.state != CLOSING {
-        return c;
-    }
     let mut d = c;
     let ticks = c.timers.closing;
     if 2 <= ticks {
@@ -21,4 +25,44 @@ pub fn tick_step(c: Channel) -> Channel
     d.timers.closing = 0;
     d.phase.state = CLOSED;
     d
+}
+
+// The Heartbeat's timer falls, and the interval. A Heartbeat that gets no answer closes the channel: what was taken in complete stays.
+fn beat_tick(c: Channel) -> Ticked
+    requires { ⌜ Ringed (c .limits) (c .window) ⌝ }
+    ensures { λ r. ⌜ r ≡ beatTick c (beaten (c .limits) (c .pulse)) ⌝ }
+{
+    let beaten = pulse::tick(c.limits, c.pulse);
+    if beaten.spent {
+        return Ticked {
+            channel: shut(c, UNANSWERED),
+            inactive: true,
+        };
+    }
+    let pulse = beaten.pulse;
+    let mut d = c;
+    d.pulse = pulse;
+    Ticked {
+        channel: d,
+        inactive: false,
+    }
+}
+
+pub fn tick_step(c: Channel) -> Ticked
+    requires { ⌜ Ringed (c .limits) (c .window) ⌝ }
+    ensures { λ r. ⌜ r ≡ tickStep c ⌝ }
+{
+    if c.phase.state == OPEN {
+        return beat_tick(c);
+    }
+    if c.phase.state == CLOSING {
+        return Ticked {
+            channel: close_tick(c),
+            inactive: false,
+        };
+    }
+    Ticked {
+        channel: c,
+        inactive: false,
+    }
 }

@@ -2,7 +2,7 @@
 -- Assumes nothing.
 use mathlib.Core.Path.{_≡_, ap}
 use mathlib.Core.Bool.{Bool, true, false, _||_}
-use mathlib.Core.List.{List, map}
+use mathlib.Core.List.{List}
 use Prim.Native.Nat.{ℕ, suc, _+_, _≤_, _<_}
 use native.Mathlib.Numerals.{add-one}
 use borrow.Author.Tests.{eq-eqb, ne-eqb}
@@ -11,12 +11,14 @@ use lib.Seq.{drop-cons}
 use Rattle.laws.proofs.Choice.{chosen, passed-by}
 use Rattle.channel.specs.declared.record.Channel.{Channel}
 use Rattle.channel.specs.declared.lone.Fallen.{Fallen}
+use Rattle.channel.specs.declared.pulse.Beaten.{Beaten}
 use Rattle.channel.specs.declared.answer.Refusal.the-variants as refusal
-use Rattle.channel.specs.Record.{closed, enabled, opened, closing, retriesOut, heldIn, withKept, withControl, withTimers}
+use Rattle.channel.specs.Record.{closed, enabled, opened, closing, retriesOut, unanswered, heldIn, withKept, withControl, withPulse}
 use Rattle.channel.specs.Steps.{refusing, doing, enabledOf}
 use Rattle.channel.specs.Lone.{readyLone, fallen}
+use Rattle.channel.specs.Pulse.{beaten}
 use Rattle.sender.specs.Directives.{parked, shutFor, openStep, closeStep}
-use Rattle.sender.specs.Ticking.{lowered, spentNow, anySpent, controlTick, dataTick, tickStep}
+use Rattle.sender.specs.Ticking.{spentNow, anySpent, controlTick, beatTick, dataFallen, dataTick, tickStep}
 
 module _ (c : Channel) where
   -- ---- directives
@@ -71,12 +73,14 @@ module _ (c : Channel) where
   data-spent h = chosen (anySpent (c .timers .left) (c .timers .tries)) _ _ h
 
   pub data-falls : anySpent (c .timers .left) (c .timers .tries) ≡ false
-      → dataTick c
-      ≡ record {
-        channel = withTimers c (record { closing = c .timers .closing; left = map lowered (c .timers .left); tries = c .timers .tries });
-        inactive = false;
-      }
+      → dataTick c ≡ beatTick (dataFallen c) (beaten (c .limits) (c .pulse))
   data-falls h = passed-by (anySpent (c .timers .left) (c .timers .tries)) _ _ h
+
+  pub beat-spent : (b : Beaten) → b .spent ≡ true → beatTick c b ≡ record { channel = shutFor c unanswered; inactive = true }
+  beat-spent b h = chosen (b .spent) _ _ h
+
+  pub beat-falls : (b : Beaten) → b .spent ≡ false → beatTick c b ≡ record { channel = withPulse c (b .pulse); inactive = false }
+  beat-falls b h = passed-by (b .spent) _ _ h
 
   pub control-spent : (f : Fallen) → f .spent ≡ true → controlTick c f ≡ record { channel = shutFor c retriesOut; inactive = true }
   control-spent f h = chosen (f .spent) _ _ h

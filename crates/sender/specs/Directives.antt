@@ -10,7 +10,7 @@ use Rattle.channel.specs.declared.record.Window.{Window}
 use Rattle.channel.specs.declared.record.Channel.{Channel}
 use Rattle.channel.specs.declared.step.Stepped.{Stepped}
 use Rattle.channel.specs.declared.answer.Refusal.the-variants as refusal
-use Rattle.channel.specs.Record.{closed, enabled, opened, closing, noLone, heldIn, withState, withReason, withKept, withControl, withWindow}
+use Rattle.channel.specs.Record.{closed, enabled, opened, closing, noLone, noPulse, heldIn, withState, withReason, withKept, withControl, withPulse, withWindow}
 use Rattle.channel.specs.Steps.{refusing, doing, enabledOf}
 use Rattle.channel.specs.Lone.{readyLone}
 use Rattle.channel.specs.Standing.{oldestOf}
@@ -19,7 +19,7 @@ use Rattle.channel.specs.Standing.{oldestOf}
 abbrev pub placeAt : Channel → ℕ → ℕ
 placeAt c i = roundOf (c .limits .slots) (c .window .place + i)
 
--- ---- leaving OPEN never discards an unconfirmed unit (house): the window is brought back to the oldest segment held
+-- ---- leaving OPEN never discards an unconfirmed unit (house): the window is brought back to the oldest segment held; no Heartbeat is left
 
 abbrev pub parkedWindow : Limits → Window → Window
 parkedWindow l w =
@@ -27,7 +27,7 @@ parkedWindow l w =
 
 unfoldable pub parked : Channel → ℕ → Lone → Channel
 parked c state control =
-    withKept (withControl (withWindow (withState c state) (parkedWindow (c .limits) (c .window))) control) 0
+    withKept (withControl (withWindow (withPulse (withState c state) noPulse) (parkedWindow (c .limits) (c .window))) control) 0
 
 -- inactive: state CLOSED, and the record says why
 abbrev pub shutFor : Channel → ℕ → Channel

@@ -4,6 +4,7 @@ use channel::Lone;
 use channel::Refusal;
 use channel::Stepped;
 use channel::Window;
+use channel::pulse;
 use channel::record::CLOSED;
 use channel::record::CLOSING;
 use channel::record::ENABLED;
@@ -40,7 +41,7 @@ pub fn none() -> Lone
 }
 
 // The channel leaves OPEN, or goes on from a state in which it sends no Data. No unconfirmed unit is discarded (house): what is held
-// begins again at the oldest segment, also those that were acknowledged, and no segment is in flight.
+// begins again at the oldest segment, also those that were acknowledged, no segment is in flight, and no Heartbeat is made or awaited.
 pub fn park(c: Channel, state: u8, control: Lone) -> Channel
     requires { ⌜ Ringed (c .limits) (c .window) ⌝ }
     ensures { λ r. ⌜ r ≡ parked c state control ⌝ }
@@ -59,8 +60,10 @@ pub fn park(c: Channel, state: u8, control: Lone) -> Channel
     phase.state = state;
     phase.control = control;
     phase.kept = 0;
+    let pulse = pulse::none();
     let mut d = c;
     d.phase = phase;
+    d.pulse = pulse;
     d.window = window;
     d
 }

@@ -1,23 +1,21 @@
 // A tick at a transmit end, and how a timer falls.
 use crate::directives::shut;
 use channel::Channel;
+use channel::Ticked;
 use channel::Timers;
 use channel::lone::fall;
+use channel::pulse;
 use channel::record::CLOSING;
 use channel::record::ENABLED;
 use channel::record::OPEN;
 use channel::record::RETRIES;
+use channel::record::UNANSWERED;
 ghost use mathlib.Core.Path.{_≡_};
-ghost use Rattle.sender.specs.Ticking.{lowered, spentNow, anySpent, controlTick, dataTick, tickStep};
+ghost use Rattle.sender.specs.Ticking.{lowered, spentNow, anySpent, controlTick, beatTick, dataTick, tickStep};
 ghost use mathlib.Core.List.{map};
 ghost use Rattle.channel.specs.Lone.{fallen};
+ghost use Rattle.channel.specs.Pulse.{beaten};
 ghost use Rattle.channel.specs.Asked.{Ringed};
-
-// The channel after a tick, and whether it went inactive in it.
-pub struct Ticked {
-    pub channel: Channel,
-    pub inactive: bool,
-}
 
 // A timer that runs falls by one; 0 is one that does not run.
 pub fn lower(x: u16) -> u16
@@ -61,7 +59,28 @@ fn any_spent(left: [u16; 128], tries: [u16; 128]) -> bool
     false
 }
 
-// In OPEN the segments' timers fall. A timer that reaches 0 makes its segment ready again, for a segment in flight that is not
+// The Heartbeat's timer falls, and the interval. A Heartbeat that gets no answer closes the channel, as a segment does, with a reason of its own.
+fn beat_tick(c: Channel) -> Ticked
+    requires { ⌜ Ringed (c .limits) (c .window) ⌝ }
+    ensures { λ r. ⌜ r ≡ beatTick c (beaten (c .limits) (c .pulse)) ⌝ }
+{
+    let beaten = pulse::tick(c.limits, c.pulse);
+    if beaten.spent {
+        return Ticked {
+            channel: shut(c, UNANSWERED),
+            inactive: true,
+        };
+    }
+    let pulse = beaten.pulse;
+    let mut d = c;
+    d.pulse = pulse;
+    Ticked {
+        channel: d,
+        inactive: false,
+    }
+}
+
+// In OPEN the segments' timers fall, and then the Heartbeat's. A timer that reaches 0 makes its segment ready again, for a segment in flight that is not
 // acknowledged and whose timer does not run is to be resent.
 fn data_tick(c: Channel) -> Ticked
     requires { ⌜ Ringed (c .limits) (c .window) ⌝ }
@@ -83,10 +102,7 @@ fn data_tick(c: Channel) -> Ticked
     };
     let mut d = c;
     d.timers = timers;
-    Ticked {
-        channel: d,
-        inactive: false,
-    }
+    beat_tick(d)
 }
 
 // In ENABLED and CLOSING the control packet's timer falls.

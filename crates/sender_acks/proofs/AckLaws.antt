@@ -16,7 +16,8 @@ use Rattle.channel.specs.declared.record.Channel.{Channel}
 use Rattle.channel.specs.declared.step.Stepped.{Stepped}
 use Rattle.channel.specs.declared.answer.Answer.the-variants.{Done}
 use Rattle.channel.specs.declared.answer.Refusal.the-variants as refusal
-use Rattle.channel.specs.Record.{closed, enabled, opened, closing, noLone, withState, withControl, withWindow, withMarks}
+use Rattle.channel.specs.Record.{closed, enabled, opened, closing, noLone, withState, withControl, withPulse, withWindow, withMarks}
+use Rattle.channel.specs.Pulse.{startedPulse}
 use Rattle.channel.specs.Standing.{oldestOf}
 use Rattle.channel.specs.Steps.{refusing, doing}
 use Rattle.channel.specs.Lone.{readyLone, isOut}
@@ -32,7 +33,7 @@ module _ (c : Channel) where
   pub acked-kept : (c .phase .state ≡ closing → ⊥) → (c .phase .kept ≡ 0 → ⊥) → controlAcked c ≡ parked c closing readyLone
   acked-kept h k = simp (ne-eqb _ _ h, ne-eqb _ _ k)
 
-  pub acked-open : (c .phase .state ≡ closing → ⊥) → c .phase .kept ≡ 0 → controlAcked c ≡ withControl (withState c opened) noLone
+  pub acked-open : (c .phase .state ≡ closing → ⊥) → c .phase .kept ≡ 0 → controlAcked c ≡ withPulse (withControl (withState c opened) noLone) (startedPulse (c .limits))
   acked-open h k = simp (ne-eqb _ _ h, eq-eqb _ _ k)
 
   pub freed-none : (done : ℕ) → done ≡ 0 → freedMarks c done ≡ c .marks

@@ -12,19 +12,20 @@ use Rattle.channel.specs.declared.record.Channel.{Channel}
 use Rattle.channel.specs.declared.step.Stepped.{Stepped}
 use Rattle.channel.specs.declared.answer.Answer.the-variants.{Done}
 use Rattle.channel.specs.declared.answer.Refusal.the-variants as refusal
-use Rattle.channel.specs.Record.{closed, enabled, opened, closing, noLone, withState, withControl, withWindow, withTimers, withMarks, withAcked}
+use Rattle.channel.specs.Record.{closed, enabled, opened, closing, noLone, withState, withControl, withPulse, withWindow, withTimers, withMarks, withAcked}
 use Rattle.channel.specs.Steps.{refusing, doing}
 use Rattle.channel.specs.Lone.{readyLone, isOut}
+use Rattle.channel.specs.Pulse.{startedPulse}
 use Rattle.channel.specs.Standing.{oldestOf}
 use Rattle.sender.specs.Directives.{placeAt, parked}
 
 -- ---- Control Acks belong to ENABLED and CLOSING: numbered 0 and after the packet was handed out, else ignored
 
--- to OPEN, or with a Close kept to CLOSING at once; from CLOSING to CLOSED
+-- to OPEN, where the interval of the Heartbeat starts, or with a Close kept to CLOSING at once; from CLOSING to CLOSED
 abbrev pub controlAcked : Channel → Channel
 controlAcked c =
     if eqb (c .phase .state) closing then parked c closed noLone
-    else if eqb (c .phase .kept) 0 then withControl (withState c opened) noLone
+    else if eqb (c .phase .kept) 0 then withPulse (withControl (withState c opened) noLone) (startedPulse (c .limits))
     else parked c closing readyLone
 
 unfoldable pub controlAckStep : Channel → ℕ → Stepped

@@ -6,6 +6,7 @@ use channel::Stepped;
 use channel::Timers;
 use channel::Window;
 use channel::lone::is_out;
+use channel::pulse;
 use channel::record::CLOSED;
 use channel::record::CLOSING;
 use channel::record::ENABLED;
@@ -25,7 +26,8 @@ ghost use Rattle.channel.specs.Asked.{Ringed};
 ghost use Rattle.sender.specs.Directives.{placeAt};
 ghost use Rattle.sender_acks.specs.Acks.{controlAcked, controlAckStep, isAwaited, recorded, runAt, movedWindow, freedMarks, advanced, dataAckStep};
 
-// The control packet is acknowledged: to OPEN, or with a Close kept to CLOSING at once; from CLOSING to CLOSED.
+// The control packet is acknowledged: to OPEN, where the interval of the Heartbeat starts, or with a Close kept to CLOSING at once; from CLOSING to
+// CLOSED.
 fn control_acked(c: Channel) -> Channel
     requires { ⌜ Ringed (c .limits) (c .window) ⌝ }
     ensures { λ r. ⌜ r ≡ controlAcked c ⌝ }
@@ -37,11 +39,13 @@ fn control_acked(c: Channel) -> Channel
         return park(c, CLOSING, ready());
     }
     let control = none();
+    let pulse = pulse::start(c.limits);
     let mut phase = c.phase;
     phase.state = OPEN;
     phase.control = control;
     let mut d = c;
     d.phase = phase;
+    d.pulse = pulse;
     d
 }
 

@@ -15,7 +15,7 @@ use Rattle.slots.specs.Ring.{roundOf}
 use Rattle.slots.specs.Slots.{segmentIn}
 use Rattle.channel.specs.Places.{slotOf}
 use Rattle.packet.specs.declared.fields.Fields.{Fields}
-use Rattle.packet.specs.declared.kinds.Kind.the-variants.{Data, Open, Close}
+use Rattle.packet.specs.declared.kinds.Kind.the-variants.{Data, Open, Close, Heartbeat}
 use Rattle.packet.specs.declared.writing.Written.the-variants as written
 use Rattle.packet.specs.Kinds.{kindOf}
 use Rattle.packet.specs.Layout.{mostPrefix}
@@ -30,9 +30,10 @@ use Rattle.channel.specs.Record.{enabled, opened, closing}
 use Rattle.channel.specs.Prefixes.{prefixOf, fitPrefix}
 use Rattle.channel.proofs.PrefixLaws.{prefix-short}
 use Rattle.channel.specs.Steps.{refusing, doing, outgoingOf, outgoingLength}
+use Rattle.channel.specs.Lone.{isReady}
 use Rattle.sender_packets.specs.Asked.{Plain}
 use Rattle.sender.specs.Directives.{placeAt}
-use Rattle.sender_packets.specs.HandingOut.{againIn, againAt, readyControl, readyAgain, nextInWindow, readyNew, ready, ranksOf, controlFields, controlOut, againOut, newOut, dataFields, nextFields, nextPayload, nextOut, sentStep, sentOut, handStep, handOut}
+use Rattle.sender_packets.specs.HandingOut.{againIn, againAt, readyControl, readyBeat, readySingle, readyAgain, nextInWindow, readyNew, ready, ranksOf, singleKind, singleFields, singleOut, againOut, newOut, dataFields, nextFields, nextPayload, nextOut, sentStep, sentOut, handStep, handOut}
 
 -- the control packet is looked at in ENABLED and CLOSING
 module _ (state : ℕ) (b : Bool) where
@@ -54,7 +55,7 @@ module _ (c : Channel) where
   -- ranks 1 and 2 are of OPEN
   pub ready-open : (r : ℕ) → ready r c ≡ true → (r ≡ 0 → ⊥) → c .phase .state ≡ opened
   unfolding ready
-  ready-open r e z = go (eqb r 1) (eqb r 2) (sym (passed-by (eqb r 0) (readyControl c) _ (ne-eqb r 0 z)) ∙ e)
+  ready-open r e z = go (eqb r 1) (eqb r 2) (sym (passed-by (eqb r 0) (readySingle c) _ (ne-eqb r 0 z)) ∙ e)
     where
       go : (x y : Bool) → (if x then readyAgain c else if y then readyNew c else false) ≡ true → c .phase .state ≡ opened
       go true y e = eqb-true _ _ (both (eqb (c .phase .state) opened) _ e .0)
@@ -71,6 +72,11 @@ module _ (c : Channel) where
       let q = both _ _ (both (eqb (c .phase .state) opened) (nextInWindow (c .limits) (c .window)) e .1) in
       (ltb-true _ _ (q .0), ltb-true _ _ (q .1))
 
+  -- a Heartbeat that is ready is of rank 0
+  pub ready-beat : readyBeat c ≡ true → ready 0 c ≡ true
+  unfolding ready
+  ready-beat e = let q = both (eqb (c .phase .state) opened) _ e in simp (q .0) (q .1)
+
   -- ---- the ranks together: outside OPEN Control alone may be ready
 
   pub ranks-closed : (c .phase .state ≡ opened → ⊥) → ranksOf c ≡ record { control = readyControl c; again = false; fresh = false }
@@ -78,7 +84,7 @@ module _ (c : Channel) where
   ranks-closed k = simp (ne-eqb (c .phase .state) opened k)
 
   pub ranks-open : c .phase .state ≡ opened
-      → ranksOf c ≡ record { control = readyControl c; again = ltb (againAt c) (c .window .flight); fresh = nextInWindow (c .limits) (c .window) }
+      → ranksOf c ≡ record { control = isReady (c .pulse .beat); again = ltb (againAt c) (c .window .flight); fresh = nextInWindow (c .limits) (c .window) }
   unfolding ready
   ranks-open k = simp (eq-eqb (c .phase .state) opened k)
 
@@ -132,6 +138,14 @@ module _ (node : Node) (a : Addresses) (fits : fitPrefix (a .own) ≡ true) wher
   unfolding lacking kindOf
   close-base = simp (few)
 
+  beat-base : lacking (outgoingOf node a Heartbeat flagsWhole 0) (a .own .length) ≡ false
+  unfolding lacking kindOf
+  beat-base = simp (few)
+
+  beat-plain : strange (outgoingOf node a Heartbeat flagsWhole 0) 0 ≡ false
+  unfolding strange kindOf
+  beat-plain = refl
+
   open-plain : strange (outgoingOf node a Open flagsWhole 0) 0 ≡ false
   unfolding strange kindOf
   open-plain = refl
@@ -140,12 +154,13 @@ module _ (node : Node) (a : Addresses) (fits : fitPrefix (a .own) ≡ true) wher
   unfolding strange kindOf
   close-plain = refl
 
-  pub control-plain : (state : ℕ) → Plain a (outgoingOf node a (if eqb state enabled then Open else Close) flagsWhole 0) 0
-  control-plain state = go (eqb state enabled)
+  pub single-plain : (state : ℕ) → Plain a (outgoingOf node a (singleKind state) flagsWhole 0) 0
+  single-plain state = go (eqb state enabled) (eqb state opened)
     where
-      go : (t : Bool) → Plain a (outgoingOf node a (if t then Open else Close) flagsWhole 0) 0
-      go true = record { fits = fits; base = open-base; plain = open-plain; short = omega arith }
-      go false = record { fits = fits; base = close-base; plain = close-plain; short = omega arith }
+      go : (t u : Bool) → Plain a (outgoingOf node a (if t then Open else if u then Heartbeat else Close) flagsWhole 0) 0
+      go true u = record { fits = fits; base = open-base; plain = open-plain; short = omega arith }
+      go false true = record { fits = fits; base = beat-base; plain = beat-plain; short = omega arith }
+      go false false = record { fits = fits; base = close-base; plain = close-plain; short = omega arith }
 
   module _ (flags number x : ℕ) where
     data-base : lacking (outgoingOf node a Data flags number) (a .own .length) ≡ false
@@ -166,9 +181,9 @@ module _ (node : Node) (a : Addresses) (fits : fitPrefix (a .own) ≡ true) wher
 -- ---- the hand-out of each rank
 
 module _ (node : Node) (c : Channel) (lens mem out : List ℕ) where
-  pub hand-control : handStep c lens 0 (length out) ≡ sentStep c (controlOut c) 0 (length out)
+  pub hand-single : handStep c lens 0 (length out) ≡ sentStep c (singleOut c) 0 (length out)
   unfolding handStep nextOut
-  hand-control = refl
+  hand-single = refl
 
   pub hand-again : handStep c lens 1 (length out) ≡ sentStep c (againOut c) (getD lens (slotOf c (placeAt c (againAt c))) 0) (length out)
   unfolding handStep nextOut
@@ -178,9 +193,9 @@ module _ (node : Node) (c : Channel) (lens mem out : List ℕ) where
   unfolding handStep nextOut
   hand-new = refl
 
-  pub out-control : handOut node c lens mem 0 out ≡ sentOut (c .addresses) (controlFields node c) [] out
+  pub out-single : handOut node c lens mem 0 out ≡ sentOut (c .addresses) (singleFields node c) [] out
   unfolding handOut nextFields nextPayload
-  out-control = refl
+  out-single = refl
 
   -- the buffer, where the segment in the slot has the slot's length
   sized-out : (f : Fields) (p : List ℕ) (x : ℕ) → length p ≡ x

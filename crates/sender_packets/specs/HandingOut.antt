@@ -1,5 +1,5 @@
 -- Of which ranks a packet of a channel is ready, and the hand-out of that of a rank (document 01, Sending: Control, resent Data, new Data; within a
--- channel the lowest segment).
+-- channel the lowest segment; document 02, A2: a Heartbeat ranks with Control).
 use Prim.Native.Nat.{ℕ, zero, suc, _+_, _-_, _%_}
 use mathlib.Core.Bool.{Bool, false, _&&_, _||_}
 use mathlib.Core.List.{List, []}
@@ -10,7 +10,8 @@ use Rattle.slots.specs.Ring.{roundOf}
 use Rattle.slots.specs.Slots.{segmentIn}
 use Rattle.channel.specs.Places.{slotOf}
 use Rattle.packet.specs.declared.fields.Fields.{Fields}
-use Rattle.packet.specs.declared.kinds.Kind.the-variants.{Data, Open, Close}
+use Rattle.packet.specs.declared.kinds.Kind.{Kind}
+use Rattle.packet.specs.declared.kinds.Kind.the-variants.{Data, Open, Close, Heartbeat}
 use Rattle.packet.specs.declared.writing.Written.the-variants as written
 use Rattle.packet.specs.Tests.{flagsWhole}
 use Rattle.packet.specs.Writing.{afterWrite}
@@ -21,14 +22,16 @@ use Rattle.channel.specs.declared.record.Window.{Window}
 use Rattle.channel.specs.declared.record.Channel.{Channel}
 use Rattle.channel.specs.declared.step.Stepped.{Stepped}
 use Rattle.channel.specs.declared.answer.Refusal.the-variants as refusal
-use Rattle.channel.specs.Record.{enabled, opened, closing, withControl, withWindow, withTimers, withAcked}
+use Rattle.channel.specs.Record.{enabled, opened, closing, withControl, withPulse, withWindow, withTimers, withAcked}
 use Rattle.channel.specs.Prefixes.{prefixOf}
 use Rattle.channel.specs.Steps.{refusing, doing, outgoingOf, outgoingLength}
 use Rattle.channel.specs.Lone.{isReady, handedOut}
+use Rattle.channel.specs.Pulse.{afterSending}
+use Rattle.channel.specs.declared.record.Lone.{Lone}
 use Rattle.sender.specs.Directives.{placeAt}
 use Rattle.sender_packets.specs.declared.handing.Ranks.{Ranks}
 
--- ---- ready packets, by rank: 0 Control, 1 resent Data, 2 new Data
+-- ---- ready packets, by rank: 0 Control or the Heartbeat, 1 resent Data, 2 new Data
 
 -- of n segments from a place on, how many there are before the first that is not acknowledged and whose timer has ended; n if none is so
 unfoldable pub againIn : List ℕ → List ℕ → ℕ → ℕ → ℕ → ℕ
@@ -45,6 +48,14 @@ againAt c = againIn (c .acked) (c .timers .left) (c .limits .slots) (c .window .
 abbrev pub readyControl : Channel → Bool
 readyControl c = (eqb (c .phase .state) enabled || eqb (c .phase .state) closing) && isReady (c .phase .control)
 
+-- the Heartbeat in OPEN
+abbrev pub readyBeat : Channel → Bool
+readyBeat c = eqb (c .phase .state) opened && isReady (c .pulse .beat)
+
+-- of these two a channel has one at a time
+abbrev pub readySingle : Channel → Bool
+readySingle c = if eqb (c .phase .state) opened then isReady (c .pulse .beat) else readyControl c
+
 abbrev pub readyAgain : Channel → Bool
 readyAgain c = eqb (c .phase .state) opened && ltb (againAt c) (c .window .flight)
 
@@ -58,7 +69,7 @@ readyNew c = eqb (c .phase .state) opened && nextInWindow (c .limits) (c .window
 -- a packet of this rank is ready
 unfoldable pub ready : ℕ → Channel → Bool
 ready rank c =
-    if eqb rank 0 then readyControl c
+    if eqb rank 0 then readySingle c
     else if eqb rank 1 then readyAgain c
     else if eqb rank 2 then readyNew c
     else false
@@ -69,31 +80,43 @@ ranksOf c = record { control = ready 0 c; again = ready 1 c; fresh = ready 2 c }
 
 -- ---- the hand-out of the packet of a rank
 
--- an Open in ENABLED, a Close in CLOSING, both numbered 0
-abbrev pub controlFields : Node → Channel → Fields
-controlFields node c = outgoingOf node (c .addresses) (if eqb (c .phase .state) enabled then Open else Close) flagsWhole 0
+-- an Open in ENABLED, a Heartbeat in OPEN, a Close in CLOSING, all numbered 0
+abbrev pub singleKind : ℕ → Kind
+singleKind state = if eqb state enabled then Open else if eqb state opened then Heartbeat else Close
+
+abbrev pub singleFields : Node → Channel → Fields
+singleFields node c = outgoingOf node (c .addresses) (singleKind (c .phase .state)) flagsWhole 0
 
 -- the i-th segment from the start on: its flags are its mark less 1, its number counts on from the start
 abbrev pub dataFields : Node → Channel → ℕ → Fields
 dataFields node c i =
     outgoingOf node (c .addresses) Data (getD (c .marks) (placeAt c i) 0 - 1) ((c .window .start + i) % 256)
 
--- the timer of the segment at a place starts at the timeout, and so many resends are left to it
+-- the timer of the segment at a place starts at the timeout, and so many resends are left to it; and as Data goes out, the interval of the Heartbeat
+-- starts anew
 abbrev pub timedAt : Channel → ℕ → ℕ → Channel
 timedAt c place tries =
-    withTimers c
+    afterSending
+    (withTimers c
     (record {
       closing = c .timers .closing;
       left = set (c .timers .left) place (c .limits .timeout);
       tries = set (c .timers .tries) place tries;
-    })
+    }))
 
 abbrev pub oneMore : Window → Window
 oneMore w =
     record { start = w .start; place = w .place; behind = w .behind; ahead = w .ahead; flight = w .flight + 1; way = w .way }
 
-abbrev pub controlOut : Channel → Channel
-controlOut c = withControl c (handedOut (c .phase .control) (c .limits .timeout) (c .limits .retries))
+-- its timer starts, as that of a packet that is sent alone
+abbrev pub singleOut : Channel → Channel
+singleOut c =
+    withPulse
+    (withControl c (if eqb (c .phase .state) opened then c .phase .control else out (c .phase .control)))
+    (record { left = c .pulse .left; beat = if eqb (c .phase .state) opened then out (c .pulse .beat) else c .pulse .beat })
+  where
+    out : Lone → Lone
+    out l = handedOut l (c .limits .timeout) (c .limits .retries)
 
 abbrev pub againOut : Channel → Channel
 againOut c = timedAt c (placeAt c (againAt c)) (getD (c .timers .tries) (placeAt c (againAt c)) 0 - 1)
@@ -111,7 +134,7 @@ segmentFor c rank = if eqb rank 1 then againAt c else c .window .flight
 
 -- the fields and the payload of the packet of a rank
 unfoldable pub nextFields : Node → Channel → ℕ → Fields
-nextFields node c rank = if eqb rank 0 then controlFields node c else dataFields node c (segmentFor c rank)
+nextFields node c rank = if eqb rank 0 then singleFields node c else dataFields node c (segmentFor c rank)
 
 unfoldable pub nextPayload : Channel → List ℕ → List ℕ → ℕ → List ℕ
 nextPayload c lens mem rank =
@@ -119,7 +142,7 @@ nextPayload c lens mem rank =
 
 -- the channel once it is handed out
 unfoldable pub nextOut : Channel → ℕ → Channel
-nextOut c rank = if eqb rank 0 then controlOut c else if eqb rank 1 then againOut c else newOut c
+nextOut c rank = if eqb rank 0 then singleOut c else if eqb rank 1 then againOut c else newOut c
 
 -- how many octets the packet has: only the lengths of the own prefix and of its payload count
 abbrev pub nextLength : Channel → List ℕ → ℕ → ℕ

@@ -1,9 +1,10 @@
-// Of which ranks a packet of a channel is ready (Control, resent Data, new Data), of each the lowest segment; and the hand-out of that of a rank, whole
-// or not at all.
+// Of which ranks a packet of a channel is ready (Control or the Heartbeat, resent Data, new Data), of each the lowest segment; and the hand-out of that of
+// a rank, whole or not at all.
 use channel::Channel;
 use channel::Limits;
 use channel::Lone;
 use channel::Node;
+use channel::Pulse;
 use channel::Refusal;
 use channel::Stepped;
 use channel::Timers;
@@ -11,6 +12,7 @@ use channel::Window;
 use channel::lone::hand_out;
 use channel::lone::is_ready;
 use channel::places::slot_of;
+use channel::pulse::sent;
 use channel::record::CLOSING;
 use channel::record::ENABLED;
 use channel::record::OPEN;
@@ -32,12 +34,11 @@ ghost use Rattle.channel.specs.Record.{enabled, closing};
 ghost use Rattle.channel.specs.Prefixes.{fitPrefix};
 ghost use Rattle.channel.specs.Lone.{isReady};
 ghost use Rattle.channel.specs.Asked.{Ringed, Asked};
-ghost use Rattle.sender_packets.specs.HandingOut.{againIn, againAt, nextInWindow, ranksOf, timedAt, controlOut, againOut, newOut, controlFields, dataFields, sentStep, sentOut, handStep, handOut};
+ghost use Rattle.sender_packets.specs.HandingOut.{againIn, againAt, readyBeat, nextInWindow, ranksOf, timedAt, singleKind, singleOut, againOut, newOut, singleFields, dataFields, sentStep, sentOut, handStep, handOut};
 ghost use mathlib.Core.List.{[]};
 ghost use lib.ListN.{length, getD};
 ghost use Rattle.laws.specs.Choice.{if_then_else_};
 ghost use Rattle.slots.specs.Slots.{segmentIn};
-ghost use Rattle.packet.specs.declared.kinds.Kind.the-variants.{Open, Close};
 ghost use Rattle.channel.specs.Places.{slotOf};
 ghost use Rattle.sender.specs.Directives.{placeAt};
 ghost use Rattle.sender_packets.specs.Asked.{Ready, Plain};
@@ -93,6 +94,16 @@ fn is_control_ready(state: u8, control: Lone) -> bool
     false
 }
 
+// The Heartbeat is for OPEN, at either end.
+pub fn is_beat_ready(c: Channel) -> bool
+    ensures { λ r. ⌜ r ≡ readyBeat c ⌝ }
+{
+    if c.phase.state != OPEN {
+        return false;
+    }
+    is_ready(c.pulse.beat)
+}
+
 // Only the k numbers from the window start may be sent.
 fn is_new_ready(l: Limits, w: Window) -> bool
     ensures { λ r. ⌜ r ≡ nextInWindow l w ⌝ }
@@ -103,7 +114,7 @@ fn is_new_ready(l: Limits, w: Window) -> bool
     w.flight < l.window
 }
 
-// Of which ranks a packet is ready: Control, resent Data, new Data.
+// Of which ranks a packet is ready: Control or the Heartbeat, resent Data, new Data.
 pub struct Ranks {
     pub control: bool,
     pub again: bool,
@@ -113,10 +124,9 @@ pub struct Ranks {
 pub fn ranks_of(c: Channel) -> Ranks
     ensures { λ r. ⌜ r ≡ ranksOf c ⌝ }
 {
-    let control = is_control_ready(c.phase.state, c.phase.control);
     if c.phase.state != OPEN {
         return Ranks {
-            control,
+            control: is_control_ready(c.phase.state, c.phase.control),
             again: false,
             fresh: false,
         };
@@ -124,13 +134,14 @@ pub fn ranks_of(c: Channel) -> Ranks
     let again = again_at(c) < c.window.flight;
     let fresh = is_new_ready(c.limits, c.window);
     Ranks {
-        control,
+        control: is_ready(c.pulse.beat),
         again,
         fresh,
     }
 }
 
-// The channel with the timer of the segment at a place started at the timeout, and so many resends left to it.
+// The channel with the timer of the segment at a place started at the timeout, and so many resends left to it; and as Data goes out, the interval of
+// the Heartbeat starts anew.
 fn start_timer(c: Channel, place: usize, tries: u16) -> Channel
     requires { ⌜ place < 128 ⌝ }
     ensures { λ r. ⌜ r ≡ timedAt c place tries ⌝ }
@@ -144,14 +155,27 @@ fn start_timer(c: Channel, place: usize, tries: u16) -> Channel
         left,
         tries: resends,
     };
+    let pulse = sent(c.phase.state, c.limits, c.pulse);
     let mut d = c;
     d.timers = timers;
+    d.pulse = pulse;
     d
 }
 
-fn control_out(c: Channel) -> Channel
-    ensures { λ r. ⌜ r ≡ controlOut c ⌝ }
+// In OPEN it is the Heartbeat that goes out, else the Open or the Close.
+fn single_out(c: Channel) -> Channel
+    ensures { λ r. ⌜ r ≡ singleOut c ⌝ }
 {
+    if c.phase.state == OPEN {
+        let beat = hand_out(c.pulse.beat, c.limits.timeout, c.limits.retries);
+        let pulse = Pulse {
+            left: c.pulse.left,
+            beat,
+        };
+        let mut d = c;
+        d.pulse = pulse;
+        return d;
+    }
     let control = hand_out(c.phase.control, c.limits.timeout, c.limits.retries);
     let mut phase = c.phase;
     phase.control = control;
@@ -199,25 +223,27 @@ fn send(before: Channel, after: Channel, fields: Fields, payload: &[u8], out: &m
     done(after, n)
 }
 
-// An Open in ENABLED, a Close in CLOSING, both numbered 0.
-fn control_kind(state: u8) -> Kind
-    ensures { λ r. ⌜ r ≡ (if eqb state enabled then Open else Close) ⌝ }
+// An Open in ENABLED, a Heartbeat in OPEN, a Close in CLOSING, all numbered 0.
+fn single_kind(state: u8) -> Kind
+    ensures { λ r. ⌜ r ≡ singleKind state ⌝ }
 {
     if state == ENABLED {
-        Kind::Open
-    } else {
-        Kind::Close
+        return Kind::Open;
     }
+    if state == OPEN {
+        return Kind::Heartbeat;
+    }
+    Kind::Close
 }
 
-fn hand_control(node: Node, c: Channel, out: &mut [u8]) -> Stepped
+fn hand_single(node: Node, c: Channel, out: &mut [u8]) -> Stepped
     requires { ⌜ fitPrefix (c .addresses .own) ≡ true ⌝ }
-    ensures { λ r. ⌜ (r ≡ sentStep c (controlOut c) 0 (length (now (out .entry)))) × (now (out .exit) ≡ sentOut (c .addresses) (controlFields node c) [] (now (out .entry))) ⌝ }
+    ensures { λ r. ⌜ (r ≡ sentStep c (singleOut c) 0 (length (now (out .entry)))) × (now (out .exit) ≡ sentOut (c .addresses) (singleFields node c) [] (now (out .entry))) ⌝ }
 {
-    let kind = control_kind(c.phase.state);
+    let kind = single_kind(c.phase.state);
     let fields = outgoing(node, c.addresses, kind, WHOLE, 0);
     let nothing: [u8; 0] = [];
-    send(c, control_out(c), fields, &nothing, out)
+    send(c, single_out(c), fields, &nothing, out)
 }
 
 // The i-th segment from the start on goes out, its payload read where it lies in its slot.
@@ -256,7 +282,7 @@ pub fn hand_step(
     ensures { λ r. ⌜ (r ≡ handStep c (now (lens .entry)) rank (length (now (out .entry)))) × (now (out .exit) ≡ handOut node c (now (lens .entry)) (now (mem .entry)) rank (now (out .entry))) ⌝ }
 {
     if rank == 0 {
-        return hand_control(node, c, out);
+        return hand_single(node, c, out);
     }
     if rank == 1 {
         let i = again_at(c);

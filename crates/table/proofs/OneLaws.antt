@@ -104,16 +104,13 @@ module _ (v : Survey) (n m l : ℕ) where
 -- ---- a packet's channel
 
 pub same-rest : (a : Addresses) (f : Fields) (q : Prefix) → a .channel ≡ f .channel → a .remote ≡ f .source → samePrefix (a .prefix) q ≡ true
-    → same a f q ≡ eqb (a .direction) (looksFor (kindOf (f .kind)))
+    → same a f q ≡ looksFor (kindOf (f .kind)) (a .direction)
 unfolding same
 same-rest a f q e e2 e3 = simp (eq-eqb (a .channel) (f .channel) e, eq-eqb (a .remote) (f .source) e2, e3)
 
--- its direction is the one looked for: Acks find a sender, Data and Control a receiver
-pub same-direction : (a : Addresses) (f : Fields) (q : Prefix) → same a f q ≡ true → a .direction ≡ looksFor (kindOf (f .kind))
+-- its direction is looked for: Acks find a sender, Data and Control a receiver
+pub kind-finds : (a : Addresses) (f : Fields) (q : Prefix) (k : Kind) → same a f q ≡ true → kindOf (f .kind) ≡ k → looksFor k (a .direction) ≡ true
 unfolding same
-same-direction a f q e =
-    eqb-true (a .direction) (looksFor (kindOf (f .kind)))
-    (both (eqb (a .channel) (f .channel) && eqb (a .remote) (f .source) && samePrefix (a .prefix) q) _ e .1)
-
-pub kind-finds : (a : Addresses) (f : Fields) (q : Prefix) (k : Kind) → same a f q ≡ true → kindOf (f .kind) ≡ k → a .direction ≡ looksFor k
-kind-finds a f q k e is = same-direction a f q e ∙ ap looksFor is
+kind-finds a f q k e is =
+    ap (λ (x : Kind). looksFor x (a .direction)) (sym is)
+    ∙ both (eqb (a .channel) (f .channel) && eqb (a .remote) (f .source) && samePrefix (a .prefix) q) _ e .1

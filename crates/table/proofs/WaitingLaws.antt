@@ -1,13 +1,13 @@
--- Laws of who waits: a sender by what is ready, a receiver never; the rank of a grade; and when a call moves its channel in the lines.
+-- Laws of who waits: a sender by what is ready, a receiver by its Heartbeat; the rank of a grade; and when a call moves its channel in the lines.
 -- Assumes nothing.
 use mathlib.Core.Path.{_≡_, refl, sym, ap, _∙_, subst}
 use mathlib.Core.Bool.{Bool, true, false, _&&_}
 use mathlib.Core.List.{List}
 use Prim.Native.Nat.{ℕ, zero, suc, _+_, _*_, _≤_, _<_}
 use native.Mathlib.Omega.{arith}
-use borrow.Author.Tests.{lt-ltb, le-ltb, eq-eqb, ne-eqb, eqb-true}
+use borrow.Author.Tests.{lt-ltb, le-ltb, eq-eqb, ne-eqb, eqb-true, eqb-false}
 use lib.Dec.{ltb, eqb}
-use Rattle.laws.proofs.Choice.{chosen, passed-by, both, by-test}
+use Rattle.laws.proofs.Choice.{chosen, passed-by, both, by-test, either-way}
 use Rattle.lines.specs.Lines.{stands, before, lineAt, ofRank}
 use Rattle.lines.proofs.GradeLaws.{Found, found, Waiting}
 use Rattle.channel.specs.declared.record.Channel.{Channel}
@@ -15,7 +15,8 @@ use Rattle.channel.specs.declared.step.Stepped.{Stepped}
 use Rattle.channel.specs.Record.{sends}
 use Rattle.sender_packets.specs.declared.handing.Ranks.{Ranks}
 use Rattle.sender_packets.specs.Asked.{Ready}
-use Rattle.sender_packets.specs.HandingOut.{ready, ranksOf}
+use Rattle.sender_packets.specs.HandingOut.{readyBeat, ready, ranksOf}
+use Rattle.sender_packets.proofs.HandLaws.{ready-beat}
 use Rattle.table.specs.declared.looking.Sought.{Sought}
 use Rattle.table.specs.Waiting.{waits, waitingOf, gradeAt, rankIn, movedBy, mayMove, moved}
 
@@ -24,14 +25,22 @@ module _ (c : Channel) where
   unfolding waits
   waits-sender e = simp (eq-eqb (c .addresses .direction) sends e)
 
-  pub waits-receiver : (c .addresses .direction ≡ sends → ⊥) → record { control = false; again = false; fresh = false } ≡ waitingOf c
+  pub waits-receiver : (c .addresses .direction ≡ sends → ⊥) → record { control = readyBeat c; again = false; fresh = false } ≡ waitingOf c
   unfolding waits
   waits-receiver e = simp (ne-eqb (c .addresses .direction) sends e)
 
-  -- and back
-  pub waits-is : (rank : ℕ) → waits rank c ≡ true → (c .addresses .direction ≡ sends) × (ready rank c ≡ true)
+  -- and back: a packet of the rank is ready, and of a receiver it is the Heartbeat
+  pub waits-receives : (rank : ℕ) → (c .addresses .direction ≡ sends → ⊥) → waits rank c ≡ true → (rank ≡ 0) × (readyBeat c ≡ true)
   unfolding waits
-  waits-is rank e = let h = both (eqb (c .addresses .direction) sends) (ready rank c) e in (eqb-true _ _ (h .0), h .1)
+  waits-receives rank n e =
+      let h = both (eqb rank 0) (readyBeat c) (sym (passed-by (eqb (c .addresses .direction) sends) (ready rank c) _ (ne-eqb _ _ n)) ∙ e) in
+      (eqb-true rank 0 (h .0), h .1)
+
+  pub waits-ready : (rank : ℕ) → waits rank c ≡ true → ready rank c ≡ true
+  unfolding waits
+  waits-ready rank e =
+      either-way (eqb (c .addresses .direction) sends) (λ s. sym (chosen (eqb (c .addresses .direction) sends) (ready rank c) _ s) ∙ e)
+      (λ s. let h = waits-receives rank (eqb-false _ _ s) e in ap (λ (r : ℕ). ready r c) (h .0) ∙ ready-beat c (h .1))
 
   pub of-rank-waits : (rank : ℕ) → rank < 3 → ofRank rank (waits 0 c) (waits 1 c) (waits 2 c) ≡ waits rank c
   of-rank-waits rank h = go rank h

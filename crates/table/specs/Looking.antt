@@ -1,13 +1,13 @@
 -- Which record of the table a call is for (document 01, Answer numbers: 'Data and Control look for a receiving record, Acks for a sending
--- one; none found is 14'; document 02, A4, in place of 01's order of channels of equal rank).
+-- one; none found is 14'; document 02, A2: a Heartbeat and its Ack for either; A4, in place of 01's order of channels of equal rank).
 use Prim.Native.Nat.{ℕ, _+_}
-use mathlib.Core.Bool.{Bool, _&&_}
+use mathlib.Core.Bool.{Bool, true, _&&_}
 use mathlib.Core.List.{List, [], _∷_}
 use lib.Dec.{leb, ltb, eqb}
 use Rattle.laws.specs.Choice.{if_then_else_}
 use Rattle.packet.specs.declared.fields.Fields.{Fields}
 use Rattle.packet.specs.declared.kinds.Kind.{Kind}
-use Rattle.packet.specs.declared.kinds.Kind.the-variants.{Data, DataAck, Open, Close, ControlAck, Lacking}
+use Rattle.packet.specs.declared.kinds.Kind.the-variants.{Data, DataAck, Open, Close, Heartbeat, HeartbeatAck, ControlAck, Lacking}
 use Rattle.packet.specs.Kinds.{kindOf}
 use Rattle.channel.specs.declared.record.Addresses.{Addresses}
 use Rattle.channel.specs.declared.record.Channel.{Channel}
@@ -21,14 +21,16 @@ use Rattle.table.specs.declared.looking.Sought.{Sought}
 use Rattle.table.specs.declared.looking.Sought.the-variants.{Index, Question, Packet, Ready, Nobody}
 use Rattle.table.specs.Waiting.{gradeAt}
 
--- the direction of the record that a packet of a kind looks for
-abbrev pub looksFor : Kind → ℕ
-looksFor Data = receives
-looksFor DataAck = sends
-looksFor Open = receives
-looksFor Close = receives
-looksFor ControlAck = sends
-looksFor (Lacking code) = receives
+-- a packet of a kind looks for a record of this direction; no field of a Heartbeat tells its end
+abbrev pub looksFor : Kind → ℕ → Bool
+looksFor Data direction = eqb direction receives
+looksFor DataAck direction = eqb direction sends
+looksFor Open direction = eqb direction receives
+looksFor Close direction = eqb direction receives
+looksFor Heartbeat direction = true
+looksFor HeartbeatAck direction = true
+looksFor ControlAck direction = eqb direction sends
+looksFor (Lacking code) direction = eqb direction receives
 
 -- a packet with the prefix q is for the channel with these addresses
 unfoldable pub same : Addresses → Fields → Prefix → Bool
@@ -36,7 +38,7 @@ same a f q =
     eqb (a .channel) (f .channel)
     && eqb (a .remote) (f .source)
     && samePrefix (a .prefix) q
-    && eqb (a .direction) (looksFor (kindOf (f .kind)))
+    && looksFor (kindOf (f .kind)) (a .direction)
 
 -- what is looked for where no prefix counts
 abbrev pub seeking : Sought → Look

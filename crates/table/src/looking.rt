@@ -54,17 +54,19 @@ pub fn seek(sought: Sought) -> Look
 // The grade of a record that does not suit.
 pub const UNFIT: usize = 48;
 
-// Acks look for a record that sends, Data and Control for one that receives.
-fn looks_for(kind: Kind) -> u8
-    ensures { λ r. ⌜ r ≡ looksFor kind ⌝ }
+// Data Acks and Control Acks look for a record that sends, Data and Control for one that receives. No field of a Heartbeat or its Ack tells its end.
+fn looks_for(kind: Kind, direction: u8) -> bool
+    ensures { λ r. ⌜ r ≡ looksFor kind direction ⌝ }
 {
     match kind {
-        Kind::Data => RECEIVES,
-        Kind::DataAck => SENDS,
-        Kind::Open => RECEIVES,
-        Kind::Close => RECEIVES,
-        Kind::ControlAck => SENDS,
-        Kind::Lacking(_) => RECEIVES,
+        Kind::Data => direction == RECEIVES,
+        Kind::DataAck => direction == SENDS,
+        Kind::Open => direction == RECEIVES,
+        Kind::Close => direction == RECEIVES,
+        Kind::Heartbeat => true,
+        Kind::HeartbeatAck => true,
+        Kind::ControlAck => direction == SENDS,
+        Kind::Lacking(_) => direction == RECEIVES,
     }
 }
 
@@ -81,7 +83,7 @@ fn is_same(a: Addresses, f: Fields, prefix: Prefix) -> bool
     if !prefixes::is_same(a.prefix, prefix) {
         return false;
     }
-    a.direction == looks_for(kind_of(f.kind))
+    looks_for(kind_of(f.kind), a.direction)
 }
 
 fn grade_index(i: usize, j: usize) -> usize

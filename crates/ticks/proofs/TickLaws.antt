@@ -10,17 +10,17 @@ use Rattle.channel.specs.declared.record.Channel.{Channel}
 use Rattle.channel.specs.Record.{sends}
 use Rattle.sender.specs.Ticking.{tickStep as senderTick}
 use Rattle.receiver.specs.Receiving as receiver
-use Rattle.ticks.specs.declared.ticking.Ticked.{Ticked}
+use Rattle.channel.specs.declared.step.Ticked.{Ticked}
 use Rattle.ticks.specs.declared.ticking.First.{First}
 use Rattle.ticks.specs.Ticking.{tickedBy, quiet, firstBy}
 
 pub tick-sends : (c : Channel) → c .addresses .direction ≡ sends
-    → tickedBy c ≡ record { channel = senderTick c .channel; inactive = senderTick c .inactive }
+    → tickedBy c ≡ senderTick c
 unfolding tickedBy
 tick-sends c e = chosen (eqb (c .addresses .direction) sends) _ _ (eq-eqb _ _ e)
 
 pub tick-receives : (c : Channel) → (c .addresses .direction ≡ sends → ⊥)
-    → tickedBy c ≡ record { channel = receiver.tickStep c; inactive = false }
+    → tickedBy c ≡ receiver.tickStep c
 unfolding tickedBy
 tick-receives c e = passed-by (eqb (c .addresses .direction) sends) _ _ (ne-eqb _ _ e)
 

@@ -6,21 +6,18 @@ use mathlib.Core.List.{List}
 use lib.Dec.{ltb, eqb}
 use Rattle.laws.specs.Choice.{if_then_else_}
 use Rattle.channel.specs.declared.record.Channel.{Channel}
+use Rattle.channel.specs.declared.step.Ticked.{Ticked}
 use Rattle.lines.specs.Fit.{relistFit}
 use Rattle.channel.specs.Record.{sends}
 use Rattle.sender.specs.Ticking as sender
 use Rattle.receiver.specs.Receiving as receiver
 use Rattle.table.specs.Waiting.{waits}
-use Rattle.ticks.specs.declared.ticking.Ticked.{Ticked}
 use Rattle.ticks.specs.declared.ticking.First.{First}
 use Rattle.ticks.specs.declared.ticking.Round.{Round}
 use Rattle.ticks.specs.declared.ticking.Turned.{Turned}
 
 unfoldable pub tickedBy : Channel → Ticked
-tickedBy c =
-    if eqb (c .addresses .direction) sends
-    then record { channel = sender.tickStep c .channel; inactive = sender.tickStep c .inactive }
-    else record { channel = receiver.tickStep c; inactive = false }
+tickedBy c = if eqb (c .addresses .direction) sends then sender.tickStep c else receiver.tickStep c
 
 -- ---- as the sweep goes
 

@@ -2,6 +2,7 @@
 use channel::Answer;
 use channel::Channel;
 use channel::Refusal;
+use channel::Ticked;
 use channel::record::SENDS;
 use lines::read;
 use lines::relisted;
@@ -28,12 +29,6 @@ ghost use Rattle.table.specs.Looking.{seeking};
 ghost use Rattle.table.specs.Serving.{blank, toldOf};
 ghost use Rattle.table.specs.Surveying.{begun};
 ghost use Rattle.ticks.specs.Ticks.{ticks, sweptTable, sweptRound, tickStart, tickEnd, endLines, tickIndex, ticked};
-
-// The channel after the tick, and whether it went inactive in it.
-pub struct Ticked {
-    pub channel: Channel,
-    pub inactive: bool,
-}
 
 // Of the channels ticked so far: whether any went inactive, the lowest index of those that did, and its reason. While none did, the index is that
 // of the next channel.
@@ -65,17 +60,9 @@ fn tick_one(c: Channel) -> Ticked
     ensures { λ r. ⌜ r ≡ tickedBy c ⌝ }
 {
     if c.addresses.direction != SENDS {
-        return Ticked {
-            channel: receiver::tick_step(c),
-            inactive: false,
-        };
+        return receiver::tick_step(c);
     }
-    let t = sender::tick_step(c);
-    let channel = t.channel;
-    Ticked {
-        channel,
-        inactive: t.inactive,
-    }
+    sender::tick_step(c)
 }
 
 // The first that goes inactive is told; those after it do not change that.

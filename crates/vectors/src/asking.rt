@@ -85,6 +85,7 @@ fn settings(window: usize, slots: usize, direction: u8) -> Settings {
             timeout: 4,
             closing: 4,
             retries: 2,
+            interval: 0,
         },
     }
 }

@@ -43,6 +43,7 @@ pub fn table(direction: Direction, remote: u8, channels: usize, payload: usize) 
         timeout: 65_535,
         close_timeout: 65_535,
         retries: 255,
+        interval: 0,
     };
     (0..channels as u16).map(settings).collect()
 }

@@ -103,7 +103,7 @@ const FULL: Prefix = Prefix {
 };
 
 /// Changes that lie just within the bounds.
-pub const ACCEPTED: [Bound; 13] = [
+pub const ACCEPTED: [Bound; 15] = [
     ("settings: window and slots 1", |table| {
         (table[0].window, table[0].slots, table[0].most_segments) = (1, 1, 1);
     }),
@@ -122,6 +122,10 @@ pub const ACCEPTED: [Bound; 13] = [
         table[0].timeout = 65_535;
         table[0].close_timeout = 65_535;
         table[0].retries = 255;
+    }),
+    ("settings: interval 1", |table| table[0].interval = 1),
+    ("settings: interval 65,535", |table| {
+        table[0].interval = 65_535;
     }),
     ("settings: prefixes of 15 octets", |table| {
         (table[0].remote_prefix, table[0].own_prefix) = (FULL, FULL);

@@ -125,8 +125,8 @@ pub fn unlawful(records: usize) -> Said {
     }
 }
 
-/// The same settings as the proved library takes them. Timeouts over 65,535
-/// and retries so large cannot be said there: a caller asks for none.
+/// The same settings as the proved library takes them. Timeouts, intervals and
+/// retries over 65,535 cannot be said there: a caller asks for none.
 pub fn to_proved(settings: &Settings) -> proved::record::Settings {
     let narrow = |number: u32| u16::try_from(number).expect("16 bits");
     proved::record::Settings {
@@ -148,6 +148,7 @@ pub fn to_proved(settings: &Settings) -> proved::record::Settings {
             timeout: narrow(settings.timeout),
             closing: narrow(settings.close_timeout),
             retries: narrow(settings.retries),
+            interval: narrow(settings.interval),
         },
     }
 }

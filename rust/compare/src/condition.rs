@@ -68,10 +68,11 @@ fn is_named(record: &Channel) -> bool {
         && is_prefix(&record.addresses.remote_prefix)
         && is_prefix(&record.addresses.own_prefix)
         && record.phase.state <= 3
-        && record.phase.reason <= 5
+        && record.phase.reason <= 6
         && record.phase.kept <= 1
         && record.phase.accepted <= 1
         && record.phase.control.state <= 3
+        && record.pulse.beat.state <= 3
 }
 
 /// At most 15 octets, and 0 in every one past them.

@@ -12,7 +12,7 @@ pub struct Faults {
     /// 4, to be written: a prefix over 15 octets. 1, to be read: another prefix
     /// length than the prefix has.
     pub prefix: bool,
-    /// 4: a type the base lacks.
+    /// 4: a type the base lacks: Flow Control, or none.
     pub kind: bool,
     /// 3: another version.
     pub version: bool,
@@ -124,17 +124,17 @@ impl Faults {
     }
 
     fn a_kind(self, reach: Reach, noise: &mut Noise) -> u8 {
-        use kind::{CLOSE, CONTROL_ACK, DATA, DATA_ACK, OPEN};
+        use kind::{CLOSE, CONTROL_ACK, DATA, DATA_ACK, HEARTBEAT, HEARTBEAT_ACK, OPEN};
         let only_bits = reach == Reach::Bits;
         if self.kind && (only_bits || noise.one_in(2)) {
-            noise.one_of(&[kind::HEARTBEAT, kind::HEARTBEAT_ACK, kind::FLOW_CONTROL])
+            kind::FLOW_CONTROL
         } else if self.kind {
             noise.octet().max(8)
         } else if self.empty {
             DATA
         } else if self.payload || (self.flags && only_bits) || noise.one_in(2) {
             // On Data no payload is wrong, nor are flags of two bits.
-            noise.one_of(&[DATA_ACK, OPEN, CLOSE, CONTROL_ACK])
+            noise.one_of(&[DATA_ACK, OPEN, CLOSE, HEARTBEAT, HEARTBEAT_ACK, CONTROL_ACK])
         } else {
             DATA
         }

@@ -1,7 +1,7 @@
 //! Whose packet an arrival is, by a table as it lies there. The caller may have
 //! overwritten it, so that two records agree in all that settings tell them apart
 //! by (document 02, A2): a packet still finds its record by the direction that its
-//! type asks for.
+//! type asks for, and a Heartbeat or its Ack, which asks for none, the first.
 
 use peer::packet::{kind, read, Fields};
 use proved::record::{direction, Addresses, Channel, Node};
@@ -11,6 +11,9 @@ use crate::tally::Tally;
 
 /// A case of [`check_found`].
 pub const BY_DIRECTION: &str = "overwritten: found by its direction alone";
+
+/// And another.
+pub const FIRST: &str = "overwritten: a Heartbeat or its Ack finds the first of two";
 
 /// Panics unless the answer names the record that the packet is for, or none if it
 /// is for none. The reply fits.
@@ -25,12 +28,16 @@ pub fn check_found(table: &[Channel], node: Node, packet: &[u8], said: Said, tal
         one.addresses.direction != own.direction && names(&one.addresses) == names(own)
     };
     if table.iter().any(turned) {
-        tally.case(BY_DIRECTION);
+        tally.case(match packet[2] & 0b111 {
+            kind::HEARTBEAT | kind::HEARTBEAT_ACK => FIRST,
+            _ => BY_DIRECTION,
+        });
     }
 }
 
-/// "Data and Control look for a receiving record, Acks for a sending one"; what
-/// cannot be read, or is for another node, looks for none.
+/// "Data and Control look for a receiving record, Acks for a sending one", a
+/// Heartbeat and its Ack for either; what cannot be read, or is for another node,
+/// looks for none.
 fn find(table: &[Channel], node: Node, packet: &[u8]) -> Option<usize> {
     let reading = read(packet).ok()?;
     let Fields {
@@ -42,14 +49,16 @@ fn find(table: &[Channel], node: Node, packet: &[u8]) -> Option<usize> {
         ..
     } = reading.fields;
     let end = match kind {
-        kind::DATA_ACK | kind::CONTROL_ACK => direction::SENDS,
-        _ => direction::RECEIVES,
+        kind::HEARTBEAT | kind::HEARTBEAT_ACK => None,
+        kind::DATA_ACK | kind::CONTROL_ACK => Some(direction::SENDS),
+        _ => Some(direction::RECEIVES),
     };
     let prefix = reading.prefix_of(packet);
     let mut records = table.iter();
     let found = records.position(|record| {
         let addresses = &record.addresses;
-        addresses.direction == end && names(addresses) == (channel, source, prefix)
+        end.is_none_or(|end| end == addresses.direction)
+            && names(addresses) == (channel, source, prefix)
     });
     found.filter(|_| (destination, protocol) == (node.address, node.protocol))
 }

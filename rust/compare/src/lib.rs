@@ -16,6 +16,7 @@ pub mod lines;
 pub mod order;
 pub mod overwriting;
 pub mod packets;
+pub mod pulses;
 pub mod records;
 pub mod sizes;
 pub mod strays;

@@ -2,7 +2,7 @@
 //! octets: for calls that the peer cannot be asked, and to tell what a call was.
 
 use link::Noise;
-use proved::record::{direction, lone, state, Channel, LINES};
+use proved::record::{direction, lone, state, Channel, Lone, LINES};
 use proved::Said;
 
 use crate::call::Call;
@@ -10,7 +10,7 @@ use crate::call::Call;
 /// Octets of one line.
 const LINE: usize = LINES / 3;
 
-/// The ranks: Control, resent Data, new Data.
+/// The ranks: Control and Heartbeats, resent Data, new Data.
 pub const RANKS: std::ops::Range<usize> = 0..3;
 
 /// A packet that goes out: its rank, and whose it is.
@@ -43,14 +43,20 @@ pub fn octets_of(queues: [Vec<u8>; 3]) -> Vec<u8> {
     octets
 }
 
-/// Whether a record has a packet of this rank ready.
+/// Whether a record has a packet of this rank ready: of a receiver its Heartbeat
+/// alone counts.
 pub fn is_ready(record: &Channel, rank: usize) -> bool {
     let Channel {
         limits,
         phase,
+        pulse,
         window,
         ..
     } = record;
+    let is_ready = |one: &Lone| [lone::READY, lone::AGAIN].contains(&one.state);
+    if (rank, phase.state) == (0, state::OPEN) {
+        return is_ready(&pulse.beat);
+    }
     if record.addresses.direction != direction::SENDS {
         return false;
     }
@@ -59,9 +65,7 @@ pub fn is_ready(record: &Channel, rank: usize) -> bool {
         record.acked[place] == 0 && record.timers.left[place] == 0
     };
     match (rank, phase.state) {
-        (0, state::ENABLED | state::CLOSING) => {
-            [lone::READY, lone::AGAIN].contains(&phase.control.state)
-        }
+        (0, state::ENABLED | state::CLOSING) => is_ready(&phase.control),
         (1, state::OPEN) => (0..window.flight).any(waits_again),
         (2, state::OPEN) => window.flight < window.ahead.min(limits.window),
         _ => false,

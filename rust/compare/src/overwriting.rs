@@ -4,21 +4,25 @@
 //! the records as they are decide who stands in a line and who is served.
 
 use link::Noise;
-use proved::record::{Addresses, Channel};
+use proved::record::{Addresses, Channel, Lone, Pulse};
 use proved::Said;
 
 use crate::call::{unlawful, Call};
 use crate::condition::{are_lines, is_lawful};
 use crate::found::check_found;
 use crate::lines::{after, next, other_lines};
+use crate::pulses::check_pulses;
 use crate::strays::from_other_end;
 use crate::tally::Tally;
 use crate::twin::Twin;
 
+/// A case of [`overwrite_and_call`].
+pub const ANOTHER_HEARTBEAT: &str = "overwritten: a Heartbeat that no call left there";
+
 /// A field of a record, set to a number as far as its type holds it.
 type Field = fn(&mut Channel, u64);
 
-const FIELDS: [Field; 28] = [
+const FIELDS: [Field; 33] = [
     |record, number| record.addresses.direction = number as u8,
     |record, number| record.addresses.remote_prefix.length = number as u8,
     |record, number| record.addresses.own_prefix.length = number as u8,
@@ -31,6 +35,7 @@ const FIELDS: [Field; 28] = [
     |record, number| record.limits.timeout = number as u16,
     |record, number| record.limits.closing = number as u16,
     |record, number| record.limits.retries = number as u16,
+    |record, number| record.limits.interval = number as u16,
     |record, number| record.phase.state = number as u8,
     |record, number| record.phase.reason = number as u8,
     |record, number| record.phase.kept = number as u8,
@@ -38,6 +43,10 @@ const FIELDS: [Field; 28] = [
     |record, number| record.phase.control.state = number as u8,
     |record, number| record.phase.control.timer = number as u16,
     |record, number| record.phase.control.tries = number as u16,
+    |record, number| record.pulse.left = number as u16,
+    |record, number| record.pulse.beat.state = number as u8,
+    |record, number| record.pulse.beat.timer = number as u16,
+    |record, number| record.pulse.beat.tries = number as u16,
     |record, number| record.window.start = number as u8,
     |record, number| record.window.place = number as usize,
     |record, number| record.window.behind = number as usize,
@@ -91,8 +100,12 @@ pub fn overwrite_and_call(twin: &mut Twin, noise: &mut Noise, tally: &mut Tally)
     let index = noise.below(twin.table.len());
     let packet = from_other_end(twin, index, 30, noise);
     let kept = kept(twin);
-    if noise.one_in(4) {
+    let shared = noise.one_in(4);
+    if shared {
         share(twin, index, noise);
+    } else if noise.one_in(4) {
+        overwrite_heartbeat(&mut twin.table[index], noise);
+        tally.case(ANOTHER_HEARTBEAT);
     } else {
         (0..1 + noise.below(2)).for_each(|_| overwrite(twin, noise));
     }
@@ -102,6 +115,7 @@ pub fn overwrite_and_call(twin: &mut Twin, noise: &mut Noise, tally: &mut Tally)
     let unit = [7; 3];
     let settings = twin.settings.clone();
     let call = match noise.below(10) {
+        _ if shared && noise.one_in(2) => Call::Arrival(&packet),
         0 => Call::Settings(&settings),
         1 => Call::Open(index),
         2 => Call::Close(index),
@@ -115,6 +129,19 @@ pub fn overwrite_and_call(twin: &mut Twin, noise: &mut Noise, tally: &mut Tally)
     };
     check(twin, call, tally);
     (twin.table, twin.memory, twin.lengths, twin.lines) = kept;
+}
+
+/// A Heartbeat and an interval such as a record may have, but no call left there.
+fn overwrite_heartbeat(record: &mut Channel, noise: &mut Noise) {
+    record.limits.interval = noise.one_of(&[0, 1, 2, 65_535]);
+    record.pulse = Pulse {
+        left: noise.one_of(&[0, 1, 2, 65_535]),
+        beat: Lone {
+            state: noise.below(4) as u8,
+            timer: noise.one_of(&[0, 1, 2, 65_535]),
+            tries: noise.one_of(&[0, 1, 2, 65_535]),
+        },
+    };
 }
 
 fn overwrite(twin: &mut Twin, noise: &mut Noise) {
@@ -157,7 +184,7 @@ fn overwrite_lines(twin: &mut Twin, number: u64, noise: &mut Noise) {
 }
 
 /// The order after a call that was not answered 13: whose packet was next, and
-/// the lines.
+/// the lines. And the Heartbeats.
 fn check_order(twin: &Twin, call: &Call, said: Said, before: &Kept, tally: &mut Tally) {
     let (table, _, _, lines) = before;
     let chosen = match call {
@@ -172,6 +199,7 @@ fn check_order(twin: &Twin, call: &Call, said: Said, before: &Kept, tally: &mut 
     let out = chosen.filter(|_| said.number == 0);
     let expected = after(call, said, lines, &twin.table, out);
     assert_eq!(twin.lines, expected, "{call:?}: {said:?}");
+    check_pulses(call, said, out, table, &twin.table);
     if lines != twin.peer.lines() {
         tally.case("13: overwritten lines are sound, and count");
     }

@@ -25,6 +25,7 @@ pub fn reason_number(reason: Reason) -> u8 {
         Reason::ControlNumber => 3,
         Reason::DataNumber => 4,
         Reason::Flags => 5,
+        Reason::Heartbeat => 6,
     }
 }
 
@@ -50,7 +51,13 @@ pub fn assert_same(record: &Channel, settings: &Settings, direction: Direction, 
         u32::from(record.timers.closing),
         sight.close_timer.unwrap_or(0)
     );
-    assert_eq!(record.phase.control, control(sight.control, record));
+    assert_eq!(record.phase.control, lone(sight.control, record));
+    assert_eq!(
+        u32::from(record.pulse.left),
+        sight.heartbeat_timer,
+        "the ticks until a Heartbeat is made"
+    );
+    assert_eq!(record.pulse.beat, lone(sight.heartbeat, record));
     if sends && sight.start.is_some() {
         assert_courses(record, &sight.held);
     } else if sight.start.is_some() {
@@ -111,14 +118,11 @@ fn assert_marks(record: &Channel, held: &[SegmentSight]) {
     assert_eq!(record.marks, marks);
 }
 
-/// The control packet: 0 none, 1 ready, 2 handed out, 3 ready again.
-fn control(course: Option<CourseSight>, record: &Channel) -> Lone {
+/// A packet sent alone, Control or a Heartbeat: 0 none, 1 ready, 2 handed out, 3
+/// ready again.
+fn lone(course: Option<CourseSight>, record: &Channel) -> Lone {
     let Some(course) = course else {
-        return Lone {
-            state: 0,
-            timer: 0,
-            tries: 0,
-        };
+        return Lone::blank();
     };
     Lone {
         state: match (course.hand_outs, course.timer) {

@@ -19,6 +19,7 @@ pub fn from_other_end(twin: &Twin, index: usize, breaking: usize, noise: &mut No
     let state = twin.state(index);
     let breaks = noise.percent(breaking);
     let (kind, number) = match (settings.direction, breaks) {
+        _ if noise.one_in(10) => heartbeat(&sight, breaks, noise),
         (Direction::Receiving, false) => forward(state, settings, &sight, noise),
         (Direction::Receiving, true) => any_forward(settings, &sight, noise),
         (Direction::Sending, false) => ack(state, &sight, noise),
@@ -47,6 +48,20 @@ pub fn from_other_end(twin: &Twin, index: usize, breaking: usize, noise: &mut No
 /// The window start's number; 1 while there is none.
 fn start_of(sight: &Sight) -> u8 {
     sight.start.unwrap_or(1) as u8
+}
+
+/// What either end would send: a Heartbeat, or the Ack of this end's own, which is
+/// mostly waited for. One that breaks the exchange may have any number.
+fn heartbeat(sight: &Sight, breaks: bool, noise: &mut Noise) -> (u8, u8) {
+    let waits = sight.heartbeat.is_some_and(|course| course.hand_outs > 0);
+    let kind = match waits != noise.one_in(8) {
+        true => kind::HEARTBEAT_ACK,
+        false => kind::HEARTBEAT,
+    };
+    match breaks {
+        true => (kind, noise.octet()),
+        false => (kind, 0),
+    }
 }
 
 /// What a transmit end would send: the kind and the number.
@@ -132,7 +147,7 @@ fn shape(settings: &Settings, sight: &Sight, breaks: bool, noise: &mut Noise) ->
 pub type Clause = (&'static str, fn(&mut Vec<u8>, &mut Noise));
 
 /// Every clause of the tests 1, 2, 4, 3 and 14 that a packet alone can break.
-pub const CLAUSES: [Clause; 15] = [
+pub const CLAUSES: [Clause; 17] = [
     ("clause: under 12 octets", |packet, noise| {
         packet.truncate(noise.below(12));
     }),
@@ -151,9 +166,8 @@ pub const CLAUSES: [Clause; 15] = [
         let other = 1 + noise.below(15) as u8;
         set(packet, 8, |one| one ^ other);
     }),
-    ("clause: a type the base lacks", |packet, noise| {
-        let kind = 4 + noise.below(3) as u8;
-        set(packet, 2, |one| one & !7 | kind);
+    ("clause: a type the base lacks", |packet, _| {
+        set(packet, 2, |one| one & !7 | 6);
     }),
     ("clause: the version", |packet, _| {
         set(packet, 2, |one| one ^ 0x80)
@@ -178,6 +192,22 @@ pub const CLAUSES: [Clause; 15] = [
         set_payload(packet, &[noise.octet()]);
         set(packet, 2, |one| one | 0x1F);
     }),
+    (
+        "clause: flags of a Heartbeat or its Ack",
+        |packet, noise| {
+            let (flags, kind) = (noise.below(3) as u8, 4 + noise.below(2) as u8);
+            set_payload(packet, &[]);
+            set(packet, 2, |one| one & !0x1F | flags << 3 | kind);
+        },
+    ),
+    (
+        "clause: a Heartbeat or its Ack with payload",
+        |packet, noise| {
+            let kind = 4 + noise.below(2) as u8;
+            set_payload(packet, &[noise.octet()]);
+            set(packet, 2, |one| one & !7 | 0x18 | kind);
+        },
+    ),
     ("clause: the destination", |packet, _| {
         set(packet, 0, |one| one ^ 1)
     }),

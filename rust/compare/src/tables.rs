@@ -117,7 +117,14 @@ pub fn limits(size: Size, noise: &mut Noise) -> Settings {
         timeout: ticks(noise),
         close_timeout: ticks(noise),
         retries: noise.one_of(&[0, 1, 2, 6, 6, 20, 255]),
+        interval: interval(noise),
     }
+}
+
+/// Often none, else mostly a few ticks, of which one can hardly be quiet enough for
+/// the longest.
+fn interval(noise: &mut Noise) -> u32 {
+    noise.one_of(&[0, 0, 0, 1, 2, 3, 3, 12, 65_535])
 }
 
 /// Mostly a few ticks: where one must wait for the longest, nothing happens.
@@ -129,7 +136,8 @@ fn ticks(noise: &mut Noise) -> u32 {
     }
 }
 
-/// The other end's settings: mostly its k, P and M, for its own slots.
+/// The other end's settings: mostly its k, P and M, for its own slots, and an
+/// interval of its own.
 fn other_end(settings: Settings, noise: &mut Noise) -> Settings {
     let Settings {
         window,
@@ -139,7 +147,11 @@ fn other_end(settings: Settings, noise: &mut Noise) -> Settings {
     } = settings;
     let least = window.max(most_segments);
     let slots = (least + noise.below(6) as u32).min(128);
-    let mut other = Settings { slots, ..settings };
+    let mut other = Settings {
+        slots,
+        interval: interval(noise),
+        ..settings
+    };
     match noise.below(16) {
         0 => other.most_payload = 1 + noise.below(most_payload as usize) as u32,
         1 => other.most_segments = 1 + noise.below(slots as usize) as u32,

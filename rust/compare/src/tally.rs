@@ -9,9 +9,9 @@ use std::fmt;
 /// wrong, or the records are not 1 to 16. The lines of arrivals say what kind of packet came: 'read' for one that
 /// passes the tests 11, 1, 2, 4 and the first 3, and so has a kind that counts.
 /// Data alone can find the slots full or have a payload over P; an Ack alone
-/// is ignored; a receive end alone goes inactive by a packet or answers 15, and
-/// there alone 11 comes again, for a reply with a prefix (document 02, A7).
-pub const POSSIBLE: [(&str, &[u32]); 16] = [
+/// is ignored; a receive end alone goes inactive by a packet or answers 15. 11 comes
+/// again where a reply is due, for one with a prefix (document 02, A7).
+pub const POSSIBLE: [(&str, &[u32]); 18] = [
     ("settings", &[0, 13]),
     ("open", &[0, 5, 10, 13, 14]),
     ("close", &[0, 5, 13, 14]),
@@ -26,6 +26,8 @@ pub const POSSIBLE: [(&str, &[u32]); 16] = [
     ("read Data Ack", &[0, 5, 14, 16]),
     ("read Open", &[0, 5, 9, 11, 14, 15]),
     ("read Close", &[0, 5, 9, 11, 14, 15]),
+    ("read Heartbeat", &[0, 5, 11, 14]),
+    ("read Heartbeat Ack", &[0, 5, 14, 16]),
     ("read Control Ack", &[0, 5, 14, 16]),
     ("not read", &[1, 2, 3, 4, 11, 13]),
 ];
@@ -97,12 +99,12 @@ impl Tally {
 /// pair cannot occur.
 impl fmt::Display for Tally {
     fn fmt(&self, out: &mut fmt::Formatter) -> fmt::Result {
-        write!(out, "{:<17}", "answer")?;
+        write!(out, "{:<19}", "answer")?;
         (0..NUMBERS).try_for_each(|number| write!(out, "{number:>8}"))?;
         writeln!(out)?;
         for (line, possible) in POSSIBLE {
             let counts = self.lines.get(line).copied().unwrap_or_default();
-            write!(out, "{line:<17}")?;
+            write!(out, "{line:<19}")?;
             for (number, count) in (0..).zip(counts) {
                 if count == 0 && !possible.contains(&number) {
                     write!(out, "{:>8}", "-")?;

@@ -98,7 +98,7 @@ impl Twin {
     }
 
     /// The octets of the prefix that a reply to this packet would have: none if
-    /// no receiving record is found for it.
+    /// none is due, or no record is found for it.
     pub fn reply_prefix(&self, packet: &[u8]) -> usize {
         let Ok(reading) = peer::packet::read(packet) else {
             return 0;
@@ -109,17 +109,16 @@ impl Twin {
             kind,
             ..
         } = reading.fields;
+        let heartbeat = kind == kind::HEARTBEAT;
+        if !heartbeat && ![kind::DATA, kind::OPEN, kind::CLOSE].contains(&kind) {
+            return 0;
+        }
         let found = self.settings.iter().find(|one| {
-            one.direction == Direction::Receiving
+            (heartbeat || one.direction == Direction::Receiving)
                 && (one.channel, one.remote) == (channel, source)
                 && one.remote_prefix.said() == reading.prefix_of(packet)
         });
-        match found {
-            Some(one) if kind < kind::HEARTBEAT && kind != kind::DATA_ACK => {
-                one.own_prefix.said().len()
-            }
-            _ => 0,
-        }
+        found.map_or(0, |one| one.own_prefix.said().len())
     }
 
     /// What the proved library is lent, with a buffer of its own.
@@ -152,6 +151,7 @@ impl Twin {
         tally.answer(call.name(), said.number);
         self.compare(&call, said, answer);
         self.check_order(&call, said, tally);
+        self.note_pulses(&call, said, tally);
         assert!(by_proved == by_peer, "the octets written differ");
         let octets = by_proved[lent][..said.written()].to_vec();
         (self.by_proved, self.by_peer) = (by_proved, by_peer);
@@ -173,7 +173,8 @@ impl Twin {
         match (said.number, call) {
             (0, Call::Settings(_)) | (0 | 9, Call::Tick) => {}
             (_, Call::WouldTransfer(..)) => assert!(changed.is_empty(), "a question changed one"),
-            (0, _) => assert!(changed.iter().all(|&one| one == served), "another changed"),
+            // Also what is acknowledged and not accepted restarts the interval.
+            (0 | 15, _) => assert!(changed.iter().all(|&one| one == served), "another changed"),
             (9, _) => assert_eq!(changed, [served]),
             _ => assert!(changed.is_empty(), "a refusal changed a record"),
         }

@@ -21,6 +21,8 @@ mod cases;
 mod lines;
 mod prefixes;
 
+use cases::reason_case;
+
 pub use cases::CASES;
 pub use lines::WRITTEN;
 pub use prefixes::PREFIXES;
@@ -170,7 +172,7 @@ impl World {
     fn tick(&mut self, node: usize) {
         let said = self.call(node, Call::Tick, 0).said;
         if said.number == 9 {
-            self.tally.case("inactive: retries");
+            self.tally.case(reason_case(said.reason));
         }
         if said.number == 9 && said.index > 0 {
             self.tally

@@ -5,6 +5,7 @@ use std::thread;
 
 use compare::bounds::{check_bounds, ACCEPTED, COUNTS, OTHER_LINES, REFUSED, STORAGE};
 use compare::order::ORDERS;
+use compare::pulses::HEARTBEATS;
 use compare::sizes::WRONGS;
 use compare::strays::CLAUSES;
 use compare::tables::Size;
@@ -122,7 +123,7 @@ fn calls_wanted() -> u64 {
 /// Every case that some list names.
 fn all_cases() -> Vec<&'static str> {
     let bounds = [&REFUSED[..], &ACCEPTED, &STORAGE].concat();
-    let mut cases = [&CASES[..], &PREFIXES, &ORDERS, &WRITTEN].concat();
+    let mut cases = [&CASES[..], &PREFIXES, &ORDERS, &WRITTEN, &HEARTBEATS].concat();
     cases.extend(bounds.iter().map(|(name, _)| *name));
     cases.extend(COUNTS.map(|(name, _, _)| name));
     cases.push(OTHER_LINES);

@@ -35,6 +35,7 @@ fn settings(remote: u8, direction: u8) -> [Settings; 1] {
         timeout: 6,
         closing: 40,
         retries: 4,
+        interval: 0,
     };
     [Settings { addresses, limits }]
 }

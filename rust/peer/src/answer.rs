@@ -12,8 +12,8 @@ pub enum Refusal {
     /// A header field unexpected that is not one of [`Refusal::NotInBase`], or
     /// a payload where none may be.
     Header,
-    /// Secondary header, a type the base lacks, or, of a packet to be written,
-    /// a prefix over 15 octets.
+    /// Secondary header, Flow Control, which is lacking, or, of a packet to be
+    /// written, a type over 7 or a prefix over 15 octets.
     NotInBase,
     /// The state does not allow it, or the direction does not.
     State,

@@ -1,8 +1,10 @@
 //! A channel record: one end of a channel, of either direction.
 
 use crate::answer::Refusal;
+use crate::heartbeat::Heartbeat;
+use crate::offer::{Offer, Rank};
 use crate::receiving::ReceivingEnd;
-use crate::sending::{Rank, SendingEnd};
+use crate::sending::SendingEnd;
 use crate::settings::{Direction, Settings};
 use crate::sight::Sight;
 use crate::state::{Reason, State};
@@ -82,23 +84,45 @@ impl Channel {
         }
     }
 
-    /// Whether a packet of this rank is ready. A receive end has but acks, and
-    /// these are written as their packets arrive.
+    /// Whether a packet of this rank is ready.
     pub(crate) fn is_ready(&self, rank: Rank) -> bool {
         match self {
             Channel::Sending(end) => end.is_ready(rank),
-            Channel::Receiving(_) => false,
+            Channel::Receiving(end) => end.is_ready(rank),
         }
+    }
+
+    /// The packet of this rank that this end would hand out next, if any.
+    pub(crate) fn offer(&self, rank: Rank) -> Option<Offer<'_>> {
+        match self {
+            Channel::Sending(end) => end.offer(rank),
+            Channel::Receiving(end) => end.offer(rank),
+        }
+    }
+
+    /// Notes that the packet of [`Channel::offer`] was handed out.
+    pub(crate) fn hand_out(&mut self, rank: Rank) {
+        match self {
+            Channel::Sending(end) => end.hand_out(rank),
+            Channel::Receiving(end) => end.hand_out(),
+        }
+    }
+
+    /// The Heartbeat of this end; in another state than OPEN it has none, and
+    /// what belongs to it gives 5.
+    pub(crate) fn heartbeat(&mut self) -> Result<&mut Heartbeat, Refusal> {
+        let heartbeat = match self {
+            Channel::Sending(end) => end.heartbeat(),
+            Channel::Receiving(end) => end.heartbeat(),
+        };
+        heartbeat.ok_or(Refusal::State)
     }
 
     /// A tick; true if the channel went inactive in it.
     pub(crate) fn tick(&mut self) -> bool {
         match self {
             Channel::Sending(end) => end.tick(),
-            Channel::Receiving(end) => {
-                end.tick();
-                false
-            }
+            Channel::Receiving(end) => end.tick(),
         }
     }
 }

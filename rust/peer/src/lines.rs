@@ -5,7 +5,7 @@
 //! The caller lends them as octets, which say who stands where. Here it is said
 //! of each channel how many stand before it.
 
-use crate::sending::Rank;
+use crate::offer::Rank;
 use crate::settings::MOST_RECORDS;
 
 #[cfg(test)]

@@ -34,9 +34,9 @@ pub mod kind {
     pub const OPEN: u8 = 2;
     /// Control Packet, Close Command.
     pub const CLOSE: u8 = 3;
-    /// Heartbeat Packet, not in the base.
+    /// Heartbeat Packet (document 02, A2).
     pub const HEARTBEAT: u8 = 4;
-    /// Heartbeat Ack Packet, not in the base.
+    /// Heartbeat Ack Packet (document 02, A2).
     pub const HEARTBEAT_ACK: u8 = 5;
     /// Flow Control Packet or its Ack, not in the base.
     pub const FLOW_CONTROL: u8 = 6;
@@ -166,12 +166,11 @@ fn test_crc(packet: &[u8]) -> Result<(), Refusal> {
     refuse_if(trailer != crc(body).to_be_bytes(), Refusal::Crc)
 }
 
-/// Test 4: what 000 has and the base lacks. Every prefix that can be read is
-/// read (document 02, A7).
+/// Test 4: what 000 has and this lacks: secondary headers and Flow Control. Every
+/// prefix that can be read is read (document 02, A7), and so is a Heartbeat (A2).
 fn test_base(fields: &Fields) -> Result<(), Refusal> {
-    use kind::{CLOSE, CONTROL_ACK, DATA, DATA_ACK, OPEN};
-    let base_kind = [DATA, DATA_ACK, OPEN, CLOSE, CONTROL_ACK].contains(&fields.kind);
-    refuse_if(fields.secondary != 0 || !base_kind, Refusal::NotInBase)
+    let lacking = fields.kind == kind::FLOW_CONTROL || fields.kind > kind::CONTROL_ACK;
+    refuse_if(fields.secondary != 0 || lacking, Refusal::NotInBase)
 }
 
 /// Test 3: the other header fields, the payload length among them. Only Data

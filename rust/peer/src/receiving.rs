@@ -3,6 +3,8 @@
 use std::collections::VecDeque;
 
 use crate::answer::{refuse_if, Refusal};
+use crate::heartbeat::Heartbeat;
+use crate::offer::{Offer, Rank};
 use crate::packet::kind;
 use crate::segment::{rejoin, Segment};
 use crate::settings::Settings;
@@ -22,8 +24,13 @@ mod tests;
 enum Phase {
     Closed(Reason),
     Enabled,
-    Open(Reception),
-    Closing { timer: u32 },
+    Open {
+        reception: Reception,
+        heartbeat: Heartbeat,
+    },
+    Closing {
+        timer: u32,
+    },
 }
 
 /// A receive end and the complete units it holds.
@@ -65,7 +72,7 @@ impl ReceivingEnd {
         match self.phase {
             Phase::Closed(_) => State::Closed,
             Phase::Enabled => State::Enabled,
-            Phase::Open(_) => State::Open,
+            Phase::Open { .. } => State::Open,
             Phase::Closing { .. } => State::Closing,
         }
     }
@@ -93,14 +100,54 @@ impl ReceivingEnd {
         Ok(length)
     }
 
-    /// A tick: the close timer "ends and leads to CLOSED", which is not going
-    /// inactive.
-    pub(crate) fn tick(&mut self) {
-        if let Phase::Closing { timer } = &mut self.phase {
-            *timer -= 1;
-            if *timer == 0 {
-                self.phase = Phase::Closed(Reason::None);
+    /// The Heartbeat, in OPEN.
+    pub(crate) fn heartbeat(&mut self) -> Option<&mut Heartbeat> {
+        match &mut self.phase {
+            Phase::Open { heartbeat, .. } => Some(heartbeat),
+            _ => None,
+        }
+    }
+
+    /// A tick; true if the channel went inactive in it, as it does when the
+    /// retries of a Heartbeat are used up (000, 4.5.3.7). The close timer "ends
+    /// and leads to CLOSED", which is not going inactive.
+    pub(crate) fn tick(&mut self) -> bool {
+        let inactive = match &mut self.phase {
+            Phase::Closed(_) | Phase::Enabled => false,
+            Phase::Open { heartbeat, .. } => heartbeat.tick(self.settings.retries),
+            Phase::Closing { timer } => {
+                *timer -= 1;
+                if *timer == 0 {
+                    self.phase = Phase::Closed(Reason::None);
+                }
+                false
             }
+        };
+        if inactive {
+            self.go_inactive(Reason::Heartbeat);
+        }
+        inactive
+    }
+
+    /// Whether a packet of this rank is ready. A receive end hands out Heartbeats
+    /// alone; its acks are written as their packets arrive.
+    pub(crate) fn is_ready(&self, rank: Rank) -> bool {
+        match &self.phase {
+            Phase::Open { heartbeat, .. } => rank == Rank::Control && heartbeat.is_ready(),
+            _ => false,
+        }
+    }
+
+    /// The packet of this rank that this end would hand out next, if any.
+    pub(crate) fn offer(&self, rank: Rank) -> Option<Offer<'_>> {
+        self.is_ready(rank).then(|| Offer::alone(kind::HEARTBEAT))
+    }
+
+    /// Notes that the packet of [`ReceivingEnd::offer`] was handed out.
+    pub(crate) fn hand_out(&mut self) {
+        let timeout = self.settings.timeout;
+        if let Some(heartbeat) = self.heartbeat() {
+            heartbeat.hand_out(timeout);
         }
     }
 
@@ -114,14 +161,17 @@ impl ReceivingEnd {
         }
         match (&self.phase, command) {
             (Phase::Enabled, kind::OPEN) => {
-                self.phase = Phase::Open(Reception::NEW);
+                self.phase = Phase::Open {
+                    reception: Reception::NEW,
+                    heartbeat: Heartbeat::new(self.settings.interval),
+                };
                 Ok(Reaction::Accepted)
             }
-            (Phase::Open(reception), kind::OPEN) if reception.has_accepted() => {
+            (Phase::Open { reception, .. }, kind::OPEN) if reception.has_accepted() => {
                 Ok(self.go_inactive(Reason::LateOpen))
             }
-            (Phase::Open(_), kind::OPEN) => Ok(Reaction::Repeated),
-            (Phase::Open(_), kind::CLOSE) => {
+            (Phase::Open { .. }, kind::OPEN) => Ok(Reaction::Repeated),
+            (Phase::Open { .. }, kind::CLOSE) => {
                 let timer = self.settings.close_timeout;
                 self.phase = Phase::Closing { timer };
                 Ok(Reaction::Accepted)
@@ -142,7 +192,7 @@ impl ReceivingEnd {
     ) -> Result<Reaction, Refusal> {
         let over = payload.len() > self.settings.most_payload as usize;
         refuse_if(over, Refusal::Header)?;
-        let Phase::Open(reception) = &self.phase else {
+        let Phase::Open { reception, .. } = &self.phase else {
             return Err(Refusal::State);
         };
         match place(number, reception.start(), self.settings.window) {
@@ -163,7 +213,7 @@ impl ReceivingEnd {
     /// Files a new segment if there is room for it, and moves the start.
     fn accept(&mut self, segment: Segment, slots: &mut Slots) -> Result<Reaction, Refusal> {
         let oldest_complete = self.complete.front().map(|unit| unit[0].number);
-        let Phase::Open(reception) = &mut self.phase else {
+        let Phase::Open { reception, .. } = &mut self.phase else {
             return Err(Refusal::State);
         };
         let oldest = oldest_complete.unwrap_or(reception.oldest());

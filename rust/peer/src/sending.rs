@@ -4,8 +4,10 @@ use std::collections::VecDeque;
 
 use crate::answer::{refuse_if, Refusal};
 use crate::course::Course;
-use crate::packet::{flags, kind};
-use crate::segment::{cut, rejoin, segment_count, sequence_number, Segment};
+use crate::heartbeat::Heartbeat;
+use crate::offer::{Offer, Rank};
+use crate::packet::kind;
+use crate::segment::{cut, rejoin, segment_count, Segment};
 use crate::settings::Settings;
 use crate::slots::Slots;
 use crate::state::{Reason, State};
@@ -22,9 +24,17 @@ mod window;
 #[derive(Clone, Debug, PartialEq, Eq)]
 enum Phase {
     Closed(Reason),
-    Enabled { open: Course, close_kept: bool },
-    Open(Window),
-    Closing { close: Course },
+    Enabled {
+        open: Course,
+        close_kept: bool,
+    },
+    Open {
+        window: Window,
+        heartbeat: Heartbeat,
+    },
+    Closing {
+        close: Course,
+    },
 }
 
 /// A transmit end and the units it holds.
@@ -35,23 +45,6 @@ pub(crate) struct SendingEnd {
     /// Units accepted and neither confirmed nor reclaimed, oldest first. They
     /// outlive the opening: "leaving OPEN never discards an unconfirmed unit".
     held: VecDeque<Vec<Segment>>,
-}
-
-/// What a packet is handed out as.
-#[derive(Clone, Copy, Debug, PartialEq, Eq)]
-pub(crate) enum Rank {
-    Control,
-    ResentData,
-    NewData,
-}
-
-/// A packet that an end would hand out.
-#[derive(Clone, Copy, Debug, PartialEq, Eq)]
-pub(crate) struct Offer<'a> {
-    pub(crate) kind: u8,
-    pub(crate) flags: u8,
-    pub(crate) number: u8,
-    pub(crate) payload: &'a [u8],
 }
 
 impl SendingEnd {
@@ -72,7 +65,7 @@ impl SendingEnd {
         match self.phase {
             Phase::Closed(_) => State::Closed,
             Phase::Enabled { .. } => State::Enabled,
-            Phase::Open(_) => State::Open,
+            Phase::Open { .. } => State::Open,
             Phase::Closing { .. } => State::Closing,
         }
     }
@@ -97,11 +90,11 @@ impl SendingEnd {
     }
 
     /// A Close directive (000, 4.4.3.3 and 4.4.3.4). CLOSING leaves the window
-    /// behind, and with it all Data sending and timers.
+    /// behind, and with it all Data sending and timers, and the Heartbeat.
     pub(crate) fn close(&mut self) -> Result<(), Refusal> {
         match &mut self.phase {
             Phase::Enabled { close_kept, .. } if !*close_kept => *close_kept = true,
-            Phase::Open(_) => self.phase = Phase::Closing { close: Course::NEW },
+            Phase::Open { .. } => self.phase = Phase::Closing { close: Course::NEW },
             _ => return Err(Refusal::State),
         }
         Ok(())
@@ -127,7 +120,7 @@ impl SendingEnd {
     /// Accepts a unit and files its segments (000, 4.4.2).
     pub(crate) fn transfer(&mut self, unit: &[u8], slots: &mut Slots) -> Result<(), Refusal> {
         let needed = self.test_transfer(unit.len())?;
-        let Phase::Open(window) = &mut self.phase else {
+        let Phase::Open { window, .. } = &mut self.phase else {
             return Err(Refusal::State);
         };
         let most_payload = self.settings.most_payload as usize;
@@ -155,19 +148,27 @@ impl SendingEnd {
             Phase::Enabled { open, close_kept } if *close_kept => {
                 (open, Phase::Closing { close: Course::NEW })
             }
-            Phase::Enabled { open, .. } => (open, Phase::Open(Window::NEW)),
+            Phase::Enabled { open, .. } => (open, self.opened()),
             Phase::Closing { close } => (close, Phase::Closed(Reason::None)),
-            Phase::Closed(_) | Phase::Open(_) => return Err(Refusal::State),
+            Phase::Closed(_) | Phase::Open { .. } => return Err(Refusal::State),
         };
         refuse_if(number != 0 || !course.was_sent(), Refusal::Ignored)?;
         self.phase = next;
         Ok(())
     }
 
+    /// OPEN as it begins.
+    fn opened(&self) -> Phase {
+        Phase::Open {
+            window: Window::NEW,
+            heartbeat: Heartbeat::new(self.settings.interval),
+        }
+    }
+
     /// A Data Ack; gives how many units it confirmed. "A unit is confirmed
     /// when the start has passed its last segment", so one beyond a gap is not.
     pub(crate) fn data_ack(&mut self, number: u8) -> Result<usize, Refusal> {
-        let Phase::Open(window) = &mut self.phase else {
+        let Phase::Open { window, .. } = &mut self.phase else {
             return Err(Refusal::State);
         };
         window.acknowledge(number)?;
@@ -178,20 +179,33 @@ impl SendingEnd {
         Ok(confirmed)
     }
 
+    /// The Heartbeat, in OPEN.
+    pub(crate) fn heartbeat(&mut self) -> Option<&mut Heartbeat> {
+        match &mut self.phase {
+            Phase::Open { heartbeat, .. } => Some(heartbeat),
+            _ => None,
+        }
+    }
+
     /// A tick; true if the channel went inactive in it. "If one ends and its
-    /// retries are used up, the channel goes inactive and CLOSED".
+    /// retries are used up, the channel goes inactive and CLOSED", by Data before
+    /// the Heartbeat is looked at.
     pub(crate) fn tick(&mut self) -> bool {
         let retries = self.settings.retries;
         let used_up = match &mut self.phase {
-            Phase::Closed(_) => false,
-            Phase::Enabled { open, .. } => open.tick(retries),
-            Phase::Open(window) => window.tick(retries),
-            Phase::Closing { close } => close.tick(retries),
+            Phase::Closed(_) => None,
+            Phase::Enabled { open: course, .. } | Phase::Closing { close: course } => {
+                course.tick(retries).then_some(Reason::Retries)
+            }
+            Phase::Open { window, heartbeat } => match window.tick(retries) {
+                true => Some(Reason::Retries),
+                false => heartbeat.tick(retries).then_some(Reason::Heartbeat),
+            },
         };
-        if used_up {
-            self.phase = Phase::Closed(Reason::Retries);
+        if let Some(reason) = used_up {
+            self.phase = Phase::Closed(reason);
         }
-        used_up
+        used_up.is_some()
     }
 
     /// Whether a packet of this rank is ready.
@@ -201,18 +215,20 @@ impl SendingEnd {
             Phase::Enabled { open: course, .. } | Phase::Closing { close: course } => {
                 rank == Rank::Control && course.is_ready()
             }
-            Phase::Open(window) => window.next_ready(self.settings.window, rank).is_some(),
+            Phase::Open { heartbeat, .. } if rank == Rank::Control => heartbeat.is_ready(),
+            Phase::Open { window, .. } => window.next_ready(self.settings.window, rank).is_some(),
         }
     }
 
     /// The packet of this rank that this end would hand out next, if any.
     pub(crate) fn offer(&self, rank: Rank) -> Option<Offer<'_>> {
-        let control = |kind| self.is_ready(rank).then(|| Offer::control(kind));
+        let alone = |kind| self.is_ready(rank).then(|| Offer::alone(kind));
         match &self.phase {
             Phase::Closed(_) => None,
-            Phase::Enabled { .. } => control(kind::OPEN),
-            Phase::Closing { .. } => control(kind::CLOSE),
-            Phase::Open(window) => {
+            Phase::Enabled { .. } => alone(kind::OPEN),
+            Phase::Closing { .. } => alone(kind::CLOSE),
+            Phase::Open { .. } if rank == Rank::Control => alone(kind::HEARTBEAT),
+            Phase::Open { window, .. } => {
                 let number = window.next_ready(self.settings.window, rank)?;
                 let mut segments = self.held.iter().flatten();
                 let segment = segments.find(|segment| segment.number == number)?;
@@ -221,41 +237,19 @@ impl SendingEnd {
         }
     }
 
-    /// Notes that the packet of [`SendingEnd::offer`] was handed out.
+    /// Notes that the packet of [`SendingEnd::offer`] was handed out. Data, new
+    /// or resent, restarts the Heartbeat timer.
     pub(crate) fn hand_out(&mut self, rank: Rank) {
         let timeout = self.settings.timeout;
         match &mut self.phase {
             Phase::Closed(_) => {}
             Phase::Enabled { open, .. } => open.hand_out(timeout),
-            Phase::Open(window) => window.hand_out(self.settings.window, rank, timeout),
+            Phase::Open { heartbeat, .. } if rank == Rank::Control => heartbeat.hand_out(timeout),
+            Phase::Open { window, heartbeat } => {
+                window.hand_out(self.settings.window, rank, timeout);
+                heartbeat.restart();
+            }
             Phase::Closing { close } => close.hand_out(timeout),
-        }
-    }
-}
-
-impl Rank {
-    /// "Control before resent Data before new Data."
-    pub(crate) const ALL: [Rank; 3] = [Rank::Control, Rank::ResentData, Rank::NewData];
-}
-
-impl<'a> Offer<'a> {
-    /// A Control packet: number 0, flags 11, no payload (000, 4.4.4.4,
-    /// 4.2.3.4.4 and 4.2.4.1).
-    fn control(kind: u8) -> Offer<'a> {
-        Offer {
-            kind,
-            flags: flags::WHOLE,
-            number: 0,
-            payload: &[],
-        }
-    }
-
-    fn data(segment: &'a Segment) -> Offer<'a> {
-        Offer {
-            kind: kind::DATA,
-            flags: segment.flags,
-            number: sequence_number(segment.number),
-            payload: &segment.octets,
         }
     }
 }

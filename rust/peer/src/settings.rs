@@ -85,6 +85,9 @@ pub struct Settings {
     pub close_timeout: u32,
     /// The resends allowed to a packet, 0 to 255.
     pub retries: u32,
+    /// The initial value of the Heartbeat timer of this end, to 65,535 ticks;
+    /// 0 if it makes no Heartbeat (document 02, A2; 000, 4.4.4.7 and 4.5.3.6).
+    pub interval: u32,
 }
 
 impl Settings {
@@ -98,6 +101,7 @@ impl Settings {
             && (1..=65_535).contains(&self.timeout)
             && (1..=65_535).contains(&self.close_timeout)
             && self.retries <= 255
+            && self.interval <= 65_535
             && self.remote_prefix.in_range()
             && self.own_prefix.in_range()
     }
@@ -118,15 +122,15 @@ impl Settings {
     }
 
     /// Whether packets of this channel, remote address and prefix, for an end
-    /// of this direction, are for this record.
+    /// of this direction, or of either, are for this record.
     pub(crate) fn serves(
         &self,
-        direction: Direction,
+        direction: Option<Direction>,
         channel: u16,
         remote: u8,
         prefix: &[u8],
     ) -> bool {
-        self.direction == direction && self.is_named(channel, remote, prefix)
+        direction.is_none_or(|end| end == self.direction) && self.is_named(channel, remote, prefix)
     }
 
     /// The octets of memory that this channel needs: slots times P.

@@ -1,6 +1,9 @@
 //! What a bystander may see of a record beyond its state, so that it can be
 //! held against another implementation. Looking changes nothing.
 
+use crate::course::Course;
+use crate::heartbeat::Heartbeat;
+
 /// A packet that waits for its ack.
 #[derive(Clone, Copy, Debug, PartialEq, Eq)]
 pub struct CourseSight {
@@ -39,4 +42,16 @@ pub struct Sight {
     pub accepted: bool,
     /// The close timer, of a receive end in CLOSING.
     pub close_timer: Option<u32>,
+    /// Ticks until a Heartbeat is made, in OPEN; 0 if none ever is.
+    pub heartbeat_timer: u32,
+    /// The Heartbeat that is ready or not acknowledged, in OPEN.
+    pub heartbeat: Option<CourseSight>,
+}
+
+impl Sight {
+    /// Adds the Heartbeat, which either end has in OPEN.
+    pub(crate) fn see(&mut self, heartbeat: &Heartbeat) {
+        self.heartbeat_timer = heartbeat.timer();
+        self.heartbeat = heartbeat.packet().map(Course::sight);
+    }
 }

@@ -30,4 +30,7 @@ pub enum Reason {
     DataNumber,
     /// The sequence flags did not make a unit.
     Flags,
+    /// The timer of a Heartbeat ended and its retries were used up (document
+    /// 02, A2).
+    Heartbeat,
 }

@@ -40,6 +40,7 @@ pub(crate) const SENDING: Settings = Settings {
     timeout: 4,
     close_timeout: 4,
     retries: 2,
+    interval: 0,
 };
 
 /// The settings of the replay's channel 1.
@@ -193,6 +194,7 @@ impl Rig {
             let fields = packet::read(packet).unwrap().fields;
             let ack = match fields.kind {
                 kind::DATA => kind::DATA_ACK,
+                kind::HEARTBEAT => kind::HEARTBEAT_ACK,
                 _ => kind::CONTROL_ACK,
             };
             assert_eq!(kind_and_number(&reply), (ack, fields.number));

@@ -25,6 +25,7 @@ fn settings(remote: u8, direction: u8) -> [Settings; 1] {
         timeout: 10,
         closing: 50,
         retries: 2,
+        interval: 0,
     };
     [Settings { addresses, limits }]
 }

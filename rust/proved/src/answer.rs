@@ -46,8 +46,8 @@ pub enum Refusal {
     /// Another header field is unexpected, or the payload is too long, or there
     /// is one where none may be.
     Strange,
-    /// Secondary header, a type that the base lacks, or, to be written, a prefix
-    /// of over 15 octets.
+    /// Secondary header, Flow Control, or, to be written, a type over 7 or a
+    /// prefix of over 15 octets.
     Lacking,
     /// The state, or the direction, does not allow it.
     State,

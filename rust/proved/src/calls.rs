@@ -197,8 +197,9 @@ pub fn reclaim(
     }
 }
 
-/// The packet that goes out next: 0, 11, 12 or 13. Control before resent Data before
-/// new Data; of a rank that of the first in its line who has one ready.
+/// The packet that goes out next: 0, 11, 12 or 13. Control and Heartbeats before
+/// resent Data before new Data; of a rank that of the first in its line who has one
+/// ready. A receiver hands out its Heartbeats.
 pub fn next_packet(
     table: &mut [Channel],
     memory: &mut [u8],
@@ -256,7 +257,7 @@ pub fn arrival(
     }
 }
 
-/// One tick of every timer: 0, 9 or 13.
+/// One tick of every timer and interval, of senders and receivers: 0, 9 or 13.
 pub fn tick(table: &mut [Channel], memory: &[u8], lengths: &[u16], lines: &mut [u8]) -> Said {
     // SAFETY: as above.
     unsafe {

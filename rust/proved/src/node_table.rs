@@ -136,7 +136,8 @@ impl<'a> NodeTable<'a> {
         self.answer(said)
     }
 
-    /// The packet that goes out next, at the front of `out`.
+    /// The packet that goes out next, at the front of `out`. A node that only
+    /// receives is to be asked, too: its Heartbeats go out so.
     pub fn next_packet(&mut self, out: &mut [u8]) -> Answer {
         let said = calls::next_packet(
             self.table,
@@ -166,7 +167,7 @@ impl<'a> NodeTable<'a> {
         self.answer(said)
     }
 
-    /// One tick of every timer.
+    /// One tick of every timer and interval, of senders and receivers.
     pub fn tick(&mut self) -> Answer {
         let said = calls::tick(self.table, self.memory, self.lengths, self.lines);
         self.answer(said)

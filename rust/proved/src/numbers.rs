@@ -40,7 +40,7 @@ pub mod state {
 pub mod reason {
     /// It did not.
     pub const NONE: u8 = 0;
-    /// A packet's retries were used up.
+    /// The retries of Data, an Open or a Close were used up.
     pub const RETRIES: u8 = 1;
     /// An Open came after Data was accepted.
     pub const LATE_OPEN: u8 = 2;
@@ -50,6 +50,8 @@ pub mod reason {
     pub const DATA_NUMBER: u8 = 4;
     /// The flags of segments in a row do not make units.
     pub const BROKEN_FLAGS: u8 = 5;
+    /// The retries of a Heartbeat were used up (document 02, A2).
+    pub const UNANSWERED: u8 = 6;
 }
 
 /// The states of a packet that is sent alone.

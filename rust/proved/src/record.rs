@@ -82,6 +82,9 @@ pub struct Limits {
     pub closing: u16,
     /// Resends allowed to a packet: 0 to 255.
     pub retries: u16,
+    /// Ticks after which this end makes a Heartbeat if it has sent neither Data nor
+    /// an Ack meanwhile, in OPEN; 0: it makes none.
+    pub interval: u16,
 }
 
 /// `PeatSettings`: of one channel.
@@ -94,7 +97,8 @@ pub struct Settings {
     pub limits: Limits,
 }
 
-/// `PeatLone`: one packet that is sent alone, a sender's Open or Close.
+/// `PeatLone`: one packet that is sent alone, a sender's Open or Close, or the
+/// Heartbeat of either end.
 #[repr(C)]
 #[derive(Clone, Copy, Debug, Default, PartialEq, Eq)]
 pub struct Lone {
@@ -120,6 +124,16 @@ pub struct Phase {
     pub accepted: u8,
     /// The Open or the Close of a sender.
     pub control: Lone,
+}
+
+/// `PeatPulse`: the Heartbeat of an end; all zeros out of OPEN, in a record that settings and calls alone have written.
+#[repr(C)]
+#[derive(Clone, Copy, Debug, Default, PartialEq, Eq)]
+pub struct Pulse {
+    /// Ticks left until a Heartbeat is made; 0: none runs.
+    pub left: u16,
+    /// The Heartbeat that is ready or not acknowledged.
+    pub beat: Lone,
 }
 
 /// `PeatWindow`: the window's first number, and what lies before it and from it
@@ -165,6 +179,8 @@ pub struct Channel {
     pub limits: Limits,
     /// Where an opening stands.
     pub phase: Phase,
+    /// Its Heartbeat.
+    pub pulse: Pulse,
     /// Where the window stands, and what is held.
     pub window: Window,
     /// What runs.
@@ -184,6 +200,17 @@ impl Addresses {
             direction: direction::SENDS,
             remote_prefix: Prefix::NONE,
             own_prefix: Prefix::NONE,
+        }
+    }
+}
+
+impl Lone {
+    /// None.
+    pub const fn blank() -> Self {
+        Lone {
+            state: lone::NONE,
+            timer: 0,
+            tries: 0,
         }
     }
 }
@@ -213,17 +240,18 @@ impl Channel {
                 timeout: 0,
                 closing: 0,
                 retries: 0,
+                interval: 0,
             },
             phase: Phase {
                 state: state::CLOSED,
                 reason: reason::NONE,
                 kept: 0,
                 accepted: 0,
-                control: Lone {
-                    state: lone::NONE,
-                    timer: 0,
-                    tries: 0,
-                },
+                control: Lone::blank(),
+            },
+            pulse: Pulse {
+                left: 0,
+                beat: Lone::blank(),
             },
             window: Window {
                 start: 0,

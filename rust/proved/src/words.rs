@@ -43,7 +43,7 @@ impl fmt::Display for State {
 /// Why a channel went inactive.
 #[derive(Clone, Copy, Debug, PartialEq, Eq)]
 pub enum Reason {
-    /// A packet's retries were used up.
+    /// The retries of Data, an Open or a Close were used up.
     Retries,
     /// An Open came after Data was accepted.
     LateOpen,
@@ -53,6 +53,8 @@ pub enum Reason {
     DataNumber,
     /// The flags of segments in a row do not make units.
     BrokenFlags,
+    /// The retries of a Heartbeat were used up.
+    Unanswered,
 }
 
 impl Reason {
@@ -64,6 +66,7 @@ impl Reason {
             reason::CONTROL_NUMBER => Some(Reason::ControlNumber),
             reason::DATA_NUMBER => Some(Reason::DataNumber),
             reason::BROKEN_FLAGS => Some(Reason::BrokenFlags),
+            reason::UNANSWERED => Some(Reason::Unanswered),
             _ => None,
         }
     }
@@ -77,6 +80,7 @@ impl fmt::Display for Reason {
             Reason::ControlNumber => "Control number",
             Reason::DataNumber => "Data number",
             Reason::BrokenFlags => "flags",
+            Reason::Unanswered => "Heartbeat unanswered",
         })
     }
 }

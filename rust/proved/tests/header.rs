@@ -49,6 +49,7 @@ fn of_records() -> Vec<(&'static str, usize)> {
         ("CONTROL_NUMBER", reason::CONTROL_NUMBER),
         ("DATA_NUMBER", reason::DATA_NUMBER),
         ("BROKEN_FLAGS", reason::BROKEN_FLAGS),
+        ("UNANSWERED", reason::UNANSWERED),
         ("LONE_NONE", lone::NONE),
         ("LONE_READY", lone::READY),
         ("LONE_OUT", lone::OUT),
@@ -67,7 +68,14 @@ fn of_records() -> Vec<(&'static str, usize)> {
 
 /// Of the packet alone (000, 4.2.3): this crate has no names for them.
 fn of_packets() -> Vec<(&'static str, usize)> {
-    let kinds = ["DATA", "DATA_ACK", "OPEN_COMMAND", "CLOSE_COMMAND"];
+    let kinds = [
+        "DATA",
+        "DATA_ACK",
+        "OPEN_COMMAND",
+        "CLOSE_COMMAND",
+        "HEARTBEAT",
+        "HEARTBEAT_ACK",
+    ];
     let flags = ["CONTINUATION", "FIRST", "LAST", "WHOLE"];
     let others = [("CONTROL_ACK", 7), ("VERSION", 1), ("ACK_OCTETS", 12)];
     let counted = kinds.into_iter().zip(0..).chain(flags.into_iter().zip(0..));

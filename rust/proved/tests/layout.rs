@@ -3,8 +3,8 @@
 //! That the library reads and writes them at these places is shown by the tests
 //! beside this one, `written` and `read`.
 
-use proved::{Addresses, Channel, Fields, Limits, Lone, Node, Phase, Prefix, Reading, Said};
-use proved::{Settings, Timers, Window, Writing};
+use proved::{Addresses, Channel, Fields, Limits, Lone, Node, Phase, Prefix, Pulse, Reading};
+use proved::{Said, Settings, Timers, Window, Writing};
 use std::mem::{align_of, offset_of, size_of};
 
 const TABLE: &str = include_str!("../../../tests/layout.txt");
@@ -38,13 +38,14 @@ fn records_lie_as_the_table_says() {
         Node: address protocol;
         Prefix: length octets;
         Addresses: channel remote direction remote_prefix own_prefix;
-        Limits: window slots payload segments timeout closing retries;
+        Limits: window slots payload segments timeout closing retries interval;
         Settings: addresses limits;
         Lone: state timer tries;
         Phase: state reason kept accepted control;
+        Pulse: left beat;
         Window: start place behind ahead flight way;
         Timers: closing left tries;
-        Channel: addresses limits phase window timers marks acked;
+        Channel: addresses limits phase pulse window timers marks acked;
         Said: number reason length confirmed index;
         Fields: destination protocol version secondary flags kind channel number reserved source;
         Reading: answer fields prefix start length;

@@ -11,7 +11,7 @@ mod ends;
 
 use ends::{both_open, done, refused, unserved, End, HOST, LIMITS, STATION};
 use proved::record::{direction, lone, reason, state, LINES, PREFIX, SLOTS};
-use proved::{calls, Channel, Limits, Said, Settings};
+use proved::{calls, Channel, Limits, Pulse, Said, Settings};
 
 const INACTIVE: Said = Said {
     number: 9,
@@ -19,6 +19,11 @@ const INACTIVE: Said = Said {
     length: 0,
     confirmed: 0,
     index: 0,
+};
+
+const UNANSWERED: Said = Said {
+    reason: reason::UNANSWERED as u32,
+    ..INACTIVE
 };
 
 type Overwrite = fn(&mut Channel);
@@ -77,7 +82,7 @@ fn all_refused(end: fn() -> End, overwrites: &[Overwrite]) {
 
 #[test]
 fn what_the_condition_bounds_of_either_end() {
-    let either: [Overwrite; 17] = [
+    let either: [Overwrite; 18] = [
         |record| record.addresses.direction = 2,
         |record| record.addresses.remote_prefix.length = 16,
         |record| record.addresses.remote_prefix.octets[14] = 1,
@@ -91,10 +96,11 @@ fn what_the_condition_bounds_of_either_end() {
         |record| record.limits.closing = 0,
         |record| record.limits.retries = 256,
         |record| record.phase.state = 4,
-        |record| record.phase.reason = 6,
+        |record| record.phase.reason = 7,
         |record| record.phase.kept = 2,
         |record| record.phase.accepted = 2,
         |record| record.phase.control.state = 4,
+        |record| record.pulse.beat.state = 4,
     ];
     all_refused(sending, &either);
     all_refused(receiving, &either);
@@ -153,6 +159,7 @@ fn settings_are_read_field_by_field() {
     assert_eq!(say(|of| of.limits.timeout = 0), 13);
     assert_eq!(say(|of| of.limits.closing = 0), 13);
     assert_eq!(say(|of| of.limits.retries = 256), 13);
+    assert_eq!(say(|of| of.limits.interval = 65_535), 0);
 }
 
 /// Each octet of a prefix, past a length of 0 in the standing condition, and of a
@@ -236,6 +243,32 @@ fn what_the_condition_leaves_free() {
     station.record().timers.closing = 1;
     assert_eq!(station.tick(), unserved(0));
     assert_eq!(station.record().phase.state, state::CLOSED);
+}
+
+/// The Heartbeat of either end: each of its numbers, and the interval, which settings
+/// put beside the others.
+#[test]
+fn what_is_read_of_a_heartbeat() {
+    let (host, station) = both_open(LIMITS);
+    for mut end in [host, station] {
+        end.record().limits.interval = 0x0203;
+        end.record().pulse.left = 1;
+        assert_eq!(end.tick(), unserved(0));
+        let pulse = end.record().pulse;
+        assert_eq!((pulse.left, pulse.beat.state), (0x0203, lone::READY));
+        end.record().pulse.left = 0x0405;
+        assert_eq!(end.tick(), unserved(0));
+        assert_eq!(end.record().pulse.left, 0x0404);
+        end.packet();
+        end.record().pulse.beat.timer = 1;
+        assert_eq!(end.tick(), unserved(0));
+        assert_eq!(end.record().pulse.beat.state, lone::AGAIN);
+        end.record().pulse.beat.state = lone::OUT;
+        end.record().pulse.beat.timer = 1;
+        end.record().pulse.beat.tries = 0;
+        assert_eq!(end.tick(), UNANSWERED);
+        assert_eq!(end.record().pulse, Pulse::default());
+    }
 }
 
 #[test]

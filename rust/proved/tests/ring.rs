@@ -15,6 +15,7 @@ const WIDE: Limits = Limits {
     payload: 1,
     timeout: 1_000,
     retries: 200,
+    interval: 0,
     ..LIMITS
 };
 

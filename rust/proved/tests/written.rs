@@ -12,7 +12,8 @@ mod ends;
 
 use ends::{both_open, done, End, HOST, LIMITS, STATION};
 use proved::record::{direction, lone, state, LINES, PREFIX, SLOTS};
-use proved::{calls, Addresses, Channel, Limits, Lone, Phase, Prefix, Settings, Timers, Window};
+use proved::{calls, Addresses, Channel, Limits, Lone, Phase, Prefix, Pulse, Settings};
+use proved::{Timers, Window};
 
 const SPOILT_LIMITS: Limits = Limits {
     window: usize::MAX - 1,
@@ -22,6 +23,7 @@ const SPOILT_LIMITS: Limits = Limits {
     timeout: 0xB1B2,
     closing: 0xB3B4,
     retries: 0xB5B6,
+    interval: 0xB7B8,
 };
 
 const SPOILT_WINDOW: Window = Window {
@@ -59,6 +61,14 @@ const SPOILT: Channel = Channel {
             tries: 0xD8D9,
         },
     },
+    pulse: Pulse {
+        left: 0xDADB,
+        beat: Lone {
+            state: 0xDC,
+            timer: 0xDDDE,
+            tries: 0xDFE0,
+        },
+    },
     window: SPOILT_WINDOW,
     timers: Timers {
         closing: 0xE1E2,
@@ -88,6 +98,7 @@ fn settings_write_every_field() {
         timeout: 0x0A0B,
         closing: 0x0C0D,
         retries: 255,
+        interval: 0x0E0F,
     };
     let octets: Vec<u8> = (0x11..).take(4 * PREFIX).collect();
     let prefix = |place: usize, count| Prefix::of(&octets[place * PREFIX..][..count]).unwrap();
@@ -131,6 +142,45 @@ fn a_sender_opens() {
     host.close();
     expected.phase.kept = 1;
     assert_eq!(*host.record(), expected);
+}
+
+/// The Heartbeat of either end, through all its states: the ticks left, the timer and
+/// the resends are numbers of their own. Nothing else of the record changes.
+#[test]
+fn an_end_makes_heartbeats() {
+    let limits = Limits {
+        interval: 3,
+        timeout: 0x0105,
+        retries: 2,
+        ..LIMITS
+    };
+    let (host, station) = both_open(limits);
+    for mut end in [host, station] {
+        let mut expected = *end.record();
+        assert_eq!(expected.pulse.left, 3);
+        assert_eq!(expected.pulse.beat, Lone::blank());
+        end.tick();
+        expected.pulse.left = 2;
+        assert_eq!(*end.record(), expected);
+        end.tick();
+        end.tick();
+        expected.pulse.left = 3;
+        expected.pulse.beat.state = lone::READY;
+        // The resends left are said by the hand-out alone.
+        expected.pulse.beat.tries = end.record().pulse.beat.tries;
+        assert_eq!(*end.record(), expected);
+        end.packet();
+        expected.pulse.beat = Lone {
+            state: lone::OUT,
+            timer: 0x0105,
+            tries: 2,
+        };
+        assert_eq!(*end.record(), expected);
+        end.tick();
+        expected.pulse.left = 2;
+        expected.pulse.beat.timer = 0x0104;
+        assert_eq!(*end.record(), expected);
+    }
 }
 
 /// Both open, and one unit of one segment gone through: the start is 2, in place 1.

@@ -1,7 +1,7 @@
 //! Two nodes, the links between them, and the accounts of their channels.
 
 use link::{one_bit, Flight, Link, Noise, Place, Weather};
-use proved::record::{state, Limits};
+use proved::record::{direction, reason, state, Limits};
 
 use crate::account::Account;
 use crate::node::Node;
@@ -16,8 +16,10 @@ use tables::{accounts_of, prefixes_of, table_of};
 /// The addresses of the two nodes.
 const ADDRESSES: [u8; 2] = [64, 65];
 
-/// The packet type of Data.
+/// The packet types of Data, a Heartbeat and its Ack.
 const DATA: u8 = 0;
+const HEARTBEAT: u8 = 4;
+const HEARTBEAT_ACK: u8 = 5;
 
 /// Two nodes and what a bystander knows of them.
 pub struct World {
@@ -103,10 +105,13 @@ impl World {
         for (index, &state) in before.iter().enumerate() {
             let record = self.nodes[node].record(index);
             if state != state::CLOSED && record.phase.state == state::CLOSED {
+                let receives = record.addresses.direction == direction::RECEIVES;
                 match record.phase.reason {
-                    0 => self.counts.closed += 1,
+                    reason::NONE => self.counts.closed += 1,
                     reason => self.counts.inactive[usize::from(reason) - 1] += 1,
                 }
+                let unanswered = record.phase.reason == reason::UNANSWERED;
+                self.counts.unanswered[usize::from(receives)] += u64::from(unanswered);
             }
         }
     }
@@ -117,8 +122,12 @@ impl World {
             return;
         };
         let channel = usize::from(u16::from_be_bytes([packet[5], packet[6]]));
-        let is_data = packet[2] & 0b111 == DATA;
-        let segment = is_data.then(|| self.accounts[channel].units.segment_sent(packet[7]));
+        let kind = packet[2] & 0b111;
+        let account = &mut self.accounts[channel];
+        let subscriber = usize::from(account.subscriber.node == node);
+        self.counts.heartbeats[subscriber] += u64::from(kind == HEARTBEAT);
+        assert!(subscriber == 0 || kind == HEARTBEAT, "of a subscriber");
+        let segment = (kind == DATA).then(|| account.units.segment_sent(packet[7]));
         self.counts.regional += u64::from(packet[8] > 0);
         self.links[1 - node].send(&packet, segment, self.weather, &mut self.noise);
     }
@@ -159,6 +168,13 @@ impl World {
             self.counts.units[1] += said.confirmed as u64;
         }
         self.counts.packets[3] += u64::from(said.number == 15);
+        if !flight.damaged && said.number == 0 {
+            match flight.octets[2] & 0b111 {
+                HEARTBEAT => self.counts.heartbeats[2] += 1,
+                HEARTBEAT_ACK => self.counts.heartbeats[3] += 1,
+                _ => {}
+            }
+        }
         if !reply.is_empty() {
             self.links[1 - node].send(&reply, flight.segment, self.weather, &mut self.noise);
         }

@@ -57,6 +57,14 @@ fn limits([window, slots, payload, segments]: [usize; 4], retries: u16) -> Limit
         timeout: 4,
         closing: 9,
         retries,
+        interval: 0,
+    }
+}
+
+/// Every other channel makes Heartbeats at both ends, after a few ticks.
+fn with_intervals(channels: &mut [(usize, Limits)], from: usize) {
+    for (place, (_, limits)) in (from..).zip(channels) {
+        limits.interval = [0, 1, 0, 3, 0, 12][place % 6];
     }
 }
 
@@ -71,9 +79,10 @@ fn run(channels: &[(usize, Limits)], weather: Weather, rounds: usize, seed: u64)
         }
     }
     world.weather = FAIR;
-    // A few units at first: without them an idle host would not notice that the
-    // other end has closed.
-    for load in [5, 0] {
+    // A few units at first: without them, or a Heartbeat, an idle host would not
+    // notice that the other end has closed.
+    let lively = channels.iter().all(|(_, limits)| limits.interval > 0);
+    for load in [if lively { 0 } else { 5 }, 0] {
         world.load = load;
         (0..600).for_each(|_| world.round());
     }
@@ -92,7 +101,8 @@ fn run_shapes(weather: Weather, retries: u16, rounds: usize) -> Counts {
     let mut counts = Counts::default();
     for seed in 0..seeds() {
         for (place, shape) in (1..).zip(SHAPES) {
-            let channels = [(0, limits(shape, retries))];
+            let mut channels = [(0, limits(shape, retries))];
+            with_intervals(&mut channels, (seed + place) as usize);
             counts.add(&run(&channels, weather, rounds, 1_000 * seed + place));
         }
     }
@@ -104,9 +114,10 @@ fn run_shapes(weather: Weather, retries: u16, rounds: usize) -> Counts {
 fn run_several() -> Counts {
     let shapes = [[4, 7, 3, 4], [8, 11, 1, 6], [1, 5, 2, 5], [2, 3, 4, 1]];
     let directed = |(place, shape)| (place % 2, limits(shape, 6));
-    let channels: Vec<_> = shapes.into_iter().enumerate().map(directed).collect();
+    let mut channels: Vec<_> = shapes.into_iter().enumerate().map(directed).collect();
     let mut counts = Counts::default();
     for seed in 0..seeds() {
+        with_intervals(&mut channels, seed as usize);
         for weather in [ORDERLY, UNSTEADY, STORMY] {
             counts.add(&run(&channels, weather, 1_200, 1_000 * seed + 100));
         }
@@ -151,9 +162,11 @@ fn where_every_unit_is() {
     assert!(all.packets.iter().all(|&count| count > 0));
     assert!(all.closed > 0 && all.wrapped > 0 && all.regional > 1_000);
     // The link delivers what was sent: no Control number and no flags are wrong.
-    let [retries, late_open, control, data, flags] = all.inactive;
+    let [retries, late_open, control, data, flags, _] = all.inactive;
     assert!(retries > 0 && late_open > 0 && data > 0);
     assert_eq!((control, flags), (0, 0));
+    assert!(all.heartbeats.iter().all(|&count| count > 1_000));
+    assert!(all.unanswered.iter().all(|&count| count > 0));
 }
 
 /// From this seed a copy comes back when the window has started between 193 and

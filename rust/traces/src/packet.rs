@@ -3,8 +3,9 @@
 
 use crate::words;
 
-/// The numbers of the replay's two channels. Acks belong to the sending one,
-/// Data and Control to the receiving one.
+/// The numbers of the replay's two channels. Data Acks and Control Acks belong to
+/// the sending one, Data and Control to the receiving one; Heartbeats and their
+/// Acks to either.
 #[derive(Clone, Copy, Debug)]
 pub struct Numbers {
     /// Of channel 0.
@@ -41,6 +42,10 @@ pub const DATA_ACK: u8 = 1;
 pub const OPEN: u8 = 2;
 /// The code of Close.
 pub const CLOSE: u8 = 3;
+/// The code of Heartbeat.
+pub const HEARTBEAT: u8 = 4;
+/// The code of Heartbeat Ack.
+pub const HEARTBEAT_ACK: u8 = 5;
 /// The code of Control Ack.
 pub const CONTROL_ACK: u8 = 7;
 
@@ -59,7 +64,8 @@ pub struct Packet {
     kind: u8,
     /// The payload length that it claims, if not the true one.
     length: Option<u16>,
-    channel: u16,
+    /// The channel number.
+    pub channel: u16,
     /// The sequence number.
     pub number: u8,
     reserved: u8,
@@ -76,12 +82,13 @@ pub struct Packet {
 }
 
 impl Packet {
-    /// A packet of this type from the remote node, sound and empty, numbered 0.
+    /// A packet of this type from the remote node, sound and empty, numbered 0. A
+    /// Heartbeat or its Ack, of which "no field tells its end" (document 02, A2), is
+    /// for the receiving channel.
     pub fn new(kind: u8, numbers: Numbers) -> Packet {
-        let channel = if TYPES[usize::from(kind)].ends_with("ack") {
-            numbers.sending
-        } else {
-            numbers.receiving
+        let channel = match kind {
+            DATA_ACK | CONTROL_ACK => numbers.sending,
+            _ => numbers.receiving,
         };
         Packet {
             destination: 64,
@@ -112,7 +119,11 @@ impl Packet {
             let (field, value) = setting
                 .split_once('=')
                 .ok_or(format!("'{setting}' sets no field"))?;
-            packet.set(field, value, round)?;
+            match (field, value) {
+                ("channel", "sending") => packet.channel = numbers.sending,
+                ("channel", "receiving") => packet.channel = numbers.receiving,
+                _ => packet.set(field, value, round)?,
+            }
         }
         Ok(packet)
     }
@@ -237,12 +248,15 @@ mod tests {
     #[test]
     fn channel_numbers_by_type() {
         let channels = TYPES.map(|kind| octets(kind, NUMBERS)[6]);
-        assert_eq!(channels, [2, 1, 2, 2, 2, 1, 2, 1]);
+        assert_eq!(channels, [2, 1, 2, 2, 2, 2, 2, 1]);
         let numbers = Numbers {
             sending: 3,
             receiving: 4,
         };
         let channels = TYPES.map(|kind| octets(kind, numbers)[6]);
-        assert_eq!(channels, [4, 3, 4, 4, 4, 3, 4, 3]);
+        assert_eq!(channels, [4, 3, 4, 4, 4, 4, 4, 3]);
+        let named = ["sending", "receiving", "9"];
+        let named = named.map(|end| octets(&format!("heartbeat channel={end}"), numbers)[6]);
+        assert_eq!(named, [3, 4, 9]);
     }
 }

@@ -2,7 +2,9 @@
 
 use link::Noise;
 
-use crate::packet::{Packet, CLOSE, CONTROL_ACK, DATA, DATA_ACK, NUMBERS, OPEN};
+use crate::packet::{
+    Packet, CLOSE, CONTROL_ACK, DATA, DATA_ACK, HEARTBEAT, HEARTBEAT_ACK, NUMBERS, OPEN,
+};
 use crate::record::Record;
 
 /// Where the seeds of these inputs start.
@@ -151,10 +153,14 @@ fn damaged(mut record: Vec<u8>, noise: &mut Noise) -> Vec<u8> {
 }
 
 /// A packet of any type with no payload, numbered 0 most times, and at times with
-/// a prefix, which the replay's channels do not have.
+/// a prefix, which the replay's channels do not have. A Heartbeat or its Ack may be
+/// for either channel.
 fn lone(kind: u8, noise: &mut Noise) -> Vec<u8> {
     let mut packet = Packet::new(kind, NUMBERS);
     packet.number = u8::from(noise.one_in(8));
+    if [HEARTBEAT, HEARTBEAT_ACK].contains(&kind) && noise.one_in(2) {
+        packet.channel = NUMBERS.sending;
+    }
     if noise.one_in(4) {
         packet.prefix = vec![0; noise.one_of(&[1, 2, 14, 15])];
     }

@@ -1,5 +1,6 @@
 //! Which cases of the lines a call was, for the table that is printed.
 
+use peer::packet::kind;
 use peer::settings::Direction;
 use proved::Said;
 
@@ -9,8 +10,9 @@ use crate::tally::Tally;
 use crate::twin::Twin;
 
 /// Every case of the lines that a run must have had.
-pub const ORDERS: [&str; 11] = [
-    LOWER, BACK, SMALL, TOGETHER, ACKED, CLOSED, INACTIVE, PASSED, UNSERVED, NEW_FIRST, RECEIVER,
+pub const ORDERS: [&str; 13] = [
+    LOWER, BACK, SMALL, TOGETHER, ACKED, ANSWERED, CLOSED, INACTIVE, RECEIVES, PASSED, UNSERVED,
+    NEW_FIRST, RECEIVER,
 ];
 
 const LOWER: &str = "lines: a lower index is ready, and stands behind the one served";
@@ -18,12 +20,18 @@ const BACK: &str = "lines: the one served goes to the tail, behind others";
 const SMALL: &str = "lines: 11 at the head, and others stand behind it";
 const TOGETHER: &str = "lines: several join in one tick";
 const ACKED: &str = "lines: one leaves by a Data Ack";
+const ANSWERED: &str = "lines: one leaves by a Heartbeat Ack";
 const CLOSED: &str = "lines: one leaves by a Close directive";
 const INACTIVE: &str = "lines: one leaves by inactivity";
+const RECEIVES: &str = "lines: a receiver is served, and a sender stands behind it";
 const PASSED: &str = "written lines: one who is not ready is passed over";
 const UNSERVED: &str = "written lines: one who is ready stands nowhere, and 12";
 const NEW_FIRST: &str = "written lines: new Data before the channel's resent Data";
-const RECEIVER: &str = "written lines: a receiver leaves by a call of its own";
+const RECEIVER: &str = "written lines: a receiver leaves a line of Data by a call of its own";
+
+fn is_heartbeat_ack(packet: &[u8]) -> bool {
+    packet[2] & 0b111 == kind::HEARTBEAT_ACK
+}
 
 impl Twin {
     /// A packet of the channel that the lines chose, with 0 or 11.
@@ -34,12 +42,15 @@ impl Twin {
         let after = standing(&self.lines, rank);
         let mut others = before.iter().copied().map(usize::from);
         let lower = others.any(|one| one < index && is_ready(&self.before[one], rank));
+        let sends = |one: &u8| self.direction((*one).into()) == Direction::Sending;
+        let receives = self.direction(index) == Direction::Receiving;
         let small = said.number == 11;
         let back = !small && after.len() > 1 && stands(&self.lines, rank, index);
         let cases = [
             (lower, LOWER),
             (back, BACK),
             (small && before.len() > 1, SMALL),
+            (receives && after.iter().any(sends), RECEIVES),
             (usize::from(before[0]) != index, PASSED),
             (rank == 2 && is_ready(&self.before[index], 1), NEW_FIRST),
         ];
@@ -69,10 +80,13 @@ impl Twin {
                 (Call::Tick, 0, _) if joined.count() > 1 => tally.case(TOGETHER),
                 (Call::Tick, 9, Some(_)) => tally.case(INACTIVE),
                 (Call::Close(_), 0, Some(_)) => tally.case(CLOSED),
-                (Call::Arrival(_) | Call::Take(_), _, Some(Direction::Receiving)) => {
+                (Call::Arrival(_) | Call::Take(_), _, Some(Direction::Receiving)) if rank > 0 => {
                     tally.case(RECEIVER);
                 }
                 (Call::Arrival(_), 0, Some(_)) if rank == 1 => tally.case(ACKED),
+                (Call::Arrival(packet), 0, Some(_)) if is_heartbeat_ack(packet) => {
+                    tally.case(ANSWERED);
+                }
                 _ => {}
             }
         }

@@ -1,16 +1,18 @@
 //! Which cases a call was, for the table that is printed.
 
 use super::*;
-use crate::found::BY_DIRECTION;
+use crate::found::{BY_DIRECTION, FIRST};
+use crate::overwriting::ANOTHER_HEARTBEAT;
 use proved::Said;
 
 /// Every case that a run must have had, beside those with a list of their own.
-pub const CASES: [&str; 24] = [
+pub const CASES: [&str; 27] = [
     "inactive: retries",
     "inactive: late Open",
     "inactive: Control number",
     "inactive: Data number",
     "inactive: flags",
+    "inactive: Heartbeat",
     "confirmed: no unit by a Data Ack",
     "confirmed: one unit by a Data Ack",
     "confirmed: several units by a Data Ack",
@@ -30,6 +32,8 @@ pub const CASES: [&str; 24] = [
     "13: overwritten lines are sound, and count",
     "13: settings over an overwritten table are accepted",
     BY_DIRECTION,
+    FIRST,
+    ANOTHER_HEARTBEAT,
 ];
 
 impl World {
@@ -48,6 +52,8 @@ impl World {
             Some(kind::DATA_ACK) => "read Data Ack",
             Some(kind::OPEN) => "read Open",
             Some(kind::CLOSE) => "read Close",
+            Some(kind::HEARTBEAT) => "read Heartbeat",
+            Some(kind::HEARTBEAT_ACK) => "read Heartbeat Ack",
             _ => "read Control Ack",
         };
         self.tally.answer(line, said.number);
@@ -116,12 +122,13 @@ impl World {
     }
 }
 
-fn reason_case(reason: u32) -> &'static str {
+pub(super) fn reason_case(reason: u32) -> &'static str {
     match reason {
         1 => "inactive: retries",
         2 => "inactive: late Open",
         3 => "inactive: Control number",
         4 => "inactive: Data number",
-        _ => "inactive: flags",
+        5 => "inactive: flags",
+        _ => "inactive: Heartbeat",
     }
 }

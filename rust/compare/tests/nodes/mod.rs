@@ -25,6 +25,7 @@ pub fn settings(channel: u16, timeout: u32, retries: u32) -> Settings {
         timeout,
         close_timeout: timeout,
         retries,
+        interval: 0,
     }
 }
 
@@ -83,7 +84,12 @@ impl Nodes {
 
     /// A packet of node 0, if one is ready.
     pub fn packet(&mut self) -> Option<Vec<u8>> {
-        let outcome = self.twins[0].call(Call::NextPacket, self.room, &mut self.tally);
+        self.packet_of(0)
+    }
+
+    /// A packet of a node, if one is ready.
+    pub fn packet_of(&mut self, node: usize) -> Option<Vec<u8>> {
+        let outcome = self.twins[node].call(Call::NextPacket, self.room, &mut self.tally);
         (outcome.said.number == 0).then_some(outcome.octets)
     }
 

@@ -2,9 +2,9 @@
 //! "Arrivals test 11, 1, 2, 4, 3, 14, .."; 000, 4.4.4.2, 4.5.3.2 and 4.6.3).
 
 use crate::answer::{refuse_if, Answer, Refusal};
+use crate::channel::Channel;
 use crate::packet::{self, kind, Fields, HEADER_LENGTH, TRAILER_LENGTH};
-use crate::receiving::{Reaction, ReceivingEnd};
-use crate::sending::SendingEnd;
+use crate::receiving::Reaction;
 use crate::settings::{Direction, NodeSettings, Settings};
 use crate::slots::Slots;
 
@@ -35,30 +35,33 @@ impl Node {
             payload: reading.payload_of(packet),
         };
         match fields.kind {
-            kind::DATA_ACK | kind::CONTROL_ACK => self.ack_arrives(&arrived),
-            _ => self.forward_arrives(&arrived, reply),
+            kind::DATA_ACK | kind::CONTROL_ACK | kind::HEARTBEAT_ACK => self.ack_arrives(&arrived),
+            _ => self.non_ack_arrives(&arrived, reply),
         }
     }
 
-    /// An Ack looks for a sending record. No reply is due to it.
+    /// An Ack: no reply is due to it.
     fn ack_arrives(&mut self, arrived: &Arrived) -> Result<Answer, Refusal> {
-        let index = self.find(Direction::Sending, arrived)?;
+        let index = self.find(arrived)?;
         let fields = &arrived.fields;
-        Ok(self.serve(index, |channel, _| acknowledged(channel.sending()?, fields)))
+        Ok(self.serve(index, |channel, _| acknowledged(channel, fields)))
     }
 
-    /// Data and Control, the packets of the forward direction (000, 4.2), look
-    /// for a receiving record. "A reply buffer under 12 + N octets, N being
+    /// Data, Control or a Heartbeat. "A reply buffer under 12 + N octets, N being
     /// that of the reply, now gives 11, tested once the channel is known"
     /// (document 02, A7), whatever would be answered.
-    fn forward_arrives(&mut self, arrived: &Arrived, reply: &mut [u8]) -> Result<Answer, Refusal> {
-        let index = self.find(Direction::Receiving, arrived)?;
+    fn non_ack_arrives(&mut self, arrived: &Arrived, reply: &mut [u8]) -> Result<Answer, Refusal> {
+        let index = self.find(arrived)?;
         let node = self.node;
         Ok(self.serve(index, |channel, slots| {
             let settings = *channel.settings();
             test_room(reply, ACK_LENGTH + settings.own_prefix.said().len())?;
-            let reaction = received(channel.receiving()?, arrived, slots)?;
-            let mut acknowledge = || acknowledge(&node, &settings, &arrived.fields, reply);
+            let reaction = received(channel, arrived, slots)?;
+            let mut acknowledge = || {
+                let length = acknowledge(&node, &settings, &arrived.fields, reply)?;
+                transmitted(channel);
+                Ok(length)
+            };
             match reaction {
                 Reaction::Accepted => acknowledge().map(Answer::written),
                 Reaction::Repeated => acknowledge().map(Answer::repeated),
@@ -69,17 +72,29 @@ impl Node {
 
     /// The record for a packet: "none found is 14". Its source address, prefix
     /// and all, is the record's remote address.
-    fn find(&self, direction: Direction, arrived: &Arrived) -> Result<usize, Refusal> {
+    fn find(&self, arrived: &Arrived) -> Result<usize, Refusal> {
         let Fields {
             channel, source, ..
         } = arrived.fields;
+        let end = end_for(arrived.fields.kind);
         self.channels
             .iter()
             .position(|one| {
                 let settings = one.settings();
-                settings.serves(direction, channel, source, arrived.prefix)
+                settings.serves(end, channel, source, arrived.prefix)
             })
             .ok_or(Refusal::NoChannel)
+    }
+}
+
+/// Which end a packet is for: "Data and Control look for a receiving record, Acks
+/// for a sending one". A Heartbeat and its Ack go both ways, and "no field tells
+/// its end" (document 02, A2).
+fn end_for(kind: u8) -> Option<Direction> {
+    match kind {
+        kind::HEARTBEAT | kind::HEARTBEAT_ACK => None,
+        kind::DATA_ACK | kind::CONTROL_ACK => Some(Direction::Sending),
+        _ => Some(Direction::Receiving),
     }
 }
 
@@ -88,41 +103,64 @@ fn test_room(reply: &[u8], wanted: usize) -> Result<(), Refusal> {
     refuse_if(reply.len() < wanted, Refusal::Buffer { wanted })
 }
 
-/// What an Ack does to the transmit end that it is for.
-fn acknowledged(end: &mut SendingEnd, fields: &Fields) -> Result<Answer, Refusal> {
-    if fields.kind == kind::DATA_ACK {
-        end.data_ack(fields.number).map(Answer::confirmed)
-    } else {
-        end.control_ack(fields.number).map(|()| Answer::DONE)
+/// What an Ack does to the channel that it is for.
+fn acknowledged(channel: &mut Channel, fields: &Fields) -> Result<Answer, Refusal> {
+    let number = fields.number;
+    match fields.kind {
+        kind::DATA_ACK => channel.sending()?.data_ack(number).map(Answer::confirmed),
+        kind::CONTROL_ACK => channel.sending()?.control_ack(number).map(done),
+        _ => channel.heartbeat()?.acknowledge(number).map(done),
     }
 }
 
-/// What Data or Control does to the receive end that it is for.
+fn done(_: ()) -> Answer {
+    Answer::DONE
+}
+
+/// What Data, Control or a Heartbeat does to the channel that it is for. A
+/// Heartbeat does nothing, in OPEN, whatever its number; elsewhere it gives 5.
 fn received(
-    end: &mut ReceivingEnd,
+    channel: &mut Channel,
     arrived: &Arrived,
     slots: &mut Slots,
 ) -> Result<Reaction, Refusal> {
-    let fields = &arrived.fields;
-    if fields.kind == kind::DATA {
-        end.data(fields.number, fields.flags, arrived.payload, slots)
-    } else {
-        end.control(fields.kind, fields.number)
+    let Fields {
+        kind,
+        number,
+        flags,
+        ..
+    } = arrived.fields;
+    match kind {
+        kind::DATA => {
+            let end = channel.receiving()?;
+            end.data(number, flags, arrived.payload, slots)
+        }
+        kind::HEARTBEAT => channel.heartbeat().map(|_| Reaction::Accepted),
+        _ => channel.receiving()?.control(kind, number),
     }
 }
 
-/// Writes the ack for a packet: its number copied (000, 4.5.3.4), back to its
-/// source (000, 4.2.3.1), from this end's own address (000, 4.2.3.9).
+/// An end has transmitted an Ack: in OPEN that restarts its Heartbeat timer (000,
+/// 4.4.4.7 and 4.5.3.6), and elsewhere there is none.
+fn transmitted(channel: &mut Channel) {
+    if let Ok(heartbeat) = channel.heartbeat() {
+        heartbeat.restart();
+    }
+}
+
+/// Writes the ack for a packet: its number copied (000, 4.5.3.4, 4.4.4.7 and
+/// 4.5.3.6), back to its source (000, 4.2.3.1), from this end's own address (000,
+/// 4.2.3.9).
 fn acknowledge(
     node: &NodeSettings,
     settings: &Settings,
     fields: &Fields,
     reply: &mut [u8],
 ) -> Result<usize, Refusal> {
-    let kind = if fields.kind == kind::DATA {
-        kind::DATA_ACK
-    } else {
-        kind::CONTROL_ACK
+    let kind = match fields.kind {
+        kind::DATA => kind::DATA_ACK,
+        kind::HEARTBEAT => kind::HEARTBEAT_ACK,
+        _ => kind::CONTROL_ACK,
     };
     let ack = Fields {
         kind,

@@ -1,9 +1,10 @@
 //! The next packet for the link (document 01, Sending: "Each call for a packet
-//! hands out one"; document 02, A4; 000, 4.6.2).
+//! hands out one"; document 02, A2 and A4; 000, 4.6.2).
 
 use crate::answer::{Answer, Refusal};
+use crate::channel::Channel;
+use crate::offer::Rank;
 use crate::packet::{self, Fields};
-use crate::sending::{Rank, SendingEnd};
 use crate::settings::NodeSettings;
 
 use super::Node;
@@ -18,8 +19,7 @@ impl Node {
         let is_ready = |index: usize, rank| self.channels[index].is_ready(rank);
         let (index, rank) = lines.next(is_ready).ok_or(Refusal::Nothing)?;
         let node = self.node;
-        let end = self.channels[index].sending();
-        let length = end.and_then(|end| hand_out_of(end, rank, &node, out));
+        let length = hand_out_of(&mut self.channels[index], rank, &node, out);
         if length.is_ok() {
             lines.leave(index, rank);
             self.relist(lines, index..index + 1);
@@ -28,15 +28,15 @@ impl Node {
     }
 }
 
-/// Hands out what an end offers of this rank, and gives the packet's length.
+/// Hands out what a channel offers of this rank, and gives the packet's length.
 fn hand_out_of(
-    end: &mut SendingEnd,
+    channel: &mut Channel,
     rank: Rank,
     node: &NodeSettings,
     out: &mut [u8],
 ) -> Result<usize, Refusal> {
-    let offer = end.offer(rank).ok_or(Refusal::Nothing)?;
-    let settings = end.settings();
+    let offer = channel.offer(rank).ok_or(Refusal::Nothing)?;
+    let settings = channel.settings();
     let fields = Fields {
         kind: offer.kind,
         flags: offer.flags,
@@ -45,6 +45,6 @@ fn hand_out_of(
     };
     let own_prefix = settings.own_prefix;
     let length = packet::write(&fields, own_prefix.said(), offer.payload, out)?;
-    end.hand_out(rank);
+    channel.hand_out(rank);
     Ok(length)
 }

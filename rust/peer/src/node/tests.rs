@@ -1,5 +1,6 @@
 mod arrivals;
 mod channels;
+mod heartbeat;
 mod lines;
 mod lines_written;
 mod packets;

@@ -98,8 +98,8 @@ fn what_is_written_is_read() {
 }
 
 #[test]
-fn every_base_type_without_payload_is_read() {
-    for kind in [0, 1, 2, 3, 7] {
+fn every_type_but_6_without_payload_is_read() {
+    for kind in [0, 1, 2, 3, 4, 5, 7] {
         let packet = written(&alone(kind), b"");
         assert_eq!(read(&packet).unwrap().fields, alone(kind));
     }
@@ -160,11 +160,13 @@ fn reading_tests_4_before_3() {
     let packet = written(&alone(kind::OPEN), b"");
     let cases = [
         (vec![(2, 0x7A)], Refusal::NotInBase),
-        (vec![(2, 0x5C)], Refusal::NotInBase),
+        (vec![(2, 0x5E)], Refusal::NotInBase),
         (vec![(2, 0x9E)], Refusal::NotInBase),
         (vec![(2, 0x7A), (8, 0xF0)], Refusal::NotInBase),
         (vec![(2, 0x9A)], Refusal::Header),
         (vec![(2, 0x4A)], Refusal::Header),
+        (vec![(2, 0x44)], Refusal::Header),
+        (vec![(2, 0x55)], Refusal::Header),
         (vec![(8, 0x10)], Refusal::Header),
     ];
     for (changes, refusal) in cases {
@@ -175,7 +177,7 @@ fn reading_tests_4_before_3() {
 #[test]
 fn only_data_has_a_payload() {
     let packet = written(&data(flags::WHOLE), b"x");
-    for kind in [1, 2, 3, 7] {
+    for kind in [1, 2, 3, 4, 5, 7] {
         let other = changed(&packet, &[(2, 0x58 | kind)]);
         assert_eq!(read(&other), Err(Refusal::Header));
         assert_eq!(refused(alone(kind), b"x", 13), Refusal::Header);
@@ -199,6 +201,7 @@ fn writing_tests_4_then_3_then_11() {
         ..whole
     };
     assert_eq!(refused(secondary, b"", 0), Refusal::NotInBase);
+    assert_eq!(refused(alone(6), b"x", 0), Refusal::NotInBase);
     assert_eq!(refused(alone(8), b"x", 0), Refusal::NotInBase);
     assert_eq!(refused(reserved, b"", 0), Refusal::Header);
     assert_eq!(refused(version, b"", 0), Refusal::Header);

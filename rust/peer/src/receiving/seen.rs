@@ -13,7 +13,10 @@ impl ReceivingEnd {
         };
         match &self.phase {
             Phase::Closed(_) | Phase::Enabled => {}
-            Phase::Open(reception) => {
+            Phase::Open {
+                reception,
+                heartbeat,
+            } => {
                 let segments = reception.segments();
                 sight
                     .held
@@ -21,6 +24,7 @@ impl ReceivingEnd {
                 sight.start = Some(reception.start());
                 sight.unfinished = reception.unfinished();
                 sight.accepted = reception.has_accepted();
+                sight.see(heartbeat);
             }
             Phase::Closing { timer } => sight.close_timer = Some(*timer),
         }

@@ -18,7 +18,10 @@ impl SendingEnd {
                 sight.control = Some(open.sight());
                 sight.close_kept = *close_kept;
             }
-            Phase::Open(window) => sight.start = Some(window.start()),
+            Phase::Open { window, heartbeat } => {
+                sight.start = Some(window.start());
+                sight.see(heartbeat);
+            }
             Phase::Closing { close } => sight.control = Some(close.sight()),
         }
         sight
@@ -26,7 +29,7 @@ impl SendingEnd {
 
     fn seen(&self, segment: &Segment) -> SegmentSight {
         let course = match &self.phase {
-            Phase::Open(window) => window.course(segment.number),
+            Phase::Open { window, .. } => window.course(segment.number),
             _ => None,
         };
         segment.sight(course.map(Course::sight))

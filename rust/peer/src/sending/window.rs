@@ -4,9 +4,8 @@ use std::collections::BTreeMap;
 
 use crate::answer::Refusal;
 use crate::course::Course;
+use crate::offer::Rank;
 use crate::segment::sequence_number;
-
-use super::Rank;
 
 /// The segments of an opening, by number: those that wait for their ack, and
 /// those that are still to be handed out.

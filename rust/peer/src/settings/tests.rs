@@ -73,6 +73,18 @@ fn retries() {
     assert_eq!(good, [true, true, false]);
 }
 
+/// An interval of 0 is none; it is kept in 16 bits, as a timeout is (document 02,
+/// A2).
+#[test]
+fn interval() {
+    let with = |interval| Settings {
+        interval,
+        ..SENDING
+    };
+    let good = [0, 1, 65_535, 65_536].map(|count| accepted(with(count)));
+    assert_eq!(good, [true, true, true, false]);
+}
+
 /// "No two records may have equal channel number, remote address and
 /// direction."
 #[test]

@@ -2,6 +2,7 @@
 
 mod calls;
 mod exchanges;
+mod heartbeats;
 mod pair;
 mod random_calls;
 mod replaying;

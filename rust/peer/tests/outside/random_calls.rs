@@ -39,6 +39,7 @@ fn table(noise: &mut Noise, prefixes: &[Prefix; 4]) -> Vec<Settings> {
             timeout: 1 + noise.below(4) as u32,
             close_timeout: 1 + noise.below(4) as u32,
             retries: noise.below(3) as u32,
+            interval: noise.below(4) as u32,
         }
     };
     [0, 1, 2, 3].map(settings).to_vec()
@@ -50,7 +51,7 @@ struct Player {
     noise: Noise,
     /// The remote prefix of each channel.
     prefixes: [Prefix; 4],
-    /// The number of the last packet that each channel accepted.
+    /// The number of the last packet that each channel accepted, Heartbeats apart.
     accepted: [u8; 4],
 }
 
@@ -71,10 +72,8 @@ impl Player {
     /// A packet that is good but for its place in the exchange; rarely another
     /// octet is wrong, too.
     fn packet(&mut self) -> Vec<u8> {
-        use kind::{CLOSE, CONTROL_ACK, DATA, DATA_ACK, OPEN};
         let noise = &mut self.noise;
-        let kinds = [DATA, DATA, DATA, DATA, DATA_ACK, OPEN, CLOSE, CONTROL_ACK];
-        let kind = noise.one_of(&kinds);
+        let kind = kind_of(noise);
         let channel = channel_for(kind, noise);
         let number = match noise.below(12) {
             0 => noise.octet(),
@@ -87,7 +86,7 @@ impl Player {
             false => prefix(noise),
         };
         let channel = channel as u16;
-        let packet = if kind == DATA {
+        let packet = if kind == kind::DATA {
             let length = noise.below(6);
             let all = [flags::WHOLE, flags::FIRST, flags::LAST, flags::CONTINUATION];
             let flags = all[noise.below(4).min(noise.below(4)).min(noise.below(4))];
@@ -95,7 +94,7 @@ impl Player {
             let payload = noise.octets(length.max(least));
             data(0, channel, kind, number, flags, &payload)
         } else {
-            let named = kind == DATA_ACK || noise.percent(3);
+            let named = kind == kind::DATA_ACK || noise.percent(3);
             let number = if named { number } else { 0 };
             data(0, channel, kind, number, flags::WHOLE, &[])
         };
@@ -133,7 +132,9 @@ impl Player {
             assert!(memory == self.node.memory() && lengths == self.node.lengths());
         }
         if let (0..=9, 0, Some(index)) = (choice, answer.number, answer.index) {
-            self.accepted[index] = octets[7];
+            if ![kind::HEARTBEAT, kind::HEARTBEAT_ACK].contains(&(octets[2] & 0b111)) {
+                self.accepted[index] = octets[7];
+            }
         }
         match choice {
             17 => self.check_tick(&before, answer),
@@ -164,12 +165,14 @@ impl Player {
         assert_eq!(answer.number == 9, answer.index.is_some());
     }
 
-    /// A reason stands in CLOSED alone, and each direction has its own.
+    /// A reason stands in CLOSED alone, and each direction has its own but for the
+    /// Heartbeat.
     fn check(&self) {
         for index in 0..4 {
             let sending = self.node.direction(index) == Some(Direction::Sending);
             match self.node.reason(index).unwrap() {
                 Reason::None => continue,
+                Reason::Heartbeat => {}
                 Reason::Retries => assert!(sending),
                 _ => assert!(!sending),
             }
@@ -178,10 +181,21 @@ impl Player {
     }
 }
 
+/// The kind of a packet: Data as often as all others together.
+fn kind_of(noise: &mut Noise) -> u8 {
+    use kind::{CLOSE, CONTROL_ACK, DATA, DATA_ACK, HEARTBEAT, HEARTBEAT_ACK, OPEN};
+    let others = [DATA_ACK, OPEN, CLOSE, CONTROL_ACK, HEARTBEAT, HEARTBEAT_ACK];
+    match noise.percent(50) {
+        true => DATA,
+        false => noise.one_of(&others),
+    }
+}
+
 /// A channel that packets of this kind are for; rarely any.
 fn channel_for(kind: u8, noise: &mut Noise) -> usize {
     match kind {
         _ if noise.percent(3) => noise.below(4),
+        kind::HEARTBEAT | kind::HEARTBEAT_ACK => noise.below(4),
         kind::DATA_ACK | kind::CONTROL_ACK => noise.one_of(&[0, 3]),
         _ => noise.one_of(&[1, 2]),
     }
@@ -216,5 +230,5 @@ fn random_calls() {
     }
     let all: BTreeSet<u8> = (0..=16).filter(|&number| number != 13).collect();
     assert_eq!(seen, all);
-    assert_eq!(reasons.len(), 6);
+    assert_eq!(reasons.len(), 7);
 }

@@ -53,13 +53,14 @@ fn settings(channel: u16, window: u32, slots: u32, payload: u32, segments: u32) 
         timeout: 3,
         close_timeout: 7,
         retries: 20,
+        interval: 0,
     }
 }
 
 /// Runs a world, then lets it settle in fair weather; gives it back with the
 /// most segments that an opening sent. A few units are sent while it settles:
-/// without them an idle transmit end would not notice that the other end has
-/// closed.
+/// without them, or a Heartbeat, an idle transmit end would not notice that the
+/// other end has closed.
 fn run(channels: &[(usize, Settings)], weather: Weather, rounds: usize, seed: u64) -> (World, u64) {
     let mut world = World::new(channels, weather, seed);
     for round in 0..rounds {
@@ -69,7 +70,8 @@ fn run(channels: &[(usize, Settings)], weather: Weather, rounds: usize, seed: u6
         }
     }
     world.weather = FAIR;
-    for load in [2, 0] {
+    let lively = channels.iter().all(|(_, settings)| settings.interval > 0);
+    for load in [if lively { 0 } else { 2 }, 0] {
         world.load = load;
         (0..1_000).for_each(|_| world.round());
     }
@@ -148,17 +150,41 @@ fn stormy_links() {
 
 /// Several channels in both directions between two nodes, whose memories lie
 /// in different orders.
+fn several() -> [(usize, Settings); 5] {
+    [
+        (0, settings(0, 4, 7, 3, 4)),
+        (1, settings(1, 8, 11, 1, 6)),
+        (0, settings(2, 1, 5, 2, 5)),
+        (1, settings(3, 2, 3, 4, 1)),
+        (0, settings(4, 8, 100, 1, 3)),
+    ]
+}
+
 #[test]
 fn several_channels() {
     for (seed, weather) in (100..).zip([ORDERLY, UNSTEADY, STORMY]) {
-        let channels = [
-            (0, settings(0, 4, 7, 3, 4)),
-            (1, settings(1, 8, 11, 1, 6)),
-            (0, settings(2, 1, 5, 2, 5)),
-            (1, settings(3, 2, 3, 4, 1)),
-            (0, settings(4, 8, 100, 1, 3)),
-        ];
-        let (world, _) = run(&channels, weather, 5_000, seed);
+        let (world, _) = run(&several(), weather, 5_000, seed);
         check_settled(&world);
+        assert_eq!(world.heartbeats, [0; 2]);
+    }
+}
+
+/// With a Heartbeat at both ends every channel settles though no unit is sent.
+#[test]
+fn lively_channels() {
+    for (seed, weather) in (200..).zip([ORDERLY, UNSTEADY, STORMY]) {
+        let lively = |(node, settings): (usize, Settings)| {
+            let interval = 1 + 2 * u32::from(settings.channel);
+            (
+                node,
+                Settings {
+                    interval,
+                    ..settings
+                },
+            )
+        };
+        let (world, _) = run(&several().map(lively), weather, 5_000, seed);
+        check_settled(&world);
+        assert!(world.heartbeats.iter().all(|&count| count > 500));
     }
 }

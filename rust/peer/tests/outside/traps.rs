@@ -23,18 +23,29 @@ const SENDING: Settings = Settings {
     timeout: 4,
     close_timeout: 9,
     retries: 2,
+    interval: 0,
 };
 
 /// A sender and a receiver, both OPEN.
 pub fn opened() -> [Node; 2] {
+    opened_with([0, 0])
+}
+
+/// The same, which make Heartbeats after these intervals.
+pub fn opened_with(intervals: [u32; 2]) -> [Node; 2] {
+    let sending = Settings {
+        interval: intervals[0],
+        ..SENDING
+    };
     let receiving = Settings {
         direction: Direction::Receiving,
         remote: ADDRESSES[0],
+        interval: intervals[1],
         ..SENDING
     };
     let mut noise = Noise::new(7);
     let mut nodes = [
-        new_node(0, &[SENDING], &mut noise),
+        new_node(0, &[sending], &mut noise),
         new_node(1, &[receiving], &mut noise),
     ];
     for node in &mut nodes {

@@ -30,6 +30,8 @@ pub struct World {
     pub weather: Weather,
     /// How often the sending applications have a unit, in percent.
     pub load: usize,
+    /// The Heartbeats that the sending ends handed out, and the receiving ones.
+    pub heartbeats: [usize; 2],
     nodes: [Node; 2],
     shadows: [Shadow; 2],
     /// The links, each to the node of its index.
@@ -50,6 +52,7 @@ impl World {
             seen: BTreeSet::new(),
             weather,
             load: BUSY,
+            heartbeats: [0; 2],
             nodes,
             shadows,
             links: [0, 1].map(|_| Link::new(one_bit)),
@@ -120,8 +123,11 @@ impl World {
         assert_eq!(answer.number, 0);
         let channel = u16::from_be_bytes([packet[5], packet[6]]);
         let pair = &mut self.pairs[usize::from(channel)];
-        let is_data = packet[2] & 0b111 == kind::DATA;
-        let segment = is_data.then(|| pair.units.segment_sent(packet[7]));
+        let kind = packet[2] & 0b111;
+        let receives = usize::from(pair.receiver.node == node);
+        self.heartbeats[receives] += usize::from(kind == kind::HEARTBEAT);
+        assert!(receives == 0 || kind == kind::HEARTBEAT);
+        let segment = (kind == kind::DATA).then(|| pair.units.segment_sent(packet[7]));
         if let Some(segment) = segment {
             let filed = self.shadows[node].read(pair.sender.index, segment);
             assert_eq!(payload_of(&packet), filed);

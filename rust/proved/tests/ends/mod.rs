@@ -20,6 +20,7 @@ pub const LIMITS: Limits = Limits {
     timeout: 5,
     closing: 7,
     retries: 2,
+    interval: 0,
 };
 
 /// What untouched octets of a buffer hold.

@@ -24,6 +24,7 @@ pub const LIMITS: Limits = Limits {
     timeout: 5,
     closing: 5,
     retries: 9,
+    interval: 0,
 };
 
 pub struct Senders {

@@ -13,8 +13,12 @@ pub struct Counts {
     pub packets: [u64; 4],
     /// Packets handed out with a prefix.
     pub regional: u64,
-    /// Ends that went inactive, by reason 1 to 5.
-    pub inactive: [u64; 5],
+    /// Heartbeats handed out by hosts and by subscribers, answered, and acknowledged.
+    pub heartbeats: [u64; 4],
+    /// Ends that went inactive, by reason 1 to 6.
+    pub inactive: [u64; 6],
+    /// Of those of reason 6, hosts and subscribers.
+    pub unanswered: [u64; 2],
     /// Ends closed by a Close.
     pub closed: u64,
     /// Openings whose numbers passed 255.
@@ -33,7 +37,9 @@ impl Counts {
         };
         add(&mut self.units, &other.units);
         add(&mut self.packets, &other.packets);
+        add(&mut self.heartbeats, &other.heartbeats);
         add(&mut self.inactive, &other.inactive);
+        add(&mut self.unanswered, &other.unanswered);
         self.regional += other.regional;
         self.openings += other.openings;
         self.closed += other.closed;
@@ -46,7 +52,9 @@ impl fmt::Display for Counts {
     fn fmt(&self, out: &mut fmt::Formatter) -> fmt::Result {
         let [accepted, confirmed, reclaimed, taken] = self.units;
         let [lost, damaged, late, repeated] = self.packets;
-        let [retries, late_open, control, data, flags] = self.inactive;
+        let [retries, late_open, control, data, flags, _] = self.inactive;
+        let [by_hosts, by_subscribers, answered, acknowledged] = self.heartbeats;
+        let [hosts, subscribers] = self.unanswered;
         writeln!(
             out,
             "  {} openings, {} of them past number 255",
@@ -54,7 +62,8 @@ impl fmt::Display for Counts {
         )?;
         writeln!(out, "  units: {accepted} accepted, {confirmed} confirmed, {reclaimed} reclaimed, {taken} taken")?;
         writeln!(out, "  packets: {lost} lost, {damaged} damaged, {late} dropped as too late, {repeated} acknowledged again, {} with a prefix", self.regional)?;
-        writeln!(out, "  ends: {} closed; inactive by retries {retries}, late Open {late_open}, Control number {control}, Data number {data}, flags {flags}", self.closed)?;
+        writeln!(out, "  Heartbeats: {by_hosts} handed out by hosts, {by_subscribers} by subscribers; {answered} answered, {acknowledged} acknowledged")?;
+        writeln!(out, "  ends: {} closed; inactive by retries {retries}, late Open {late_open}, Control number {control}, Data number {data}, flags {flags}, Heartbeat {hosts} hosts and {subscribers} subscribers", self.closed)?;
         writeln!(out, "  the three claims checked {} times", self.checks)
     }
 }

@@ -4,11 +4,12 @@ use mathlib.Core.Path.{_≡_, refl, sym, ap, ap₂, _∙_, subst}
 use mathlib.Core.List.{List}
 use Prim.Native.Nat.{ℕ, _+_, _-_}
 use native.Mathlib.Omega.{arith}
+use borrow.Author.Tests.{eqb-true}
 use mathlib.Core.Bool.{true, false}
 use lib.ListN.{length, take, drop, length-drop}
 use lib.Seq.{length-take-le}
 use Rattle.packet.specs.declared.kinds.Kind.{Kind}
-use Rattle.packet.specs.declared.kinds.Kind.the-variants.{Data, DataAck, Open, Close, ControlAck}
+use Rattle.packet.specs.declared.kinds.Kind.the-variants.{Data, DataAck, Open, Close, Heartbeat, HeartbeatAck, ControlAck}
 use Rattle.packet.specs.Layout.{lengthAt, payloadIn}
 use Rattle.walks.specs.Serving.{works}
 use Rattle.channel.specs.declared.record.Channel.{Channel}
@@ -17,12 +18,15 @@ use Rattle.channel.specs.declared.answer.Refusal.the-variants as refusal
 use Rattle.channel.specs.Steps.{refusing}
 use Rattle.channel.proofs.StandingLaws.{ringed, own-fits}
 use Rattle.sender_acks.specs.Acks.{dataAckStep, controlAckStep}
+use Rattle.channel.specs.Record.{receives}
+use Rattle.channel.specs.Pulse.{heartbeatStep, heartbeatAckStep}
+use Rattle.receiver.specs.declared.acks.Acked.the-variants as acked
 use Rattle.receiver.specs.Receiving.{controlStep}
 use Rattle.table.specs.Surveying.{stepping}
 use Rattle.table.proofs.OneLaws.{kind-finds}
 use Rattle.table.proofs.Parts.{quiet}
 use Rattle.arrivals.specs.Finding.{prefixRead}
-use Rattle.arrivals.specs.Replying.{repliedBy}
+use Rattle.arrivals.specs.Replying.{repliedBy, acknowledging}
 use Rattle.arrivals.specs.Data.{dataFor}
 use Rattle.arrivals.proofs.DataLaws.{fit-payload}
 use Rattle.arrivals.specs.Arriving.{Replies, arriveAs}
@@ -35,7 +39,9 @@ use Rattle.arrivals.proofs.data.arrive_data.Reads as arrive-data-reads
 use Rattle.channel.proofs.step.refused.Reads as refused-reads
 use Rattle.sender_acks.proofs.control_ack_step.Reads as control-ack-step-reads
 use Rattle.sender_acks.proofs.data_ack_step.Reads as data-ack-step-reads
+use Rattle.channel.proofs.pulse.heartbeat_ack_step.Reads as heartbeat-ack-step-reads
 use Rattle.arrivals.proofs.arriving.arrive_control.Reads as arrive-control-reads
+use Rattle.arrivals.proofs.arriving.arrive_heartbeat.Reads as arrive-heartbeat-reads
 
 enum-told : tie.Need-enum-told
 enum-told c = search needs
@@ -66,7 +72,7 @@ arrive-data-requires c κs =
     let n : length (take (at + a .length - at) (drop at (a .packet .now))) ≡ at + a .length - at =
     length-take-le (at + a .length - at) (drop at (a .packet .now)) (omega (arith, length-drop at (a .packet .now), g .whole, g .start)) in (
       p .0,
-      kind-finds (a .c .addresses) (a .f) (prefixRead (a .packet .now)) Data (g .ours) is,
+      eqb-true (a .c .addresses .direction) receives (kind-finds (a .c .addresses) (a .f) (prefixRead (a .packet .now)) Data (g .ours) is),
       g .flags,
       omega (arith, n, fit-payload (a .c) (a .f) (a .length) (p .4) is),
       subst (λ (z : Kind). Replies (a .c) z (a .out .now)) kind (p .3),
@@ -102,14 +108,29 @@ arrive-control-requires-2 c κs =
 enum-told-5 : tie.Need-enum-told-5
 enum-told-5 c = search needs
 
+arrive-heartbeat-requires : tie.Need-arrive-heartbeat-requires
+arrive-heartbeat-requires c κs =
+    let a = c .before .before .before .before .before .before .before .args in
+    let p = c .before .before .before .before .before .before .before .pre in
+    (own-fits (a .c) _ (p .0 .standing), subst (λ (z : Kind). Replies (a .c) z (a .out .now)) (c .before .enum-told5 .given .1) (p .3))
+
+enum-told-6 : tie.Need-enum-told-6
+enum-told-6 c = search needs
+
+heartbeat-ack-step-requires : tie.Need-heartbeat-ack-step-requires
+heartbeat-ack-step-requires c κs = search needs
+
+enum-told-7 : tie.Need-enum-told-7
+enum-told-7 c = search needs
+
 control-ack-step-requires : tie.Need-control-ack-step-requires
 control-ack-step-requires c κs =
     let a = c .before .before .before .before .before .before .args in
     let s = c .before .before .before .before .before .before .pre .0 in
     ringed (a .c) _ (s .standing)
 
-enum-told-6 : tie.Need-enum-told-6
-enum-told-6 c = search needs
+enum-told-8 : tie.Need-enum-told-8
+enum-told-8 c = search needs
 
 refused-requires : tie.Need-refused-requires
 refused-requires c κs = search needs
@@ -147,8 +168,8 @@ returns-3 c =
     let a = c .before .before .before .before .before .before .before .before .before .before .args in
     let st = controlStep (a .c) true (a .f .number) in
     ap₂ (λ (x : Stepped) (y : List ℕ). works x (a .mem .now) (a .lens .now) y) (c .before .before .arrive-control .ensures .0) (c .before .before .arrive-control .ensures .1)
-    ∙ quiet (arriveAs Open (a .node) (a .f) (payloadIn (a .packet .now))) (a .c) (a .d) (a .mem .now) (a .lens .now) (a .out .now) st
-    (repliedBy (st .answer) (a .node) (a .c .addresses) false (a .f .number) (a .out .now)) refl
+    ∙ quiet (arriveAs Open (a .node) (a .f) (payloadIn (a .packet .now))) (a .c) (a .d) (a .mem .now) (a .lens .now) (a .out .now) (acknowledging st)
+    (repliedBy (st .answer) (a .node) (a .c .addresses) acked.Control (a .f .number) (a .out .now)) refl
     ∙ sym (ap (λ (z : Kind). stepping (arriveAs z (a .node) (a .f) (payloadIn (a .packet .now))) (a .c) (a .d) (a .mem .now) (a .lens .now) (a .out .now)) (c .before .before .before .before .enum-told3 .given .1))
 
 same-length-5 : tie.Need-same-length-5
@@ -159,23 +180,42 @@ returns-4 c =
     let a = c .before .before .before .before .before .before .before .before .before .before .args in
     let st = controlStep (a .c) false (a .f .number) in
     ap₂ (λ (x : Stepped) (y : List ℕ). works x (a .mem .now) (a .lens .now) y) (c .before .before .arrive-control2 .ensures .0) (c .before .before .arrive-control2 .ensures .1)
-    ∙ quiet (arriveAs Close (a .node) (a .f) (payloadIn (a .packet .now))) (a .c) (a .d) (a .mem .now) (a .lens .now) (a .out .now) st
-    (repliedBy (st .answer) (a .node) (a .c .addresses) false (a .f .number) (a .out .now)) refl
+    ∙ quiet (arriveAs Close (a .node) (a .f) (payloadIn (a .packet .now))) (a .c) (a .d) (a .mem .now) (a .lens .now) (a .out .now) (acknowledging st)
+    (repliedBy (st .answer) (a .node) (a .c .addresses) acked.Control (a .f .number) (a .out .now)) refl
     ∙ sym (ap (λ (z : Kind). stepping (arriveAs z (a .node) (a .f) (payloadIn (a .packet .now))) (a .c) (a .d) (a .mem .now) (a .lens .now) (a .out .now)) (c .before .before .before .before .enum-told4 .given .1))
+
+same-length-6 : tie.Need-same-length-6
+same-length-6 c = search needs
 
 returns-5 : tie.Need-returns-5
 returns-5 c =
-    let a = c .before .before .before .before .before .before .before .args in
-    ap (λ (x : Stepped). works x (a .mem .now) (a .lens .now) (a .out .now)) (c .control-ack-step .ensures)
-    ∙ quiet (arriveAs ControlAck (a .node) (a .f) (payloadIn (a .packet .now))) (a .c) (a .d) (a .mem .now) (a .lens .now) (a .out .now) (controlAckStep (a .c) (a .f .number)) (a .out .now) refl
-    ∙ sym (ap (λ (z : Kind). stepping (arriveAs z (a .node) (a .f) (payloadIn (a .packet .now))) (a .c) (a .d) (a .mem .now) (a .lens .now) (a .out .now)) (c .before .enum-told5 .given .1))
+    let a = c .before .before .before .before .before .before .before .before .before .before .args in
+    let st = heartbeatStep (a .c) in
+    ap₂ (λ (x : Stepped) (y : List ℕ). works x (a .mem .now) (a .lens .now) y) (c .before .before .arrive-heartbeat .ensures .0) (c .before .before .arrive-heartbeat .ensures .1)
+    ∙ quiet (arriveAs Heartbeat (a .node) (a .f) (payloadIn (a .packet .now))) (a .c) (a .d) (a .mem .now) (a .lens .now) (a .out .now) (acknowledging st)
+    (repliedBy (st .answer) (a .node) (a .c .addresses) acked.Heartbeat (a .f .number) (a .out .now)) refl
+    ∙ sym (ap (λ (z : Kind). stepping (arriveAs z (a .node) (a .f) (payloadIn (a .packet .now))) (a .c) (a .d) (a .mem .now) (a .lens .now) (a .out .now)) (c .before .before .before .before .enum-told5 .given .1))
 
 returns-6 : tie.Need-returns-6
 returns-6 c =
     let a = c .before .before .before .before .before .before .before .args in
+    ap (λ (x : Stepped). works x (a .mem .now) (a .lens .now) (a .out .now)) (c .heartbeat-ack-step .ensures)
+    ∙ quiet (arriveAs HeartbeatAck (a .node) (a .f) (payloadIn (a .packet .now))) (a .c) (a .d) (a .mem .now) (a .lens .now) (a .out .now) (heartbeatAckStep (a .c) (a .f .number)) (a .out .now) refl
+    ∙ sym (ap (λ (z : Kind). stepping (arriveAs z (a .node) (a .f) (payloadIn (a .packet .now))) (a .c) (a .d) (a .mem .now) (a .lens .now) (a .out .now)) (c .before .enum-told6 .given .1))
+
+returns-7 : tie.Need-returns-7
+returns-7 c =
+    let a = c .before .before .before .before .before .before .before .args in
+    ap (λ (x : Stepped). works x (a .mem .now) (a .lens .now) (a .out .now)) (c .control-ack-step .ensures)
+    ∙ quiet (arriveAs ControlAck (a .node) (a .f) (payloadIn (a .packet .now))) (a .c) (a .d) (a .mem .now) (a .lens .now) (a .out .now) (controlAckStep (a .c) (a .f .number)) (a .out .now) refl
+    ∙ sym (ap (λ (z : Kind). stepping (arriveAs z (a .node) (a .f) (payloadIn (a .packet .now))) (a .c) (a .d) (a .mem .now) (a .lens .now) (a .out .now)) (c .before .enum-told7 .given .1))
+
+returns-8 : tie.Need-returns-8
+returns-8 c =
+    let a = c .before .before .before .before .before .before .before .args in
     ap (λ (x : Stepped). works x (a .mem .now) (a .lens .now) (a .out .now)) (c .refused .ensures)
     ∙ quiet (λ (c₁ : Channel) (r : ℕ) (m₁ l₁ o₁ : List ℕ). works (refusing c₁ refusal.Lacking) m₁ l₁ o₁) (a .c) (a .d) (a .mem .now) (a .lens .now) (a .out .now) (refusing (a .c) refusal.Lacking) (a .out .now) refl
-    ∙ sym (ap (λ (z : Kind). stepping (arriveAs z (a .node) (a .f) (payloadIn (a .packet .now))) (a .c) (a .d) (a .mem .now) (a .lens .now) (a .out .now)) (c .before .enum-told6 .given .1))
+    ∙ sym (ap (λ (z : Kind). stepping (arriveAs z (a .node) (a .f) (payloadIn (a .packet .now))) (a .c) (a .d) (a .mem .now) (a .lens .now) (a .out .now)) (c .before .enum-told8 .given .1))
 
 pub arrive-as-spec : {M : Type 1} → statement M
 arrive-as-spec =
@@ -194,8 +234,12 @@ arrive-as-spec =
     enum-told-4
     arrive-control-requires-2
     enum-told-5
-    control-ack-step-requires
+    arrive-heartbeat-requires
     enum-told-6
+    heartbeat-ack-step-requires
+    enum-told-7
+    control-ack-step-requires
+    enum-told-8
     refused-requires
     same-length
     same-length-2
@@ -206,5 +250,8 @@ arrive-as-spec =
     returns-3
     same-length-5
     returns-4
+    same-length-6
     returns-5
-    returns-6)
+    returns-6
+    returns-7
+    returns-8)

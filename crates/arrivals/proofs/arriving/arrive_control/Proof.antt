@@ -1,15 +1,16 @@
--- `arrivals::arriving::arrive_control` meets its contract: both calls together.
+-- `arrivals::arriving::arrive_control` meets its contract: the calls together.
 -- Assumes nothing.
-use mathlib.Core.Path.{_≡_, refl, sym, ap, ap₂, _∙_}
+use mathlib.Core.Path.{ap, _∙_}
 use Rattle.channel.specs.declared.step.Stepped.{Stepped}
-use mathlib.Core.Bool.{false}
-use Rattle.arrivals.specs.Replying.{repliedBy}
+use Rattle.receiver.specs.declared.acks.Acked.the-variants as acked
+use Rattle.arrivals.specs.Replying.{repliedBy, acknowledging}
 use borrow.Author.Needs.{needs}
 use Rattle.arrivals.proofs.arriving.arrive_control.Statement.{statement}
 use Rattle.arrivals.proofs.arriving.arrive_control.Tie as tie
 use Rattle.arrivals.proofs.arriving.arrive_control.Reads as reads
 use Rattle.arrivals.proofs.arriving.arrive_control.Lts as lts
 use Rattle.receiver.proofs.control_step.Reads as control-step-reads
+use Rattle.arrivals.proofs.replying.acknowledged.Reads as acknowledged-reads
 use Rattle.arrivals.proofs.replying.reply.Reads as reply-reads
 
 control-step-requires : tie.Need-control-step-requires
@@ -18,11 +19,20 @@ control-step-requires c κs = c .before .pre .0
 reply-requires : tie.Need-reply-requires
 reply-requires c κs = search needs
 
+acknowledged-requires : tie.Need-acknowledged-requires
+acknowledged-requires c κs = search needs
+
 same-length : tie.Need-same-length
 same-length c = search needs
 
 returns : tie.Need-returns
-returns c = let a = c .before .before .before .before .before .before .args in (c .before .before .before .before .control-step .ensures, c .before .before .reply .ensures ∙ ap (λ (x : Stepped). repliedBy (x .answer) (a .node) (a .c .addresses) false (a .number) (a .out .now)) (c .before .before .before .before .control-step .ensures))
+returns c =
+    let a = c .before .before .before .before .before .before .before .args in
+    let s = c .before .before .before .before .before .control-step .ensures in (
+      c .acknowledged .ensures ∙ ap acknowledging s,
+      c .before .before .before .reply .ensures
+          ∙ ap (λ (x : Stepped). repliedBy (x .answer) (a .node) (a .c .addresses) acked.Control (a .number) (a .out .now)) s,
+    )
 
 pub arrive-control-spec : {M : Type 1} → statement M
-arrive-control-spec = tie.close (tie.spec control-step-requires reply-requires same-length returns)
+arrive-control-spec = tie.close (tie.spec control-step-requires reply-requires acknowledged-requires same-length returns)

@@ -6,6 +6,9 @@ use native.Mathlib.Omega.{arith}
 use Rattle.channel.proofs.SettingsLaws.{fit-is}
 use Rattle.channel.proofs.StandingLaws.{own-fits}
 use Rattle.table.proofs.Parts.{own-asked}
+use Rattle.channel.specs.declared.step.Stepped.{Stepped}
+use Rattle.receiver.specs.declared.acks.Acked.the-variants as acked
+use Rattle.arrivals.specs.Replying.{repliedBy, acknowledging}
 use Rattle.arrivals.proofs.DataLaws.{data-files}
 use borrow.Author.Needs.{needs}
 use Rattle.arrivals.proofs.data.arrive_data.Statement.{statement}
@@ -13,6 +16,7 @@ use Rattle.arrivals.proofs.data.arrive_data.Tie as tie
 use Rattle.arrivals.proofs.data.arrive_data.Reads as reads
 use Rattle.arrivals.proofs.data.arrive_data.Lts as lts
 use Rattle.receiver_data.proofs.data_step.Reads as data-step-reads
+use Rattle.arrivals.proofs.replying.acknowledged.Reads as acknowledged-reads
 use Rattle.arrivals.proofs.replying.reply.Reads as reply-reads
 use Rattle.table.proofs.surveying.area.Reads as area-reads
 
@@ -54,6 +58,9 @@ reply-requires c κs =
     let p = c .before .before .before .before .before .before .before .before .before .before .before .before .before .before .pre in
     (own-fits _ _ (p .0 .standing), p .4)
 
+acknowledged-requires : tie.Need-acknowledged-requires
+acknowledged-requires c κs = search needs
+
 same-length : tie.Need-same-length
 same-length c = search needs
 
@@ -64,7 +71,18 @@ same-length-3 : tie.Need-same-length-3
 same-length-3 c = search needs
 
 returns : tie.Need-returns
-returns c = let a = c .before .before .before .before .before .before .before .before .before .before .before .before .before .before .before .before .before .args in let s = c .before .before .before .before .before .before .before .before .before .before .before .before .before .before .before .before .before .pre .0 in let f = fit-is (a .c .limits) (s .standing .fit) in data-files (a .node) (a .f) (a .payload .now) (a .c) (a .d) (a .mem .now) (a .lens .now) (a .out .now) (c .before .before .before .before .before .before .before .before .before .before .before .before .before .before .before .before .before .pre .1) s (c .before .before .before .before .before .before .before .before .before .before .before .before .before .before .before .before .before .pre .3) _ _ _ _ (a .d .spot .octet + c .before .before .before .before .before .before .before .before .before .before .before .before .area .result - a .d .spot .octet) (a .d .spot .slot + a .c .limits .slots - a .d .spot .slot) (omega (arith, c .before .before .before .before .before .before .before .before .before .before .before .before .area .ensures .0)) (omega arith) (c .before .before .before .before .before .before .before .before .data-step .ensures .0) (c .before .before .before .before .before .before .before .before .data-step .ensures .1) (c .before .before .before .before .before .before .before .before .data-step .ensures .2) (c .before .before .reply .ensures)
+returns c =
+    let a = c .before .before .before .before .before .before .before .before .before .before .before .before .before .before .before .before .before .before .args in
+    let p = c .before .before .before .before .before .before .before .before .before .before .before .before .before .before .before .before .before .before .pre in
+    let f = fit-is (a .c .limits) (p .0 .standing .fit) in
+    let area = c .before .before .before .before .before .before .before .before .before .before .before .before .before .area in
+    let filed = c .before .before .before .before .before .before .before .before .before .data-step .ensures in
+    data-files (a .node) (a .f) (a .payload .now) (a .c) (a .d) (a .mem .now) (a .lens .now) (a .out .now) (p .1) (p .0) (p .3) _ _ _ _
+    (a .d .spot .octet + area .result - a .d .spot .octet)
+    (a .d .spot .slot + a .c .limits .slots - a .d .spot .slot)
+    (omega (arith, area .ensures .0)) (omega arith) (c .acknowledged .ensures ∙ ap acknowledging (filed .0)) (filed .1) (filed .2)
+    (c .before .before .before .reply .ensures
+    ∙ ap (λ (x : Stepped). repliedBy (x .answer) (a .node) (a .c .addresses) acked.Data (a .f .number) (a .out .now)) (filed .0))
 
 pub arrive-data-spec : {M : Type 1} → statement M
 arrive-data-spec =
@@ -82,6 +100,7 @@ arrive-data-spec =
     part-own-lens-end
     data-step-requires
     reply-requires
+    acknowledged-requires
     same-length
     same-length-2
     same-length-3

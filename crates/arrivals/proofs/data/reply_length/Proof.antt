@@ -34,8 +34,17 @@ ack-length-requires-3 c κs = search needs
 enum-told-5 : tie.Need-enum-told-5
 enum-told-5 c = search needs
 
+ack-length-requires-4 : tie.Need-ack-length-requires-4
+ack-length-requires-4 c κs = search needs
+
 enum-told-6 : tie.Need-enum-told-6
 enum-told-6 c = search needs
+
+enum-told-7 : tie.Need-enum-told-7
+enum-told-7 c = search needs
+
+enum-told-8 : tie.Need-enum-told-8
+enum-told-8 c = search needs
 
 returns : tie.Need-returns
 returns c =
@@ -56,10 +65,18 @@ returns-4 c =
     c .ack-length3 .ensures ∙ sym (ap (λ (z : Kind). replyLength (a .c) z) (c .before .enum-told4 .given .1))
 
 returns-5 : tie.Need-returns-5
-returns-5 c = search needs
+returns-5 c =
+    let a = c .before .before .before .args in
+    c .ack-length4 .ensures ∙ sym (ap (λ (z : Kind). replyLength (a .c) z) (c .before .enum-told5 .given .1))
 
 returns-6 : tie.Need-returns-6
 returns-6 c = search needs
+
+returns-7 : tie.Need-returns-7
+returns-7 c = search needs
+
+returns-8 : tie.Need-returns-8
+returns-8 c = search needs
 
 pub reply-length-spec : {M : Type 1} → statement M
 reply-length-spec =
@@ -73,10 +90,15 @@ reply-length-spec =
     enum-told-4
     ack-length-requires-3
     enum-told-5
+    ack-length-requires-4
     enum-told-6
+    enum-told-7
+    enum-told-8
     returns
     returns-2
     returns-3
     returns-4
     returns-5
-    returns-6)
+    returns-6
+    returns-7
+    returns-8)

@@ -1,9 +1,8 @@
 -- `arrivals::replying::reply` meets its contract: case by case.
 -- Assumes nothing.
-use mathlib.Core.Path.{_≡_, refl, sym, ap, ap₂, _∙_}
+use mathlib.Core.Path.{sym, ap, _∙_}
 use Rattle.channel.specs.declared.answer.Answer.{Answer}
 use Rattle.arrivals.specs.Replying.{repliedBy}
-use Rattle.laws.proofs.Settle.{settle}
 use borrow.Author.Needs.{needs}
 use Rattle.arrivals.proofs.replying.reply.Statement.{statement}
 use Rattle.arrivals.proofs.replying.reply.Tie as tie
@@ -33,19 +32,19 @@ same-length : tie.Need-same-length
 same-length c = search needs
 
 returns : tie.Need-returns
-returns c = let a = c .before .before .before .before .before .before .before .args in c .before .before .acknowledge .ensures ∙ sym (ap (λ (z : Answer). repliedBy z (a .node) (a .a) (a .of-data) (a .number) (a .out .now)) (c .before .before .before .before .enum-told .given .1))
+returns c = let a = c .before .before .before .before .before .before .before .args in c .before .before .acknowledge .ensures ∙ sym (ap (λ (z : Answer). repliedBy z (a .node) (a .a) (a .of) (a .number) (a .out .now)) (c .before .before .before .before .enum-told .given .1))
 
 same-length-2 : tie.Need-same-length-2
 same-length-2 c = search needs
 
 returns-2 : tie.Need-returns-2
-returns-2 c = let a = c .before .before .before .before .before .before .before .args in c .before .before .acknowledge2 .ensures ∙ sym (ap (λ (z : Answer). repliedBy z (a .node) (a .a) (a .of-data) (a .number) (a .out .now)) (c .before .before .before .before .enum-told2 .given .1))
+returns-2 c = let a = c .before .before .before .before .before .before .before .args in c .before .before .acknowledge2 .ensures ∙ sym (ap (λ (z : Answer). repliedBy z (a .node) (a .a) (a .of) (a .number) (a .out .now)) (c .before .before .before .before .enum-told2 .given .1))
 
 returns-3 : tie.Need-returns-3
-returns-3 c = search settle
+returns-3 c = let a = c .before .before .before .args in sym (ap (λ (z : Answer). repliedBy z (a .node) (a .a) (a .of) (a .number) (a .out .now)) (c .enum-told3 .given .1))
 
 returns-4 : tie.Need-returns-4
-returns-4 c = search settle
+returns-4 c = let a = c .before .before .before .args in sym (ap (λ (z : Answer). repliedBy z (a .node) (a .a) (a .of) (a .number) (a .out .now)) (c .enum-told4 .given .1))
 
 pub reply-spec : {M : Type 1} → statement M
 reply-spec =

@@ -45,8 +45,14 @@ returns-5 c =
 returns-6 : tie.Need-returns-6
 unfolding named
 returns-6 c =
-    let f = sym (c .before .before .before .before .before .before .before .before .before .before .fits-addresses .ensures) ∙ not-false _ (c .before .before .before .before .before .before .before .before .before .if1 .left) in
+    let f = sym (c .before .before .before .before .before .before .before .before .before .before .before .fits-addresses .ensures) ∙ not-false _ (c .before .before .before .before .before .before .before .before .before .before .if1 .left) in
+    rw (f) (search settle)
+
+returns-7 : tie.Need-returns-7
+unfolding named
+returns-7 c =
+    let f = sym (c .before .before .before .before .before .before .before .before .before .before .before .before .fits-addresses .ensures) ∙ not-false _ (c .before .before .before .before .before .before .before .before .before .before .before .if1 .left) in
     rw (f) (search settle)
 
 pub is-named-spec : {M : Type 1} → statement M
-is-named-spec = tie.close (tie.spec fits-addresses-requires returns returns-2 returns-3 returns-4 returns-5 returns-6)
+is-named-spec = tie.close (tie.spec fits-addresses-requires returns returns-2 returns-3 returns-4 returns-5 returns-6 returns-7)

@@ -31,5 +31,13 @@ returns-6 : tie.Need-returns-6
 unfolding kindOf
 returns-6 c = search settle
 
+returns-7 : tie.Need-returns-7
+unfolding kindOf
+returns-7 c = search settle
+
+returns-8 : tie.Need-returns-8
+unfolding kindOf
+returns-8 c = search settle
+
 pub kind-of-spec : {M : Type 1} → statement M
-kind-of-spec = tie.close (tie.spec returns returns-2 returns-3 returns-4 returns-5 returns-6)
+kind-of-spec = tie.close (tie.spec returns returns-2 returns-3 returns-4 returns-5 returns-6 returns-7 returns-8)

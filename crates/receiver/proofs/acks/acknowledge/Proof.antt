@@ -26,7 +26,7 @@ same-length : tie.Need-same-length
 same-length c = search needs
 
 returns : tie.Need-returns
-returns c = let a = c .before .before .before .before .before .before .before .before .args in ack-written (a .node) (a .a) (a .number) (c .before .before .before .before .before .before .before .before .pre .0) (a .of-data) (c .before .before .before .before .before .before .ack-kind .result) (c .before .before .before .before .before .outgoing .result) (c .before .before .write-outgoing .result) (a .reply .now) _ (c .before .before .before .before .before .before .ack-kind .ensures) (c .before .before .before .before .before .outgoing .ensures) (c .before .before .write-outgoing .ensures .0) (c .before .before .write-outgoing .ensures .1) (c .before .before .before .before .before .before .before .before .pre .1)
+returns c = let a = c .before .before .before .before .before .before .before .before .args in ack-written (a .node) (a .a) (a .number) (c .before .before .before .before .before .before .before .before .pre .0) (a .of) (c .before .before .before .before .before .before .ack-kind .result) (c .before .before .before .before .before .outgoing .result) (c .before .before .write-outgoing .result) (a .reply .now) _ (c .before .before .before .before .before .before .ack-kind .ensures) (c .before .before .before .before .before .outgoing .ensures) (c .before .before .write-outgoing .ensures .0) (c .before .before .write-outgoing .ensures .1) (c .before .before .before .before .before .before .before .before .pre .1)
 
 pub acknowledge-spec : {M : Type 1} → statement M
 acknowledge-spec =

@@ -1,8 +1,10 @@
 -- `receiver::control::open_arrives` meets its contract: a law of `openArrives` for each case.
 -- Assumes nothing.
 use mathlib.Core.Path.{sym, ap, _∙_}
-use Rattle.channel.specs.Record.{opened, withState}
+use Rattle.channel.specs.declared.record.Pulse.{Pulse}
+use Rattle.channel.specs.Record.{opened, withState, withPulse}
 use Rattle.channel.specs.Steps.{doing}
+use Rattle.receiver.specs.Receiving.{ackLength}
 use Rattle.receiver.proofs.StepLaws.{open-opens, open-other, open-again, open-late}
 use borrow.Author.Needs.{needs}
 use Rattle.receiver.proofs.control.open_arrives.Statement.{statement}
@@ -15,6 +17,9 @@ use Rattle.receiver.proofs.leaving.ack_length.Reads as ack-length-reads
 use Rattle.receiver.proofs.leaving.failed.Reads as failed-reads
 use Rattle.receiver.proofs.leaving.repeated.Reads as repeated-reads
 
+start-requires : tie.Need-start-requires
+start-requires c κs = tt
+
 ack-length-requires : tie.Need-ack-length-requires
 ack-length-requires c κs = tt
 
@@ -23,8 +28,11 @@ done-requires c κs = tt
 
 returns : tie.Need-returns
 returns c =
-    let a = c .before .before .before .before .before .args in
-    c .done .ensures ∙ ap (doing (withState (a .c) opened)) (c .before .ack-length .ensures) ∙ sym (open-opens (a .c) (c .before .before .before .if1 .taken))
+    let k = c .before .before .before .before .before .before .args .c in
+    c .done .ensures
+    ∙ ap (doing (withPulse (withState k opened) (c .before .before .before .start .result))) (c .before .ack-length .ensures)
+    ∙ ap (λ (p : Pulse). doing (withPulse (withState k opened) p) (ackLength (k .addresses))) (c .before .before .before .start .ensures)
+    ∙ sym (open-opens k (c .before .before .before .before .if1 .taken))
 
 refused-requires : tie.Need-refused-requires
 refused-requires c κs = search needs
@@ -48,6 +56,7 @@ pub open-arrives-spec : {M : Type 1} → statement M
 open-arrives-spec =
     tie.close
     (tie.spec
+    start-requires
     ack-length-requires
     done-requires
     returns

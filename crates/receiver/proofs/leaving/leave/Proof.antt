@@ -22,9 +22,17 @@ sub-clear c = search needs
 clear-requires : tie.Need-clear-requires
 clear-requires c κs = let a = c .before .before .before .args .c in let p = c .before .before .before .pre in rw (c .before .back .ensures) (back-lt (a .limits .slots) (a .window .place) (a .window .way) (p .place), p .most)
 
+none-requires : tie.Need-none-requires
+none-requires c κs = search needs
+
 returns : tie.Need-returns
 unfolding leaving
-returns c = rw (c .before .before .before .before .before .before .clear .ensures, c .before .before .before .before .before .before .before .before .back .ensures)
+returns c =
+    rw (
+      c .before .before .before .before .before .before .none .ensures,
+      c .before .before .before .before .before .before .before .clear .ensures,
+      c .before .before .before .before .before .before .before .before .before .back .ensures,
+    )
 
 pub leave-spec : {M : Type 1} → statement M
-leave-spec = tie.close (tie.spec sub-kept back-requires sub-clear clear-requires returns)
+leave-spec = tie.close (tie.spec sub-kept back-requires sub-clear clear-requires none-requires returns)

@@ -63,7 +63,7 @@ hand-step-requires c κs =
     let f = fit-is (a .c .limits) (s .standing .fit) in
     let r = ready-is (a .d .spot .at) (a .c) (s .lines) (a .d .spot .grade) (s .suits ∙ ap (λ (l : Look). graded l (s .lines) (a .d .spot .at) (a .c)) (p .1)) (s .found) in (
       own-asked (a .c) (a .d) (a .mem .now) (a .lens .now) (a .d .spot .octet + c .before .before .before .before .before .area .result - a .d .spot .octet) (a .d .spot .slot + a .c .limits .slots - a .d .spot .slot) (omega (arith, c .before .before .before .before .before .area .ensures .0)) (omega arith) s,
-      subst (λ (k : ℕ). Ready (a .c) k) (sym (c .before .rank-in .ensures)) (r .1),
+      subst (λ (k : ℕ). Ready (a .c) k) (sym (c .before .rank-in .ensures)) r,
     )
 
 same-length : tie.Need-same-length

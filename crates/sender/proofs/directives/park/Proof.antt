@@ -14,9 +14,12 @@ back-requires c κs = search needs
 add-ahead : tie.Need-add-ahead
 add-ahead c = search needs
 
+none-requires : tie.Need-none-requires
+none-requires c κs = search needs
+
 returns : tie.Need-returns
 unfolding parked
-returns c = rw (c .before .before .back .ensures)
+returns c = rw (c .before .before .before .back .ensures, c .none .ensures)
 
 pub park-spec : {M : Type 1} → statement M
-park-spec = tie.close (tie.spec back-requires add-ahead returns)
+park-spec = tie.close (tie.spec back-requires add-ahead none-requires returns)

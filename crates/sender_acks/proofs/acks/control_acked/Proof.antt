@@ -1,8 +1,10 @@
 -- `sender_acks::acks::control_acked` meets its contract: a law of `controlAcked` for each case.
 -- Assumes nothing.
 use mathlib.Core.Path.{sym, ap, _∙_}
-use Rattle.channel.specs.Record.{closed, opened, closing, withState, withControl}
+use Rattle.channel.specs.Record.{closed, opened, closing, withState, withControl, withPulse}
 use Rattle.channel.specs.declared.record.Lone.{Lone}
+use Rattle.channel.specs.declared.record.Pulse.{Pulse}
+use Rattle.channel.specs.Pulse.{startedPulse}
 use Rattle.sender.specs.Directives.{parked}
 use Rattle.sender_acks.proofs.AckLaws.{acked-closing, acked-kept, acked-open}
 use borrow.Author.Needs.{needs}
@@ -35,10 +37,15 @@ returns-2 c = c .park2 .ensures ∙ ap (parked (c .before .before .before .befor
 none-requires-2 : tie.Need-none-requires-2
 none-requires-2 c κs = search needs
 
+start-requires : tie.Need-start-requires
+start-requires c κs = search needs
+
 returns-3 : tie.Need-returns-3
 returns-3 c =
-    ap (λ (x : Lone). withControl (withState (c .before .before .before .before .before .before .args .c) opened) x) (c .before .none2 .ensures)
-    ∙ sym (acked-open (c .before .before .before .before .before .before .args .c) (c .before .before .before .before .if1 .left) (c .before .before .if2 .left))
+    let k = c .before .before .before .before .before .before .before .args .c in
+    ap (λ (p : Pulse). withPulse (withControl (withState k opened) (c .before .before .none2 .result)) p) (c .before .start .ensures)
+    ∙ ap (λ (x : Lone). withPulse (withControl (withState k opened) x) (startedPulse (k .limits))) (c .before .before .none2 .ensures)
+    ∙ sym (acked-open k (c .before .before .before .before .before .if1 .left) (c .before .before .before .if2 .left))
 
 pub control-acked-spec : {M : Type 1} → statement M
 control-acked-spec =
@@ -51,4 +58,5 @@ control-acked-spec =
     park-requires-2
     returns-2
     none-requires-2
+    start-requires
     returns-3)

@@ -11,7 +11,7 @@ use Rattle.sender.specs.Directives.{placeAt}
 use Rattle.sender_packets.specs.HandingOut.{againAt, dataFields, sentStep, sentOut, handStep, handOut}
 use Rattle.channel.proofs.StandingLaws.{ringed, own-fits}
 use Rattle.sender_packets.proofs.LyingLaws.{segment-sized}
-use Rattle.sender_packets.proofs.HandLaws.{ready-as, ready-1-is, ready-2-is, hand-control, hand-again, hand-new, out-control, out-again, out-new}
+use Rattle.sender_packets.proofs.HandLaws.{ready-as, ready-1-is, ready-2-is, hand-single, hand-again, hand-new, out-single, out-again, out-new}
 use borrow.Author.Needs.{needs}
 use Rattle.sender_packets.proofs.handing.hand_step.Statement.{statement}
 use Rattle.sender_packets.proofs.handing.hand_step.Tie as tie
@@ -19,12 +19,12 @@ use Rattle.sender_packets.proofs.handing.hand_step.Reads as reads
 use Rattle.sender_packets.proofs.handing.hand_step.Lts as lts
 use Rattle.sender_packets.proofs.handing.again_at.Reads as again-at-reads
 use Rattle.sender_packets.proofs.handing.again_out.Reads as again-out-reads
-use Rattle.sender_packets.proofs.handing.hand_control.Reads as hand-control-reads
+use Rattle.sender_packets.proofs.handing.hand_single.Reads as hand-single-reads
 use Rattle.sender_packets.proofs.handing.hand_data.Reads as hand-data-reads
 use Rattle.sender_packets.proofs.handing.new_out.Reads as new-out-reads
 
-hand-control-requires : tie.Need-hand-control-requires
-hand-control-requires c κs = let a = c .before .before .before .before .before .args in own-fits (a .c) (a .lens .now) (c .before .before .before .before .before .pre .0 .standing)
+hand-single-requires : tie.Need-hand-single-requires
+hand-single-requires c κs = let a = c .before .before .before .before .before .args in own-fits (a .c) (a .lens .now) (c .before .before .before .before .before .pre .0 .standing)
 
 same-length : tie.Need-same-length
 same-length c = search needs
@@ -34,8 +34,8 @@ returns c =
     let a = c .before .before .before .before .before .before .before .before .args in
     let k = a .c in
     let e = sym (c .before .before .before .before .if1 .taken) in (
-      c .before .before .hand-control .ensures .0 ∙ sym (hand-control (a .node) k (a .lens .now) (a .mem .now) (a .out .now)) ∙ ap (λ (x : ℕ). handStep k (a .lens .now) x (length (a .out .now))) e,
-      c .before .before .hand-control .ensures .1 ∙ sym (out-control (a .node) k (a .lens .now) (a .mem .now) (a .out .now)) ∙ ap (λ (x : ℕ). handOut (a .node) k (a .lens .now) (a .mem .now) x (a .out .now)) e,
+      c .before .before .hand-single .ensures .0 ∙ sym (hand-single (a .node) k (a .lens .now) (a .mem .now) (a .out .now)) ∙ ap (λ (x : ℕ). handStep k (a .lens .now) x (length (a .out .now))) e,
+      c .before .before .hand-single .ensures .1 ∙ sym (out-single (a .node) k (a .lens .now) (a .mem .now) (a .out .now)) ∙ ap (λ (x : ℕ). handOut (a .node) k (a .lens .now) (a .mem .now) x (a .out .now)) e,
     )
 
 again-at-requires : tie.Need-again-at-requires
@@ -109,7 +109,7 @@ pub hand-step-spec : {M : Type 1} → statement M
 hand-step-spec =
     tie.close
     (tie.spec
-    hand-control-requires
+    hand-single-requires
     same-length
     returns
     again-at-requires

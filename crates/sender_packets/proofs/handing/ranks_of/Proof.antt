@@ -4,14 +4,16 @@ use mathlib.Core.Path.{sym, ap, _∙_}
 use mathlib.Core.Bool.{Bool, false}
 use Prim.Native.Nat.{ℕ}
 use lib.Dec.{ltb}
+use Rattle.channel.specs.Lone.{isReady}
 use Rattle.sender_packets.specs.declared.handing.Ranks.{Ranks}
-use Rattle.sender_packets.specs.HandingOut.{againAt, readyControl}
+use Rattle.sender_packets.specs.HandingOut.{againAt}
 use Rattle.sender_packets.proofs.HandLaws.{ranks-closed, ranks-open}
 use borrow.Author.Needs.{needs}
 use Rattle.sender_packets.proofs.handing.ranks_of.Statement.{statement}
 use Rattle.sender_packets.proofs.handing.ranks_of.Tie as tie
 use Rattle.sender_packets.proofs.handing.ranks_of.Reads as reads
 use Rattle.sender_packets.proofs.handing.ranks_of.Lts as lts
+use Rattle.channel.proofs.lone.is_ready.Reads as is-ready-reads
 use Rattle.sender_packets.proofs.handing.again_at.Reads as again-at-reads
 use Rattle.sender_packets.proofs.handing.is_control_ready.Reads as is-control-ready-reads
 use Rattle.sender_packets.proofs.handing.is_new_ready.Reads as is-new-ready-reads
@@ -23,7 +25,7 @@ is-control-ready-requires : tie.Need-is-control-ready-requires
 is-control-ready-requires c κs = search needs
 
 returns : tie.Need-returns
-returns c = ap (λ (b : Bool). ranks b false false) (c .before .before .is-control-ready .ensures) ∙ sym (ranks-closed (c .before .before .before .args .c) (c .if1 .taken))
+returns c = ap (λ (b : Bool). ranks b false false) (c .is-control-ready .ensures) ∙ sym (ranks-closed (c .before .before .before .args .c) (c .before .if1 .taken))
 
 again-at-requires : tie.Need-again-at-requires
 again-at-requires c κs = search needs
@@ -31,13 +33,24 @@ again-at-requires c κs = search needs
 is-new-ready-requires : tie.Need-is-new-ready-requires
 is-new-ready-requires c κs = search needs
 
+is-ready-requires : tie.Need-is-ready-requires
+is-ready-requires c κs = search needs
+
 returns-2 : tie.Need-returns-2
 returns-2 c =
     let k = c .before .before .before .before .before .before .args .c in
-    ap (λ (b : Bool). ranks b (ltb (c .before .before .again-at .result) (k .window .flight)) (c .is-new-ready .result)) (c .before .before .before .before .before .is-control-ready .ensures)
-    ∙ ap (λ (n : ℕ). ranks (readyControl k) (ltb n (k .window .flight)) (c .is-new-ready .result)) (c .before .before .again-at .ensures)
-    ∙ ap (λ (b : Bool). ranks (readyControl k) (ltb (againAt k) (k .window .flight)) b) (c .is-new-ready .ensures)
-    ∙ sym (ranks-open k (c .before .before .before .if1 .left))
+    ap (λ (b : Bool). ranks b (ltb (c .before .before .before .again-at .result) (k .window .flight)) (c .before .is-new-ready .result)) (c .is-ready .ensures)
+    ∙ ap (λ (n : ℕ). ranks (isReady (k .pulse .beat)) (ltb n (k .window .flight)) (c .before .is-new-ready .result)) (c .before .before .before .again-at .ensures)
+    ∙ ap (λ (b : Bool). ranks (isReady (k .pulse .beat)) (ltb (againAt k) (k .window .flight)) b) (c .before .is-new-ready .ensures)
+    ∙ sym (ranks-open k (c .before .before .before .before .if1 .left))
 
 pub ranks-of-spec : {M : Type 1} → statement M
-ranks-of-spec = tie.close (tie.spec is-control-ready-requires returns again-at-requires is-new-ready-requires returns-2)
+ranks-of-spec =
+    tie.close
+    (tie.spec
+    is-control-ready-requires
+    returns
+    again-at-requires
+    is-new-ready-requires
+    is-ready-requires
+    returns-2)

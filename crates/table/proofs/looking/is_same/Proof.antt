@@ -1,8 +1,7 @@
 -- `table::looking::is_same` meets its contract: each test settles a clause.
 -- Assumes nothing.
 use mathlib.Core.Path.{_≡_, sym, ap, _∙_}
-use Prim.Native.Nat.{ℕ, _≤_, _<_}
-use lib.Dec.{eqb}
+use Rattle.packet.specs.declared.kinds.Kind.{Kind}
 use Rattle.table.specs.Looking.{looksFor, same}
 use Rattle.table.proofs.OneLaws.{same-rest}
 use Rattle.laws.proofs.Settle.{settle}
@@ -39,11 +38,11 @@ looks-for-requires c κs = search needs
 
 returns-4 : tie.Need-returns-4
 returns-4 c =
-    let a = c .before .before .before .before .before .before .before .before .before .before .before .args in
-    let looks = c .before .looks-for .ensures ∙ ap looksFor (c .before .before .kind-of .ensures) in
-    let s = sym (c .before .before .before .before .is-same .ensures) ∙ not-false _ (c .before .before .before .if3 .left) in
-    ap (λ (z : ℕ). eqb (a .a .direction) z) looks
-    ∙ sym (same-rest (a .a) (a .f) (a .prefix) (c .before .before .before .before .before .before .before .before .if1 .left) (c .before .before .before .before .before .if2 .left) s)
+    let a = c .before .before .before .before .before .before .before .before .before .before .args in
+    let s = sym (c .before .before .before .is-same .ensures) ∙ not-false _ (c .before .before .if3 .left) in
+    c .looks-for .ensures
+    ∙ ap (λ (k : Kind). looksFor k (a .a .direction)) (c .before .kind-of .ensures)
+    ∙ sym (same-rest (a .a) (a .f) (a .prefix) (c .before .before .before .before .before .before .before .if1 .left) (c .before .before .before .before .if2 .left) s)
 
 pub is-same-spec : {M : Type 1} → statement M
 is-same-spec = tie.close (tie.spec returns returns-2 is-same-requires returns-3 kind-of-requires looks-for-requires returns-4)

@@ -1,7 +1,7 @@
 -- `ticks::ticking::tick_next` meets its contract: the channel is ticked, and the round goes on by that.
 -- Assumes nothing.
 use mathlib.Core.Path.{_≡_, ap, _∙_}
-use Rattle.ticks.specs.declared.ticking.Ticked.{Ticked}
+use Rattle.channel.specs.declared.step.Ticked.{Ticked}
 use Rattle.ticks.specs.declared.ticking.Round.{Round}
 use Rattle.ticks.specs.declared.ticking.Turned.{Turned}
 use Rattle.ticks.specs.Ticking.{roundBy}

@@ -1,10 +1,6 @@
 -- `ticks::ticking::tick_one` meets its contract: by the direction.
 -- Assumes nothing.
-use mathlib.Core.Path.{_≡_, sym, ap, _∙_}
-use Rattle.ticks.specs.declared.ticking.Ticked.{Ticked}
-use Rattle.channel.specs.declared.record.Channel.{Channel}
-use mathlib.Core.Bool.{false}
-use Rattle.sender.specs.declared.ticking.Ticked.{Ticked as Sent}
+use mathlib.Core.Path.{sym, _∙_}
 use Rattle.ticks.proofs.TickLaws.{tick-sends, tick-receives}
 use borrow.Author.Needs.{needs}
 use Rattle.ticks.proofs.ticking.tick_one.Statement.{statement}
@@ -18,13 +14,13 @@ tick-step-requires : tie.Need-tick-step-requires
 tick-step-requires c κs = search needs
 
 returns : tie.Need-returns
-returns c = let a = c .before .before .before .args in ap (λ (x : Channel). record { channel = x; inactive = false }) (c .tick-step .ensures) ∙ sym (tick-receives (a .c) (c .before .if1 .taken))
+returns c = c .tick-step .ensures ∙ sym (tick-receives (c .before .before .before .args .c) (c .before .if1 .taken))
 
 tick-step-requires-2 : tie.Need-tick-step-requires-2
 tick-step-requires-2 c κs = search needs
 
 returns-2 : tie.Need-returns-2
-returns-2 c = let a = c .before .before .before .before .args in ap (λ (t : Sent). record { channel = t .channel; inactive = t .inactive }) (c .before .tick-step2 .ensures) ∙ sym (tick-sends (a .c) (c .before .before .if1 .left))
+returns-2 c = c .tick-step2 .ensures ∙ sym (tick-sends (c .before .before .before .args .c) (c .before .if1 .left))
 
 pub tick-one-spec : {M : Type 1} → statement M
 tick-one-spec = tie.close (tie.spec tick-step-requires returns tick-step-requires-2 returns-2)

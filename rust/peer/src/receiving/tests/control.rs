@@ -18,7 +18,7 @@ fn directives() {
     assert_eq!([rig.open(0), rig.close(0)], [5, 5]);
 }
 
-/// A receive end has nothing to send and nothing to reclaim.
+/// A receive end takes no units to send, and has none to reclaim.
 #[test]
 fn requests_of_the_other_direction_give_5() {
     let mut rig = Rig::receiving(RECEIVING);
@@ -135,7 +135,7 @@ fn packets_that_the_state_does_not_allow() {
     assert_eq!(wholes(&mut rig, [0, 1, 100]), [5, 5, 5]);
 }
 
-/// Acks look for a sending record.
+/// Acks of Data and of Control look for a sending record.
 #[test]
 fn acks_find_no_channel() {
     let mut rig = Rig::receiving(RECEIVING);
@@ -180,7 +180,8 @@ fn the_close_timeout_is_a_setting_of_its_own() {
     }
 }
 
-/// A receive end has no timer but the close timer: ticks do not wear it out.
+/// A receive end that makes no Heartbeat has no timer but the close timer: ticks do
+/// not wear it out.
 #[test]
 fn ticks_leave_the_other_states() {
     let mut rig = Rig::new(&[RECEIVING]);
