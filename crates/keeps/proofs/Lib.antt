@@ -8,6 +8,8 @@ pub mod CallsRefuse
 pub mod Parts
 pub mod Alone
 pub mod CallsAlone
+pub mod Everywhere
 pub mod Marks
+pub mod Resting
 pub mod Settled
 pub mod DoorKeeps

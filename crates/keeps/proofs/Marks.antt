@@ -58,9 +58,8 @@ use Rattle.packet.specs.Layout.{payloadIn}
 use Rattle.ticks.specs.Ticks.{tickOf, tickAnswer, ticked, relistedFrom}
 use Rattle.node.specs.Calls.{openCall, closeCall, transferCall, takeCall, reclaimCall, nextPacketCall, arrivalCall}
 use Rattle.keeps.specs.Keeping.{Wide}
-use Rattle.keeps.proofs.Serving.{servedAt, worked, serve-cases}
+use Rattle.keeps.proofs.Everywhere.{Steps, serve-each, tick-each}
 use Rattle.keeps.proofs.CallsRefuse.{arrive-cases}
-use Rattle.keeps.proofs.CallsAlone.{mapped-at}
 
 -- ---- each step of a sender
 
@@ -169,34 +168,14 @@ module _ (c : Channel) (w : Full c) where
 
 -- a step whose record has its marks again
 abbrev pub Marking : Step → List ℕ → Type 0
-Marking step out = (c : Channel) (rank : ℕ) (mem lens : List ℕ) → Full c → Fills (step c rank mem lens out .made)
+Marking step out = Steps Full step out
 
 works-full : (b : Bool) (x y : Worked Stepped) → Fills (x .made) → Fills (y .made) → Fills ((if b then x else y) .made)
 works-full true x y p q = p
 works-full false x y p q = q
 
-stored-wide : (t : List Channel) (i : ℕ) (k : Channel) → Wide t → Full k → Wide (set t i k)
-stored-wide t i k wide full j less = go (eqb j i) refl
-  where
-    below : j < length t
-    below = subst (λ (n : ℕ). j < n) (length-set t i k) less
-
-    go : (b : Bool) → eqb j i ≡ b → length (recordAt (set t i k) j .marks) ≡ 128
-    go true e =
-        let p = eqb-true j i e in
-        ap (λ (n : ℕ). length (recordAt (set t i k) n .marks)) p
-        ∙ ap (λ (c : Channel). length (c .marks)) (getD-set-same t i k blank (subst (λ (n : ℕ). n < length t) p below))
-        ∙ full
-    go false e = ap (λ (c : Channel). length (c .marks)) (getD-set-other t i j k blank (eqb-false j i e)) ∙ wide j below
-
 pub serve-wide : (look : Look) (step : Step) (t : List Channel) (mem lens lines out : List ℕ) → Marking step out → Wide t → Wide (serveOne look step t mem lens lines out .table)
-unfolding stored
-serve-wide look step t mem lens lines out marking wide =
-    serve-cases look step t mem lens lines out (λ (g : Called Answer Channel). Wide (g .table)) wide wide
-    (λ h below g.
-    let i = servedAt look step t mem lens lines out in
-    stored-wide t i (worked look step t mem lens lines out .made .channel) wide
-    (marking (recordAt t i) (rankIn (choice look lines t .grade)) (ownMem t i mem) (ownLens t i lens) (wide i below)))
+serve-wide look step t mem lens lines out marking wide = serve-each Full look step t mem lens lines out marking wide
 
 pub open-marking : (out : List ℕ) → Marking (alone openedBy) out
 unfolding openedBy
@@ -259,14 +238,4 @@ module _ (t : List Channel) (mem lens lines : List ℕ) (wide : Wide t) where
   reclaim-wide index out = serve-wide (seeking (Index index)) reclaimFor t mem lens lines out (reclaim-marking out) wide
 
   pub tick-wide : Wide (ticked t mem lens lines .table)
-  unfolding ticked
-  tick-wide = go (passes t mem lens lines)
-    where
-      each : Wide (map tickOf t)
-      each i less =
-          let below = subst (λ (n : ℕ). i < n) (length-map t tickOf) less in
-          ap (λ (c : Channel). length (c .marks)) (mapped-at tickOf t i below) ∙ tick-full (recordAt t i) (wide i below)
-
-      go : (b : Bool) → Wide ((if b then changes (tickAnswer t) (map tickOf t) (relistedFrom 0 (map tickOf t) lines) else changes (Refused refusal.Settings) t lines) .table)
-      go true = each
-      go false = wide
+  tick-wide = tick-each Full tick-full t mem lens lines wide

@@ -13,6 +13,7 @@ use Rattle.channel.specs.declared.record.Channel.{Channel}
 use Rattle.channel.specs.declared.answer.Answer.{Answer}
 use Rattle.channel.specs.declared.step.Stepped.{Stepped}
 use Rattle.channel.specs.Answers.{numberOf}
+use Rattle.channel.specs.Record.{opened, noPulse}
 use Rattle.channel.specs.Standing.{Standing}
 use Rattle.table.specs.declared.looking.Look.{Look}
 use Rattle.table.specs.Waiting.{rankIn}
@@ -49,6 +50,13 @@ KeepsTable t mem lens g = lawful t mem lens ≡ true → lawful (g .table) mem l
 -- 'one mark for each of 128 slots, used or not': every value of the type of records has it
 abbrev pub Wide : List Channel → Type 0
 Wide t = (i : ℕ) → i < length t → length (recordAt t i .marks) ≡ 128
+
+-- out of OPEN an end has no Heartbeat, and no interval runs (document 02, A2)
+abbrev pub Rests : Channel → Type 0
+Rests c = (c .phase .state ≡ opened → ⊥) → c .pulse ≡ noPulse
+
+abbrev pub Resting : List Channel → Type 0
+Resting t = (i : ℕ) → i < length t → Rests (recordAt t i)
 
 -- what a step is given by the call: a record that stands with its lengths, with a memory of its size, and that suits what is looked for, by some
 -- lines; the rank is that of its grade

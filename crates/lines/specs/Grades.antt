@@ -1,4 +1,5 @@
--- Which channel is served next: Control before resent Data before new Data, and within a rank by the line, from the head on (document 02, A4).
+-- Which channel is served next: Control and Heartbeats before resent Data before new Data, and within a rank by the line, from the head on (document
+-- 02, A4).
 -- Each channel has a grade, and the least is served; 48 is the grade of a channel that stands in no line with a packet of its rank ready.
 use Prim.Native.Nat.{ℕ, _+_, _*_, min}
 use mathlib.Core.Bool.{Bool, _&&_}

@@ -1,6 +1,6 @@
 -- The lines of channels that wait to be served (document 02, A4: 'a channel joins the line of a rank when it first has a ready packet of that
--- rank, is served from the head, and rejoins at the tail if it has more'). There are three, one for each rank: 0 Control, 1 resent Data, 2 new
--- Data. A channel is its index here, and no more.
+-- rank, is served from the head, and rejoins at the tail if it has more'). There are three, one for each rank: 0 Control and Heartbeats, 1
+-- resent Data, 2 new Data. A channel is its index here, and no more.
 use Prim.Native.Nat.{ℕ, suc, _+_, _-_, _*_}
 use mathlib.Core.Bool.{Bool, false, _||_}
 use mathlib.Core.List.{List, [], _∷_, _++_}

@@ -1,4 +1,4 @@
-// The fields of a packet, and the two tests that look at nothing else: what the base lacks (4), and what is strange (3).
+// The fields of a packet, and the two tests that look at nothing else: what is not carried (4), and what is strange (3).
 use crate::kinds::Kind;
 use crate::kinds::is_data;
 use crate::kinds::kind_of;

@@ -108,7 +108,7 @@ pub same-rest : (a : Addresses) (f : Fields) (q : Prefix) → a .channel ≡ f .
 unfolding same
 same-rest a f q e e2 e3 = simp (eq-eqb (a .channel) (f .channel) e, eq-eqb (a .remote) (f .source) e2, e3)
 
--- its direction is looked for: Acks find a sender, Data and Control a receiver
+-- its direction is looked for: Data Acks and Control Acks find a sender, Data and Control a receiver, Heartbeats and their Acks either
 pub kind-finds : (a : Addresses) (f : Fields) (q : Prefix) (k : Kind) → same a f q ≡ true → kindOf (f .kind) ≡ k → looksFor k (a .direction) ≡ true
 unfolding same
 kind-finds a f q k e is =

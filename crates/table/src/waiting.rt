@@ -28,7 +28,7 @@ pub fn waiting(c: Channel) -> Ranks
     ranks_of(c)
 }
 
-// The rank of a grade: 0 Control, 1 resent Data, 2 new Data.
+// The rank of a grade: 0 Control and Heartbeats, 1 resent Data, 2 new Data.
 pub fn rank_in(grade: usize) -> usize
     ensures { λ r. ⌜ r ≡ rankIn grade ⌝ }
 {
