@@ -106,8 +106,8 @@ typedef struct PeatLimits {
     uint16_t timeout;  /* ticks until a packet that is not acknowledged is ready again: at least 1 */
     uint16_t closing;  /* ticks that a receiver stays in CLOSING: at least 1 */
     uint16_t retries;  /* resends allowed to a packet: 0 to 255 */
-    uint16_t interval; /* ticks in OPEN after which this end makes a Heartbeat, if it has sent neither Data nor an Ack meanwhile; 0: it makes none.
-                        * Each end has its own, and answers those of the other whatever its own is */
+    uint16_t interval; /* ticks in OPEN after which this end makes a Heartbeat, if it has sent neither Data nor an Ack meanwhile and none of its own
+                        * is under way; 0: it makes none. Each end has its own, and answers those of the other whatever its own is */
 } PeatLimits;
 
 typedef struct PeatSettings {
@@ -134,7 +134,7 @@ typedef struct PeatPhase {
 
 /* The Heartbeat of an end; all zeros out of OPEN, in a record that peat_settings and the calls alone have written. */
 typedef struct PeatPulse {
-    uint16_t left; /* ticks until one is made; 0: none runs */
+    uint16_t left; /* ticks until the interval ends, and one is made if there is none; 0: no interval runs */
     PeatLone beat; /* the one that is ready or not acknowledged */
 } PeatPulse;
 
