@@ -34,9 +34,9 @@ use Rattle.arrivals.specs.Arriving.{arriveAs, arriveBy, arrivalFor, Fram
 -- ---- what is looked for
 
 -- a record that suits a packet has its addresses
-addressed-is : (f : Fields) (q : Prefix) (a : Addresses) → addressed f q a < 48 → same a f q ≡ true
-addressed-is f q a h =
-    either-way (same a f q) (λ e. e) (λ e. absurd (lt-irrefl 48 (subst (λ (k : ℕ). k < 48) (passed-by (same a f q) 0 48 e) h)))
+addressed-is : (f : Fields) (x : ℕ) (q : Prefix) (a : Addresses) → addressed f x q a < 48 → same a f x q ≡ true
+addressed-is f x q a h =
+    either-way (same a f x q) (λ e. e) (λ e. absurd (lt-irrefl 48 (subst (λ (k : ℕ). k < 48) (passed-by (same a f x q) 0 48 e) h)))
 
 -- an arrival that was found a channel looks for its packet
 sought-is : (node : Node) (s : List ℕ) (room : ℕ) (lines : List ℕ) (at : ℕ) (c : Channel) (look : Look) → look ≡ lookOf node s room
@@ -53,9 +53,9 @@ framed node s out lines at c look f start x e h p =
     let ef : f ≡ fieldsAt s = cc in
     let es : start ≡ payloadAt (prefixAt s) = cc in
     let ex : x ≡ lengthAt s = cc in
-    let suits = addressed-is f (look .prefix) (c .addresses) (subst (λ (l : Sought). gradedBy l (look .prefix) lines at c < 48) p h) in
+    let suits = addressed-is f x (look .prefix) (c .addresses) (subst (λ (l : Sought). gradedBy l (look .prefix) lines at c < 48) p h) in
     record {
-      ours = subst (λ (l : Look). same (c .addresses) f (l .prefix) ≡ true) is suits;
+      ours = subst (λ (l : Look). same (c .addresses) f x (l .prefix) ≡ true) is suits;
       fields = ef;
       start = es;
       count = ex;
@@ -80,20 +80,20 @@ not-other node s room lines at c look other e h p =
 -- ---- one law for each test, and one for all kinds
 
 module _ (node : Node) (f : Fields) (x : ℕ) (p : List ℕ) (c : Channel) (rank : ℕ) (mem lens out : List ℕ) where
-  pub by-small : (k : Kind) → kindOf (f .kind) ≡ k → length out < replyLength c k
-      → arriveBy node f x p c rank mem lens out ≡ works (refusing c (refusal.Small (replyLength c k))) mem lens out
+  pub by-small : (k : Kind) → kindOf (f .kind) ≡ k → length out < replyLength c k x
+      → arriveBy node f x p c rank mem lens out ≡ works (refusing c (refusal.Small (replyLength c k x))) mem lens out
   unfolding arriveBy
-  by-small k e h = rw (e, lt-ltb (length out) (replyLength c k) h)
+  by-small k e h = rw (e, lt-ltb (length out) (replyLength c k x) h)
 
-  module _ (room : replyLength c (kindOf (f .kind)) ≤ length out) where
+  module _ (room : replyLength c (kindOf (f .kind)) x ≤ length out) where
     pub by-unfit : unfit c f x ≡ true → arriveBy node f x p c rank mem lens out ≡ works (refusing c refusal.Strange) mem lens out
     unfolding arriveBy
-    by-unfit e = simp (le-ltb (length out) (replyLength c (kindOf (f .kind))) room, e)
+    by-unfit e = simp (le-ltb (length out) (replyLength c (kindOf (f .kind)) x) room, e)
 
     pub by-kind : unfit c f x ≡ false → (k : Kind) → kindOf (f .kind) ≡ k → arriveBy node f x p c rank mem lens out ≡ arriveAs k node f p c rank mem lens out
     unfolding arriveBy
     by-kind fit k e =
-        passed-by _ _ _ (le-ltb (length out) (replyLength c (kindOf (f .kind))) room)
+        passed-by _ _ _ (le-ltb (length out) (replyLength c (kindOf (f .kind)) x) room)
         ∙ passed-by (unfit c f x) _ _ fit
         ∙ ap (λ (z : Kind). arriveAs z node f p c rank mem lens out) e
 

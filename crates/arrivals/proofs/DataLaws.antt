@@ -1,17 +1,16 @@
 -- Laws of an arrival of Data: what a payload within P has shown, and its step over the whole of what is lent.
 -- Assumes nothing.
 use mathlib.Core.Path.{_≡_, sym, ap, _∙_}
-use mathlib.Core.Bool.{Bool, true, false, _&&_}
+use mathlib.Core.Bool.{true, false}
 use mathlib.Core.List.{List}
 use Prim.Native.Nat.{ℕ, _≤_}
 use borrow.Author.Tests.{ltb-false}
 use borrow.Rule.Slice.PartMut.{putMid}
-use lib.Dec.{ltb}
 use lib.ListN.{length, take, drop}
 use Rattle.packet.specs.declared.fields.Fields.{Fields}
 use Rattle.packet.specs.declared.kinds.Kind.{Kind}
 use Rattle.packet.specs.declared.kinds.Kind.the-variants.{Data}
-use Rattle.packet.specs.Kinds.{kindOf, isData}
+use Rattle.packet.specs.Kinds.{kindOf}
 use Rattle.walks.specs.Serving.{works}
 use Rattle.channel.specs.declared.record.Node.{Node}
 use Rattle.channel.specs.declared.record.Channel.{Channel}
@@ -25,13 +24,16 @@ use Rattle.table.specs.Surveying.{mine, mineLens, stepping, Served}
 use Rattle.table.proofs.Parts.{parts-filed}
 use Rattle.receiver.specs.declared.acks.Acked.the-variants as acked
 use Rattle.arrivals.specs.Replying.{repliedBy, acknowledging}
-use Rattle.arrivals.specs.Data.{unfit, dataFor}
+use Rattle.arrivals.specs.Data.{unfitAs, unfit, dataFor}
+
+-- by the kind of the packet
+pub fit-as : (c : Channel) (f : Fields) (x : ℕ) (k : Kind) → kindOf (f .kind) ≡ k → unfit c f x ≡ unfitAs k c x
+unfolding unfit
+fit-as c f x k e = ap (λ (z : Kind). unfitAs z c x) e
 
 -- Data that is fit has at most P octets
 pub fit-payload : (c : Channel) (f : Fields) (x : ℕ) → unfit c f x ≡ false → kindOf (f .kind) ≡ Data → x ≤ c .limits .payload
-unfolding unfit
-fit-payload c f x e k =
-    ltb-false (c .limits .payload) x (sym (ap (λ (b : Kind). isData b && ltb (c .limits .payload) x) k) ∙ e)
+fit-payload c f x e k = ltb-false (c .limits .payload) x (sym (fit-as c f x Data k) ∙ e)
 
 -- ---- Data, over the whole of what is lent
 

@@ -9,7 +9,7 @@ use lib.ListN.{length}
 use Rattle.laws.specs.Choice.{if_then_else_}
 use Rattle.packet.specs.declared.fields.Fields.{Fields}
 use Rattle.packet.specs.declared.kinds.Kind.{Kind}
-use Rattle.packet.specs.declared.kinds.Kind.the-variants.{Data, DataAck, Open, Close, Heartbeat, HeartbeatAck, ControlAck, Lacking}
+use Rattle.packet.specs.declared.kinds.Kind.the-variants.{Data, DataAck, Open, Close, Heartbeat, HeartbeatAck, FlowControl, ControlAck, Lacking}
 use Rattle.packet.specs.Kinds.{kindOf}
 use Rattle.packet.specs.Layout.{least, payloadAt, wholeLength, fieldsAt, prefixAt, lengthAt, payloadIn}
 use Rattle.walks.specs.Serving.{works}
@@ -27,7 +27,7 @@ use Rattle.arrivals.specs.Finding.{prefixRead}
 use Rattle.arrivals.specs.Replying.{replying}
 use Rattle.arrivals.specs.Data.{replyLength, unfit, dataFor}
 
--- by the packet's kind; no packet of a kind that is not carried is read
+-- by the packet's kind; none of a kind that is not carried is read, and no Flow Control comes so far
 abbrev pub arriveAs : Kind → Node → Fields → List ℕ → Step
 arriveAs Data node f payload c rank mem lens out = dataFor node f payload c rank mem lens out
 arriveAs DataAck node f payload c rank mem lens out = works (dataAckStep c (f .number)) mem lens out
@@ -35,13 +35,14 @@ arriveAs Open node f payload c rank mem lens out = replying node c acked.Control
 arriveAs Close node f payload c rank mem lens out = replying node c acked.Control (f .number) (controlStep c false (f .number)) mem lens out
 arriveAs Heartbeat node f payload c rank mem lens out = replying node c acked.Heartbeat (f .number) (heartbeatStep c) mem lens out
 arriveAs HeartbeatAck node f payload c rank mem lens out = works (heartbeatAckStep c (f .number)) mem lens out
+arriveAs FlowControl node f payload c rank mem lens out = works (refusing c refusal.Strange) mem lens out
 arriveAs ControlAck node f payload c rank mem lens out = works (controlAckStep c (f .number)) mem lens out
 arriveAs (Lacking code) node f payload c rank mem lens out = works (refusing c refusal.Lacking) mem lens out
 
--- with what only the channel tells tested first: room for its reply (11), and Data payload over P (3)
+-- with what only the channel tells tested first: room for its reply (11), and what it cannot take (3)
 unfoldable pub arriveBy : Node → Fields → ℕ → List ℕ → Step
 arriveBy node f x payload c rank mem lens out =
-    if ltb (length out) (replyLength c (kindOf (f .kind))) then works (refusing c (refusal.Small (replyLength c (kindOf (f .kind))))) mem lens out
+    if ltb (length out) (replyLength c (kindOf (f .kind)) x) then works (refusing c (refusal.Small (replyLength c (kindOf (f .kind)) x))) mem lens out
     else if unfit c f x then works (refusing c refusal.Strange) mem lens out
     else arriveAs (kindOf (f .kind)) node f payload c rank mem lens out
 
@@ -49,12 +50,12 @@ unfoldable pub arrivalFor : Node → List ℕ → Step
 arrivalFor node s = arriveBy node (fieldsAt s) (lengthAt s) (payloadIn s)
 
 -- the reply fits
-abbrev pub Replies : Channel → Kind → List ℕ → Type 0
-Replies c kind out = replyLength c kind ≤ length out
+abbrev pub Replies : Channel → Kind → ℕ → List ℕ → Type 0
+Replies c kind x out = replyLength c kind x ≤ length out
 
 -- what the reader, the lookup and the reply buffer have shown, as the step asks it
 pub record Framed (c : Channel) (f : Fields) (from x : ℕ) (s out : List ℕ) : Type 0 where
-  pub ours : same (c .addresses) f (prefixRead s) ≡ true
+  pub ours : same (c .addresses) f x (prefixRead s) ≡ true
   pub fields : f ≡ fieldsAt s
   pub start : from ≡ payloadAt (prefixAt s)
   pub count : x ≡ lengthAt s

@@ -1,12 +1,13 @@
 -- An arrival of Data (document 01, Answer numbers: 'Data payload over P (3)'; Receiving).
 use Prim.Native.Nat.{ℕ}
-use mathlib.Core.Bool.{Bool, _&&_}
+use mathlib.Core.Bool.{Bool, true, false, not}
 use mathlib.Core.List.{List}
-use lib.Dec.{ltb}
+use lib.Dec.{ltb, eqb}
+use Rattle.laws.specs.Choice.{if_then_else_}
 use Rattle.packet.specs.declared.fields.Fields.{Fields}
 use Rattle.packet.specs.declared.kinds.Kind.{Kind}
-use Rattle.packet.specs.declared.kinds.Kind.the-variants.{Data, DataAck, Open, Close, Heartbeat, HeartbeatAck, ControlAck, Lacking}
-use Rattle.packet.specs.Kinds.{kindOf, isData}
+use Rattle.packet.specs.declared.kinds.Kind.the-variants.{Data, DataAck, Open, Close, Heartbeat, HeartbeatAck, FlowControl, ControlAck, Lacking}
+use Rattle.packet.specs.Kinds.{kindOf}
 use Rattle.packet.specs.Layout.{least}
 use Rattle.channel.specs.declared.record.Node.{Node}
 use Rattle.channel.specs.declared.record.Channel.{Channel}
@@ -16,21 +17,34 @@ use Rattle.receiver_data.specs.Data.{dataStep, dataMem, dataLens}
 use Rattle.table.specs.Serving.{Step}
 use Rattle.arrivals.specs.Replying.{replying}
 
--- the octets that the reply to a packet of a kind needs: an Ack carries the own prefix; where no reply is due, as to an Ack, those that are asked
--- for first
-abbrev pub replyLength : Channel → Kind → ℕ
-replyLength c Data = ackLength (c .addresses)
-replyLength c DataAck = least
-replyLength c Open = ackLength (c .addresses)
-replyLength c Close = ackLength (c .addresses)
-replyLength c Heartbeat = ackLength (c .addresses)
-replyLength c HeartbeatAck = least
-replyLength c ControlAck = least
-replyLength c (Lacking code) = least
+-- the octets that the reply to a packet of a kind with x octets needs: an Ack carries the own prefix; where no reply is due, as to an Ack, those that
+-- are asked for first. Type 6 is an Ack where it carries nothing
+abbrev pub replyLength : Channel → Kind → ℕ → ℕ
+replyLength c Data x = ackLength (c .addresses)
+replyLength c DataAck x = least
+replyLength c Open x = ackLength (c .addresses)
+replyLength c Close x = ackLength (c .addresses)
+replyLength c Heartbeat x = ackLength (c .addresses)
+replyLength c HeartbeatAck x = least
+replyLength c FlowControl x = if eqb x 0 then least else ackLength (c .addresses)
+replyLength c ControlAck x = least
+replyLength c (Lacking code) x = least
 
--- Data payload over P
+-- what this channel cannot take of a packet of a kind with x octets: Data payload over P; where there is no Flow Control, type 6, and a number stated
+-- in an Ack (document 02, A5)
+abbrev pub unfitAs : Kind → Channel → ℕ → Bool
+unfitAs Data c x = ltb (c .limits .payload) x
+unfitAs DataAck c x = not (eqb x 0)
+unfitAs Open c x = false
+unfitAs Close c x = false
+unfitAs Heartbeat c x = false
+unfitAs HeartbeatAck c x = false
+unfitAs FlowControl c x = true
+unfitAs ControlAck c x = not (eqb x 0)
+unfitAs (Lacking code) c x = false
+
 unfoldable pub unfit : Channel → Fields → ℕ → Bool
-unfit c f x = isData (kindOf (f .kind)) && ltb (c .limits .payload) x
+unfit c f x = unfitAs (kindOf (f .kind)) c x
 
 -- Data, with its payload
 abbrev pub dataFor : Node → Fields → List ℕ → Step

@@ -71,7 +71,7 @@ fn arrive_as(
     packet: &[u8],
     out: &mut [u8],
 ) -> Stepped
-    requires { ⌜ (Served c d (now mem) (now lens)) × (Framed c f start length (now packet) (now out)) × (kindOf (f .kind) ≡ kind) × (Replies c kind (now out)) × (unfit c f length ≡ false) ⌝ }
+    requires { ⌜ (Served c d (now mem) (now lens)) × (Framed c f start length (now packet) (now out)) × (kindOf (f .kind) ≡ kind) × (Replies c kind length (now out)) × (unfit c f length ≡ false) ⌝ }
     ensures { λ r. ⌜ works r (now (mem .exit)) (now (lens .exit)) (now (out .exit)) ≡ stepping (arriveAs kind node f (payloadIn (now (packet .entry)))) c d (now (mem .entry)) (now (lens .entry)) (now (out .entry)) ⌝ }
 {
     match kind {
@@ -84,12 +84,13 @@ fn arrive_as(
         Kind::Close => arrive_control(c, node, false, f.number, out),
         Kind::Heartbeat => arrive_heartbeat(c, node, f.number, out),
         Kind::HeartbeatAck => heartbeat_ack_step(c, f.number),
+        Kind::FlowControl => refused(c, Refusal::Strange),
         Kind::ControlAck => sender_acks::control_ack_step(c, f.number),
         Kind::Lacking(_) => refused(c, Refusal::Lacking),
     }
 }
 
-// What only the channel tells is tested first: room for its reply, with the own prefix, and a payload over P.
+// What only the channel tells is tested first: room for its reply, with the own prefix, and what it cannot take.
 fn arrive(
     c: Channel,
     d: Decision,
@@ -106,7 +107,7 @@ fn arrive(
     ensures { λ r. ⌜ works r (now (mem .exit)) (now (lens .exit)) (now (out .exit)) ≡ stepping (arrivalFor node (now (packet .entry))) c d (now (mem .entry)) (now (lens .entry)) (now (out .entry)) ⌝ }
 {
     let kind = kind_of(f.kind);
-    let wanted = reply_length(c, kind);
+    let wanted = reply_length(c, kind, length);
     if out.len() < wanted {
         return refused(c, Refusal::Small(wanted));
     }

@@ -7,7 +7,6 @@ use channel::Stepped;
 use packet::Fields;
 use packet::Kind;
 use packet::fields::LEAST;
-use packet::kinds::is_data;
 use packet::kinds::kind_of;
 use receiver::Acked;
 use receiver::leaving::ack_length;
@@ -16,15 +15,26 @@ use table::surveying::area;
 ghost use mathlib.Core.Path.{_≡_};
 ghost use Prim.Native.Nat.{_≤_, _<_};
 ghost use lib.ListN.{length};
+ghost use Rattle.packet.specs.declared.kinds.Kind.the-variants.{FlowControl};
 ghost use Rattle.walks.specs.Serving.{works};
 ghost use Rattle.channel.specs.Record.{receives};
 ghost use Rattle.receiver.specs.Receiving.{ackLength};
 ghost use Rattle.table.specs.Surveying.{Served, stepping};
-ghost use Rattle.arrivals.specs.Data.{replyLength, unfit, dataFor};
+ghost use Rattle.arrivals.specs.Data.{replyLength, unfitAs, unfit, dataFor};
+
+// Type 6 is Flow Control, and answered, where it carries an octet.
+fn flow_reply(c: Channel, length: usize) -> usize
+    ensures { λ r. ⌜ r ≡ replyLength c FlowControl length ⌝ }
+{
+    if length == 0 {
+        return LEAST;
+    }
+    ack_length(c.addresses)
+}
 
 // The octets that the reply to a packet of a kind needs: an Ack carries the own prefix, and to an Ack no reply is due.
-pub fn reply_length(c: Channel, kind: Kind) -> usize
-    ensures { λ r. ⌜ r ≡ replyLength c kind ⌝ }
+pub fn reply_length(c: Channel, kind: Kind, length: usize) -> usize
+    ensures { λ r. ⌜ r ≡ replyLength c kind length ⌝ }
 {
     match kind {
         Kind::Data => ack_length(c.addresses),
@@ -33,19 +43,33 @@ pub fn reply_length(c: Channel, kind: Kind) -> usize
         Kind::Close => ack_length(c.addresses),
         Kind::Heartbeat => ack_length(c.addresses),
         Kind::HeartbeatAck => LEAST,
+        Kind::FlowControl => flow_reply(c, length),
         Kind::ControlAck => LEAST,
         Kind::Lacking(_) => LEAST,
     }
 }
 
-// What a channel cannot take, though the packet is sound: a payload over P.
+// What a channel cannot take, though the packet is sound: a payload over P; Flow Control, or a number in an Ack, where it is not used.
+fn is_unfit_as(kind: Kind, c: Channel, length: usize) -> bool
+    ensures { λ r. ⌜ r ≡ unfitAs kind c length ⌝ }
+{
+    match kind {
+        Kind::Data => c.limits.payload < length,
+        Kind::DataAck => length != 0,
+        Kind::Open => false,
+        Kind::Close => false,
+        Kind::Heartbeat => false,
+        Kind::HeartbeatAck => false,
+        Kind::FlowControl => true,
+        Kind::ControlAck => length != 0,
+        Kind::Lacking(_) => false,
+    }
+}
+
 pub fn is_unfit(c: Channel, f: Fields, length: usize) -> bool
     ensures { λ r. ⌜ r ≡ unfit c f length ⌝ }
 {
-    if !is_data(kind_of(f.kind)) {
-        return false;
-    }
-    c.limits.payload < length
+    is_unfit_as(kind_of(f.kind), c, length)
 }
 
 // Data is filed in the channel's own part, and acknowledged where the answer is 0 or 15.

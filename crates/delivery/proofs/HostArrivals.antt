@@ -38,8 +38,9 @@ use Rattle.table.specs.Serving.{recordAt}
 use Rattle.arrivals.specs.Arriving.{arriveAs, arriveBy, arrivalFor, Framed}
 use Rattle.arrivals.specs.Replying.{repliedBy, acknowledging, replying}
 use Rattle.arrivals.specs.Finding.{lookOf, prefixRead}
-use Rattle.arrivals.specs.Data.{replyLength, unfit}
-use Rattle.arrivals.proofs.ArriveLaws.{framed, by-small, by-kind}
+use Rattle.arrivals.specs.Data.{replyLength, unfitAs, unfit}
+use Rattle.arrivals.proofs.DataLaws.{fit-as}
+use Rattle.arrivals.proofs.ArriveLaws.{framed, by-small, by-unfit, by-kind}
 use Rattle.arrivals.proofs.FindLaws.{found-packet}
 use Rattle.node.specs.declared.request.Request.the-variants.{Arrival}
 use Rattle.node.specs.Calls.{served}
@@ -59,7 +60,7 @@ use Rattle.means.proofs.SenderControl.{stays, control-ack-sends}
 use Rattle.means.proofs.Pulses.{pulse-sends, heartbeat-sends, heartbeat-ack-sends}
 use Rattle.means.proofs.SenderAcks.{ack-sends, ack-near}
 use Rattle.delivery.specs.Calls.{End, arrives, Request, channelOf}
-use Rattle.delivery.specs.History.{Event, names, isBeat, binds, IsData, IsDataAck, Replied, confirmed}
+use Rattle.delivery.specs.History.{Event, names, isFree, binds, IsData, IsDataAck, Replied, confirmed}
 use Rattle.delivery.specs.Delivery.{NotLate}
 use Rattle.delivery.proofs.Nodes.{endWith}
 use Rattle.delivery.proofs.Known.{limits}
@@ -69,11 +70,6 @@ use Rattle.delivery.proofs.Packets.{named-is, names-so, binds-so, same-
 use Rattle.delivery.proofs.HostNow.{HostAt, asking, own, octets, lengths, own-below, own-addresses, own-sends, own-limits, asked, small, alone-here, indexFor, Next, waits-on, stays-so, counts, was-open, moves-on}
 
 -- ---- what a packet that is found a channel has shown
-
--- no other packet is Data
-fit-ack : (c : Channel) (f : Fields) (x : ℕ) (kind : packets.Kind) → kindOf (f .kind) ≡ kind → isData kind ≡ false → unfit c f x ≡ false
-unfolding unfit
-fit-ack c f x kind is not-data = ap (λ (b : Bool). b && ltb (c .limits .payload) x) (ap isData is ∙ not-data)
 
 -- a Control Ack confirms nothing
 control-confirms : (c : Channel) (number : ℕ) → confirmedOf (controlAckStep c number .answer) ≡ 0
@@ -87,17 +83,17 @@ heartbeat-confirms c = heartbeat-cases c (λ (s : Stepped). confirmedOf (s .answ
 heartbeat-ack-confirms : (c : Channel) (number : ℕ) → confirmedOf (heartbeatAckStep c number .answer) ≡ 0
 heartbeat-ack-confirms c number = heartbeat-ack-cases c (λ (s : Stepped). confirmedOf (s .answer) ≡ 0) refl number refl (λ e. refl)
 
-beats-confirm : (node : Node) (u : List ℕ) (c : Channel) (rank : ℕ) (mem lens out : List ℕ) → isBeat (kindOf (fieldsAt u .kind)) ≡ true
+beats-confirm : (node : Node) (u : List ℕ) (c : Channel) (rank : ℕ) (mem lens out : List ℕ) → isFree (kindOf (fieldsAt u .kind)) ≡ true
     → confirmedOf (arrivalFor node u c rank mem lens out .made .answer) ≡ 0
 unfolding arrivalFor arriveBy
-beats-confirm node u c rank mem lens out = go (ltb (length out) (replyLength c (kindOf (f .kind)))) (unfit c f (lengthAt u)) (kindOf (f .kind))
+beats-confirm node u c rank mem lens out = go (ltb (length out) (replyLength c (kindOf (f .kind)) (lengthAt u))) (unfit c f (lengthAt u)) (kindOf (f .kind))
   where
     f : Fields
     f = fieldsAt u
 
-    go : (small over : Bool) (kind : packets.Kind) → isBeat kind ≡ true
+    go : (small over : Bool) (kind : packets.Kind) → isFree kind ≡ true
         → confirmedOf
-        ((if small then works (refusing c (refusal.Small (replyLength c kind))) mem lens out
+        ((if small then works (refusing c (refusal.Small (replyLength c kind (lengthAt u)))) mem lens out
         else if over then works (refusing c refusal.Strange) mem lens out
         else arriveAs kind node f (payloadIn u) c rank mem lens out) .made .answer)
         ≡ 0
@@ -105,6 +101,7 @@ beats-confirm node u c rank mem lens out = go (ltb (length out) (replyLength c (
     go false true kind e = refl
     go false false packet-kind.Heartbeat e = heartbeat-confirms c
     go false false packet-kind.HeartbeatAck e = heartbeat-ack-confirms c (f .number)
+    go false false packet-kind.FlowControl e = refl
     go false false packet-kind.Data e = absurd (false≢true e)
     go false false packet-kind.DataAck e = absurd (false≢true e)
     go false false packet-kind.Open e = absurd (false≢true e)
@@ -164,10 +161,10 @@ module _ {h s : End} {past : List Event} {x : Sender} {y : Receiver} {t : List C
   arrive-elsewhere j there apart r m l g =
       arrive-quiet _ _
       (λ named.
-      either-way (isBeat (kindOf (fieldsAt u .kind))) (λ e. beats-confirm (h .node) u (recordAt t j) r m l b e)
+      either-way (isFree (kindOf (fieldsAt u .kind))) (λ e. beats-confirm (h .node) u (recordAt t j) r m l b e)
       (λ e.
       absurd (alone-here k j there apart
-      (same-rivals (recordAt t j .addresses) (channelOf h .addresses) (fieldsAt u) (prefixRead u) e (told j (recordAt t j) r m l g .ours) (named-is h u named .same)))))
+      (same-rivals (recordAt t j .addresses) (channelOf h .addresses) (fieldsAt u) (lengthAt u) (prefixRead u) e (told j (recordAt t j) r m l g .ours) (named-is h u named .same)))))
 
   -- ---- for its own
 
@@ -253,51 +250,57 @@ module _ {h s : End} {past : List Event} {x : Sender} {y : Receiver} {t : List C
       suits : graded looked (g .lines) (h .index) (own k) < 48
       suits = subst (λ (z : ℕ). z < 48) (g .suits) (g .found)
 
-      ours : same (own k .addresses) f (prefixRead u) ≡ true
+      ours : same (own k .addresses) f (lengthAt u) (prefixRead u) ≡ true
       ours = told (h .index) (own k) r (octets k) (lengths k) g .ours
 
       named : names h u ≡ true
       named =
           let q = found-packet (h .node) u (length b) (g .lines) (h .index) (own k) suits in
-          names-so h u (q .1) (q .2) (subst (λ (a : Addresses). same a f (prefixRead u) ≡ true) (own-addresses k) ours)
+          names-so h u (q .1) (q .2) (subst (λ (a : Addresses). same a f (lengthAt u) (prefixRead u) ≡ true) (own-addresses k) ours)
 
-      looks : (kind : packets.Kind) → kindOf (f .kind) ≡ kind → looksFor kind sends ≡ true
-      looks kind is = ap (looksFor kind) (sym (own-sends k)) ∙ kind-finds (own k .addresses) f (prefixRead u) kind ours is
+      looks : (kind : packets.Kind) → kindOf (f .kind) ≡ kind → looksFor kind (lengthAt u) sends ≡ true
+      looks kind is = ap (looksFor kind (lengthAt u)) (sym (own-sends k)) ∙ kind-finds (own k .addresses) f (lengthAt u) (prefixRead u) kind ours is
 
       -- no reply is due to an Ack, so what was asked for first is enough
       least-room : least ≤ length b
       least-room = told (h .index) (own k) r (octets k) (lengths k) g .room
 
-      -- a sender is looked for by Acks, and by Heartbeats
-      as-kind : (kind : packets.Kind) → kindOf (f .kind) ≡ kind
-          → Left (Next k request copy) (arriveBy (h .node) f (lengthAt u) (payloadIn u) (own k) r (octets k) (lengths k) b)
-      as-kind packet-kind.DataAck is =
-          let w = fair (binds-so h u packet-kind.DataAck is refl named) in
-          subst (Left (Next k request copy))
-          (sym (by-kind (h .node) f (lengthAt u) (payloadIn u) (own k) r (octets k) (lengths k) b
-          (subst (λ (z : packets.Kind). replyLength (own k) z ≤ length b) (sym is) least-room) (fit-ack (own k) f (lengthAt u) packet-kind.DataAck is refl) packet-kind.DataAck is))
-          (ack-own named is (w .0) (w .1 is))
-      as-kind packet-kind.ControlAck is =
-          subst (Left (Next k request copy))
-          (sym (by-kind (h .node) f (lengthAt u) (payloadIn u) (own k) r (octets k) (lengths k) b
-          (subst (λ (z : packets.Kind). replyLength (own k) z ≤ length b) (sym is) least-room) (fit-ack (own k) f (lengthAt u) packet-kind.ControlAck is refl) packet-kind.ControlAck is))
-          control-ack-own
-      as-kind packet-kind.HeartbeatAck is =
-          subst (Left (Next k request copy))
-          (sym (by-kind (h .node) f (lengthAt u) (payloadIn u) (own k) r (octets k) (lengths k) b
-          (subst (λ (z : packets.Kind). replyLength (own k) z ≤ length b) (sym is) least-room) (fit-ack (own k) f (lengthAt u) packet-kind.HeartbeatAck is refl) packet-kind.HeartbeatAck is))
-          beat-ack-own
-      as-kind packet-kind.Heartbeat is =
-          either-way (ltb (length b) (replyLength (own k) packet-kind.Heartbeat))
+      Result : Type 0
+      Result = Left (Next k request copy) (arriveBy (h .node) f (lengthAt u) (payloadIn u) (own k) r (octets k) (lengths k) b)
+
+      -- what the channel cannot take is refused, and what it can is taken by its kind
+      fitting : (kind : packets.Kind) → kindOf (f .kind) ≡ kind → replyLength (own k) kind (lengthAt u) ≤ length b
+          → (unfitAs kind (own k) (lengthAt u) ≡ false → Left (Next k request copy) (arriveAs kind (h .node) f (payloadIn u) (own k) r (octets k) (lengths k) b)) → Result
+      fitting kind is room next =
+          let enough = subst (λ (z : packets.Kind). replyLength (own k) z (lengthAt u) ≤ length b) (sym is) room in
+          either-way (unfitAs kind (own k) (lengthAt u))
           (λ e.
-          subst (Left (Next k request copy))
-          (sym (by-small (h .node) f (lengthAt u) (payloadIn u) (own k) r (octets k) (lengths k) b packet-kind.Heartbeat is (ltb-true _ _ e)))
+          subst (Left (Next k request copy)) (sym (by-unfit (h .node) f (lengthAt u) (payloadIn u) (own k) r (octets k) (lengths k) b enough (fit-as (own k) f (lengthAt u) kind is ∙ e)))
           (arrive-quiet _ b (λ _. refl)))
           (λ e.
+          subst (Left (Next k request copy)) (sym (by-kind (h .node) f (lengthAt u) (payloadIn u) (own k) r (octets k) (lengths k) b enough (fit-as (own k) f (lengthAt u) kind is ∙ e) kind is))
+          (next e))
+
+      -- with room for its reply
+      answered : (kind : packets.Kind) → kindOf (f .kind) ≡ kind
+          → (unfitAs kind (own k) (lengthAt u) ≡ false → Left (Next k request copy) (arriveAs kind (h .node) f (payloadIn u) (own k) r (octets k) (lengths k) b)) → Result
+      answered kind is next =
+          either-way (ltb (length b) (replyLength (own k) kind (lengthAt u)))
+          (λ e.
           subst (Left (Next k request copy))
-          (sym (by-kind (h .node) f (lengthAt u) (payloadIn u) (own k) r (octets k) (lengths k) b
-          (subst (λ (z : packets.Kind). replyLength (own k) z ≤ length b) (sym is) (ltb-false _ _ e)) (fit-ack (own k) f (lengthAt u) packet-kind.Heartbeat is refl) packet-kind.Heartbeat is))
-          beat-own)
+          (sym (by-small (h .node) f (lengthAt u) (payloadIn u) (own k) r (octets k) (lengths k) b kind is (ltb-true _ _ e)))
+          (arrive-quiet _ b (λ _. refl)))
+          (λ e. fitting kind is (ltb-false _ _ e) next)
+
+      -- a sender is looked for by Acks, by Heartbeats, and by Flow Control
+      as-kind : (kind : packets.Kind) → kindOf (f .kind) ≡ kind → Result
+      as-kind packet-kind.DataAck is =
+          let w = fair (binds-so h u packet-kind.DataAck is refl named) in
+          fitting packet-kind.DataAck is least-room (λ _. ack-own named is (w .0) (w .1 is))
+      as-kind packet-kind.ControlAck is = fitting packet-kind.ControlAck is least-room (λ _. control-ack-own)
+      as-kind packet-kind.HeartbeatAck is = fitting packet-kind.HeartbeatAck is least-room (λ _. beat-ack-own)
+      as-kind packet-kind.Heartbeat is = answered packet-kind.Heartbeat is (λ _. beat-own)
+      as-kind packet-kind.FlowControl is = answered packet-kind.FlowControl is (λ e. absurd (true≢false e))
       as-kind packet-kind.Data is = absurd (false≢true (looks packet-kind.Data is))
       as-kind packet-kind.Open is = absurd (false≢true (looks packet-kind.Open is))
       as-kind packet-kind.Close is = absurd (false≢true (looks packet-kind.Close is))

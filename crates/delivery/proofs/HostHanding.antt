@@ -13,7 +13,7 @@ use lib.ListN.{length, getD, take}
 use Rattle.laws.proofs.Choice.{both, either-way}
 use Rattle.packet.specs.Kinds.{kindOf}
 use Rattle.packet.specs.declared.fields.Fields.{Fields}
-use Rattle.packet.specs.Layout.{fieldsAt, payloadIn}
+use Rattle.packet.specs.Layout.{fieldsAt, lengthAt, payloadIn}
 use Rattle.walks.specs.Serving.{Worked}
 use Rattle.channel.specs.declared.record.Node.{Node}
 use Rattle.channel.specs.declared.record.Addresses.{Addresses}
@@ -67,10 +67,10 @@ ours-to : (node : Node) (f : Fields) → isOurs node f ≡ true → f .destinati
 unfolding isOurs
 ours-to node f e = eqb-true (f .destination) (node .address) (both (eqb (f .destination) (node .address)) (eqb (f .protocol) (node .protocol)) e .0)
 
-same-channel : (a : Addresses) (f : Fields) (q : Prefix) → same a f q ≡ true → a .channel ≡ f .channel
+same-channel : (a : Addresses) (f : Fields) (x : ℕ) (q : Prefix) → same a f x q ≡ true → a .channel ≡ f .channel
 unfolding same
-same-channel a f q e =
-    let p = both (eqb (a .channel) (f .channel) && eqb (a .remote) (f .source) && samePrefix (a .prefix) q) (looksFor (kindOf (f .kind)) (a .direction)) e in
+same-channel a f x q e =
+    let p = both (eqb (a .channel) (f .channel) && eqb (a .remote) (f .source) && samePrefix (a .prefix) q) (looksFor (kindOf (f .kind)) x (a .direction)) e in
     let r = both (eqb (a .channel) (f .channel) && eqb (a .remote) (f .source)) (samePrefix (a .prefix) q) (p .0) in
     eqb-true (a .channel) (f .channel) (both (eqb (a .channel) (f .channel)) (eqb (a .remote) (f .source)) (r .0) .0)
 
@@ -113,7 +113,7 @@ module _ {h s : End} {past : List Event} {x : Sender} {y : Receiver} {t : List C
       let on = ap (λ (f : Fields). f .channel) (carries .fields) ∙ next-channel (h .node) c rank in
       alone-here k j there apart
       (equal-rivals (c .addresses) (channelOf h .addresses)
-      (sym on ∙ sym (same-channel (channelOf s .addresses) (fieldsAt packet) (prefixRead packet) (w .same)) ∙ sym (k .alike .number))
+      (sym on ∙ sym (same-channel (channelOf s .addresses) (fieldsAt packet) (lengthAt packet) (prefixRead packet) (w .same)) ∙ sym (k .alike .number))
       (sym to ∙ ours-to (s .node) (fieldsAt packet) (w .ours) ∙ sym (k .alike .to-subscriber))
       (dir ∙ sym (k .alike .sends))
       (subst (λ (a : Addresses). samePrefix (a .prefix) (channelOf h .addresses .prefix) ≡ true) (sym (same-addresses h t mem lens (k .now .kept) j)) toward))

@@ -33,14 +33,14 @@ use Rattle.table.specs.Looking.{looksFor, same}
 use Rattle.arrivals.specs.Finding.{isOurs, prefixRead}
 use Rattle.arrivals.proofs.FindLaws.{Read-well}
 use Rattle.delivery.specs.Calls.{End, channelOf}
-use Rattle.delivery.specs.History.{namesBy, names, isBeat, binds}
+use Rattle.delivery.specs.History.{namesBy, names, isFree, binds}
 
 -- ---- a packet that names the channel
 
 pub record Named (node : Node) (a : Addresses) (packet : List ℕ) : Type 0 where
   pub well : Read-well packet
   pub ours : isOurs node (fieldsAt packet) ≡ true
-  pub same : same a (fieldsAt packet) (prefixRead packet) ≡ true
+  pub same : same a (fieldsAt packet) (lengthAt packet) (prefixRead packet) ≡ true
 
 -- by the reader's tests, in its order
 named-by : (node : Node) (a : Addresses) (packet : List ℕ) (b1 b2 b3 b4 : Bool)
@@ -54,7 +54,7 @@ named-by node a packet false true b3 b4 e1 e2 e3 e4 n = absurd (true≢false (sy
 named-by node a packet false false true b4 e1 e2 e3 e4 n = absurd (true≢false (sym n))
 named-by node a packet false false false true e1 e2 e3 e4 n = absurd (true≢false (sym n))
 named-by node a packet false false false false e1 e2 e3 e4 n =
-    let p = both (isOurs node (fieldsAt packet)) (same a (fieldsAt packet) (prefixRead packet)) n in
+    let p = both (isOurs node (fieldsAt packet)) (same a (fieldsAt packet) (lengthAt packet) (prefixRead packet)) n in
     record { well = record { short = e1; damaged = e2; lacking = e3; strange = e4 }; ours = p .0; same = p .1 }
 
 pub named-is : (e : End) (packet : List ℕ) → names e packet ≡ true → Named (e .node) (channelOf e .addresses) packet
@@ -63,15 +63,15 @@ named-is e packet n =
     named-by (e .node) (channelOf e .addresses) packet (short packet) (damaged packet) (lacking (fieldsAt packet) (prefixAt packet)) (strange (fieldsAt packet) (lengthAt packet)) refl refl refl refl n
 
 -- and back
-pub names-so : (e : End) (packet : List ℕ) → Read-well packet → isOurs (e .node) (fieldsAt packet) ≡ true → same (channelOf e .addresses) (fieldsAt packet) (prefixRead packet) ≡ true
+pub names-so : (e : End) (packet : List ℕ) → Read-well packet → isOurs (e .node) (fieldsAt packet) ≡ true → same (channelOf e .addresses) (fieldsAt packet) (lengthAt packet) (prefixRead packet) ≡ true
     → names e packet ≡ true
 names-so e packet w ours is =
     ap (λ (r : Read). namesBy r packet (e .node) (channelOf e .addresses)) (read-found packet (w .short) (w .damaged) (w .lacking) (w .strange))
     ∙ ap₂ (λ (p q : Bool). p && q) ours is
 
--- no Heartbeat, so that the premises bind it
-pub binds-so : (e : End) (packet : List ℕ) (kind : packets.Kind) → kindOf (fieldsAt packet .kind) ≡ kind → isBeat kind ≡ false → names e packet ≡ true → binds e packet ≡ true
-binds-so e packet kind is none named = ap₂ (λ (p q : Bool). p && not q) named (ap isBeat is ∙ none)
+-- of no kind that is free, so that the premises bind it
+pub binds-so : (e : End) (packet : List ℕ) (kind : packets.Kind) → kindOf (fieldsAt packet .kind) ≡ kind → isFree kind ≡ false → names e packet ≡ true → binds e packet ≡ true
+binds-so e packet kind is none named = ap₂ (λ (p q : Bool). p && not q) named (ap isFree is ∙ none)
 
 pub names-nothing : (e : End) → names e [] ≡ false
 unfolding readOf short
@@ -79,30 +79,31 @@ names-nothing e = refl
 
 -- ---- what two channels would have in common
 
--- but for a Heartbeat, a packet tells the direction of the end that it is for
-one-way : (kind : packets.Kind) (a b : ℕ) → isBeat kind ≡ false → looksFor kind a ≡ true → looksFor kind b ≡ true → a ≡ b
-one-way kinds.Data a b none p q = eqb-true _ _ p ∙ sym (eqb-true _ _ q)
-one-way kinds.DataAck a b none p q = eqb-true _ _ p ∙ sym (eqb-true _ _ q)
-one-way kinds.Open a b none p q = eqb-true _ _ p ∙ sym (eqb-true _ _ q)
-one-way kinds.Close a b none p q = eqb-true _ _ p ∙ sym (eqb-true _ _ q)
-one-way kinds.Heartbeat a b none p q = absurd (true≢false none)
-one-way kinds.HeartbeatAck a b none p q = absurd (true≢false none)
-one-way kinds.ControlAck a b none p q = eqb-true _ _ p ∙ sym (eqb-true _ _ q)
-one-way (kinds.Lacking code) a b none p q = eqb-true _ _ p ∙ sym (eqb-true _ _ q)
+-- a packet that is not free tells the direction of the end that it is for
+one-way : (kind : packets.Kind) (x a b : ℕ) → isFree kind ≡ false → looksFor kind x a ≡ true → looksFor kind x b ≡ true → a ≡ b
+one-way kinds.Data x a b none p q = eqb-true _ _ p ∙ sym (eqb-true _ _ q)
+one-way kinds.DataAck x a b none p q = eqb-true _ _ p ∙ sym (eqb-true _ _ q)
+one-way kinds.Open x a b none p q = eqb-true _ _ p ∙ sym (eqb-true _ _ q)
+one-way kinds.Close x a b none p q = eqb-true _ _ p ∙ sym (eqb-true _ _ q)
+one-way kinds.Heartbeat x a b none p q = absurd (true≢false none)
+one-way kinds.HeartbeatAck x a b none p q = absurd (true≢false none)
+one-way kinds.FlowControl x a b none p q = absurd (true≢false none)
+one-way kinds.ControlAck x a b none p q = eqb-true _ _ p ∙ sym (eqb-true _ _ q)
+one-way (kinds.Lacking code) x a b none p q = eqb-true _ _ p ∙ sym (eqb-true _ _ q)
 
-pub same-rivals : (a b : Addresses) (f : Fields) (q : Prefix) → isBeat (kindOf (f .kind)) ≡ false → same a f q ≡ true → same b f q ≡ true → rivals a b ≡ true
+pub same-rivals : (a b : Addresses) (f : Fields) (x : ℕ) (q : Prefix) → isFree (kindOf (f .kind)) ≡ false → same a f x q ≡ true → same b f x q ≡ true → rivals a b ≡ true
 unfolding same clash
-same-rivals a b f q none p r =
-    let p1 = both (eqb (a .channel) (f .channel) && eqb (a .remote) (f .source) && samePrefix (a .prefix) q) (looksFor (kindOf (f .kind)) (a .direction)) p in
-    let r1 = both (eqb (b .channel) (f .channel) && eqb (b .remote) (f .source) && samePrefix (b .prefix) q) (looksFor (kindOf (f .kind)) (b .direction)) r in
+same-rivals a b f x q none p r =
+    let p1 = both (eqb (a .channel) (f .channel) && eqb (a .remote) (f .source) && samePrefix (a .prefix) q) (looksFor (kindOf (f .kind)) x (a .direction)) p in
+    let r1 = both (eqb (b .channel) (f .channel) && eqb (b .remote) (f .source) && samePrefix (b .prefix) q) (looksFor (kindOf (f .kind)) x (b .direction)) r in
     let p2 = both (eqb (a .channel) (f .channel) && eqb (a .remote) (f .source)) (samePrefix (a .prefix) q) (p1 .0) in
     let r2 = both (eqb (b .channel) (f .channel) && eqb (b .remote) (f .source)) (samePrefix (b .prefix) q) (r1 .0) in
     let p3 = both (eqb (a .channel) (f .channel)) (eqb (a .remote) (f .source)) (p2 .0) in
     let r3 = both (eqb (b .channel) (f .channel)) (eqb (b .remote) (f .source)) (r2 .0) in
-    let x = eq-eqb (a .channel) (b .channel) (eqb-true (a .channel) (f .channel) (p3 .0) ∙ sym (eqb-true (b .channel) (f .channel) (r3 .0))) in
+    let w = eq-eqb (a .channel) (b .channel) (eqb-true (a .channel) (f .channel) (p3 .0) ∙ sym (eqb-true (b .channel) (f .channel) (r3 .0))) in
     let y = eq-eqb (a .remote) (b .remote) (eqb-true (a .remote) (f .source) (p3 .1) ∙ sym (eqb-true (b .remote) (f .source) (r3 .1))) in
-    let z = eq-eqb (a .direction) (b .direction) (one-way (kindOf (f .kind)) (a .direction) (b .direction) none (p1 .1) (r1 .1)) in
-    simp (x, y, z, same-both (a .prefix) (b .prefix) q (p2 .1) (r2 .1))
+    let z = eq-eqb (a .direction) (b .direction) (one-way (kindOf (f .kind)) x (a .direction) (b .direction) none (p1 .1) (r1 .1)) in
+    simp (w, y, z, same-both (a .prefix) (b .prefix) q (p2 .1) (r2 .1))
 
 pub equal-rivals : (a b : Addresses) → a .channel ≡ b .channel → a .remote ≡ b .remote → a .direction ≡ b .direction → samePrefix (a .prefix) (b .prefix) ≡ true
     → rivals a b ≡ true

@@ -11,7 +11,7 @@ use lib.ListN.{length, take, drop}
 use Rattle.laws.specs.Choice.{if_then_else_}
 use Rattle.laws.proofs.Choice.{both, either-way}
 use Rattle.packet.specs.declared.kinds.Kind.{Kind}
-use Rattle.packet.specs.declared.kinds.Kind.the-variants.{Data, DataAck, Open, Close, Heartbeat, HeartbeatAck, ControlAck, Lacking}
+use Rattle.packet.specs.declared.kinds.Kind.the-variants.{Data, DataAck, Open, Close, Heartbeat, HeartbeatAck, FlowControl, ControlAck, Lacking}
 use Rattle.packet.specs.Kinds.{kindOf}
 use Rattle.packet.specs.declared.fields.Fields.{Fields}
 use Rattle.packet.specs.Layout.{mostPrefix, prefixFrom, packetOf, payloadAt, fieldsAt, prefixAt, lengthAt, payloadIn}
@@ -158,11 +158,11 @@ module _ (node : Node) (a : Addresses) (number : ℕ) (fits : fitPrefix (a .own)
 
 -- ---- whom a Data Ack names
 
-module _ (node other : Node) (a b : Addresses) (number : ℕ) (q : Prefix) where
+module _ (node other : Node) (a b : Addresses) (number x : ℕ) (q : Prefix) where
   abbrev g : Fields
   g = outgoingOf node a DataAck flagsWhole number
 
-  pub ack-named : isOurs other g ≡ true → same b g q ≡ true → (a .remote ≡ other .address) × (b .channel ≡ a .channel)
+  pub ack-named : isOurs other g ≡ true → same b g x q ≡ true → (a .remote ≡ other .address) × (b .channel ≡ a .channel)
   unfolding isOurs same kindOf
   ack-named ours is =
       let p = both (eqb (g .destination) (other .address)) (eqb (g .protocol) (other .protocol)) ours in
@@ -173,7 +173,7 @@ module _ (node other : Node) (a b : Addresses) (number : ℕ) (q : Prefix) where
 
   pub ack-names : a .remote ≡ other .address → node .protocol ≡ other .protocol → b .channel ≡ a .channel → b .remote ≡ node .address → b .direction ≡ sends
       → samePrefix (b .prefix) q ≡ true
-      → (isOurs other g && same b g q) ≡ true
+      → (isOurs other g && same b g x q) ≡ true
   unfolding isOurs same kindOf
   ack-names e1 e2 e3 e4 e5 e6 =
       simp (eq-eqb (a .remote) (other .address) e1, eq-eqb (node .protocol) (other .protocol) e2, eq-eqb (b .channel) (a .channel) e3, eq-eqb (b .remote) (node .address) e4, eq-eqb (b .direction) sends e5, e6)
@@ -201,7 +201,7 @@ module _ (node : Node) (packet out : List ℕ) (at rank : ℕ) (c : Channel) (me
 
   pub arrival-wrote : Wrote (arrivalFor node packet c rank mem lens out)
   unfolding arrivalFor
-  arrival-wrote = either-way (ltb (length out) (replyLength c (kindOf (f .kind)))) small (λ e. by-fit (ltb-false _ _ e) (unfit c f x) refl)
+  arrival-wrote = either-way (ltb (length out) (replyLength c (kindOf (f .kind)) x)) small (λ e. by-fit (ltb-false _ _ e) (unfit c f x) refl)
     where
       f : Fields
       f = fieldsAt packet
@@ -226,9 +226,9 @@ module _ (node : Node) (packet out : List ℕ) (at rank : ℕ) (c : Channel) (me
           ⊎-elim (λ e. inl e) (λ e. inr (inl e))
           (reply-written node (c .addresses) n fits acked.Control out room (controlStep c opens n .answer) (control-long c opens n))
 
-      as-kind : (k : Kind) → kindOf (f .kind) ≡ k → replyLength c k ≤ length out → Wrote (arriveAs k node f p c rank mem lens out)
+      as-kind : (k : Kind) → kindOf (f .kind) ≡ k → replyLength c k x ≤ length out → Wrote (arriveAs k node f p c rank mem lens out)
       as-kind Data is room =
-          ⊎-elim (λ e. inl e) (λ e. inr (inr (inr (eqb-true _ _ (kind-finds (c .addresses) f (prefixRead packet) Data (told .ours) is), e))))
+          ⊎-elim (λ e. inl e) (λ e. inr (inr (inr (eqb-true _ _ (kind-finds (c .addresses) f x (prefixRead packet) Data (told .ours) is), e))))
           (reply-written node (c .addresses) n fits acked.Data out room (dataStep c n (f .flags) .answer) (data-long c n (f .flags)))
       as-kind DataAck is room = silent (dataAckStep c n) (data-ack-silent c n)
       as-kind Open is room = control room true
@@ -237,12 +237,13 @@ module _ (node : Node) (packet out : List ℕ) (at rank : ℕ) (c : Channel) (me
           ⊎-elim (λ e. inl e) (λ e. inr (inr (inl e)))
           (reply-written node (c .addresses) n fits acked.Heartbeat out room (heartbeatStep c .answer) (heartbeat-long c))
       as-kind HeartbeatAck is room = silent (heartbeatAckStep c n) (heartbeat-ack-silent c n)
+      as-kind FlowControl is room = inl refl
       as-kind ControlAck is room = silent (controlAckStep c n) (control-ack-silent c n)
       as-kind (Lacking code) is room = inl refl
 
-      small : ltb (length out) (replyLength c (kindOf (f .kind))) ≡ true → Wrote (arriveBy node f x p c rank mem lens out)
+      small : ltb (length out) (replyLength c (kindOf (f .kind)) x) ≡ true → Wrote (arriveBy node f x p c rank mem lens out)
       small e = subst Wrote (sym (by-small node f x p c rank mem lens out (kindOf (f .kind)) refl (ltb-true _ _ e))) (inl refl)
 
-      by-fit : replyLength c (kindOf (f .kind)) ≤ length out → (b : Bool) → unfit c f x ≡ b → Wrote (arriveBy node f x p c rank mem lens out)
+      by-fit : replyLength c (kindOf (f .kind)) x ≤ length out → (b : Bool) → unfit c f x ≡ b → Wrote (arriveBy node f x p c rank mem lens out)
       by-fit room true e = subst Wrote (sym (by-unfit node f x p c rank mem lens out room e)) (inl refl)
       by-fit room false e = subst Wrote (sym (by-kind node f x p c rank mem lens out room e (kindOf (f .kind)) refl)) (as-kind (kindOf (f .kind)) refl room)

@@ -124,9 +124,9 @@ module _ {h s : End} {past : List Event} {x : Sender} {y : Receiver} {t : List C
       let d : Addresses = recordAt t j .addresses in
       let begun : d ≡ recordAt (s .table) j .addresses = same-addresses s t mem lens (w .now .kept) j in
       let is-named = named-is h (take (lengthOf a) o) (ap (names h) wrote ∙ named) in
-      let z = ack-named (s .node) (h .node) d (channelOf h .addresses) number (prefixRead (take (lengthOf a) o))
+      let z = ack-named (s .node) (h .node) d (channelOf h .addresses) number (lengthAt (take (lengthOf a) o)) (prefixRead (take (lengthOf a) o))
       (subst (λ (g : Fields). isOurs (h .node) g ≡ true) (k .fields) (is-named .ours))
-      (subst (λ (g : Fields). same (channelOf h .addresses) g (prefixRead (take (lengthOf a) o)) ≡ true) (k .fields) (is-named .same))
+      (subst (λ (g : Fields). same (channelOf h .addresses) g (lengthAt (take (lengthOf a) o)) (prefixRead (take (lengthOf a) o)) ≡ true) (k .fields) (is-named .same))
       in
       let region : samePrefix (d .prefix) (channelOf s .addresses .prefix) ≡ true
       = subst (λ (b : Addresses). samePrefix (b .prefix) (channelOf s .addresses .prefix) ≡ true) (sym begun) (subst (Toward s) index toward)
@@ -167,7 +167,7 @@ module _ {h s : End} {past : List Event} {x : Sender} {y : Receiver} {t : List C
     for-us : names s packet ≡ true
     for-us =
         let q = found-packet (s .node) packet (length buffer) (g .lines) i c (subst (λ (k : ℕ). k < 48) (g .suits) (g .found)) in
-        names-so s packet (q .1) (q .2) (ap (λ (a : Addresses). same a f (prefixRead packet)) (sym (addresses-are w)) ∙ told .ours)
+        names-so s packet (q .1) (q .2) (ap (λ (a : Addresses). same a f count (prefixRead packet)) (sym (addresses-are w)) ∙ told .ours)
 
     short-payload : unfit c f count ≡ false → kindOf (f .kind) ≡ packet-kind.Data → length p ≤ c .limits .payload
     short-payload fit kind = omega (arith, fit-payload c f count fit kind, length-take count (drop (payloadAt (prefixAt packet)) packet))
@@ -199,30 +199,32 @@ module _ {h s : End} {past : List Event} {x : Sender} {y : Receiver} {t : List C
         moves-next w request copy (step .answer) buffer refl refl (unwritten w request copy (step .answer) buffer (ap (λ (z : ℕ). take z buffer) (heartbeat-ack-silent c (f .number))))
         (step .channel) (still-moves c (step .channel) m l y (heartbeat-ack-receives c m l y (w .now .means) (f .number)))
 
-    as-kind : unfit c f count ≡ false → (kind : packets.Kind) → kindOf (f .kind) ≡ kind → replyLength c kind ≤ length buffer
+    as-kind : unfit c f count ≡ false → (kind : packets.Kind) → kindOf (f .kind) ≡ kind → replyLength c kind count ≤ length buffer
         → Made (arriveAs kind (s .node) f p c rank m l buffer)
     as-kind fit packet-kind.Data is room =
         let q = fair (binds-so s packet packet-kind.Data is refl for-us) in
         data-next w channel packet buffer copy toward for-us is (q .0) (q .1 is) room (told .flags) (short-payload fit is)
-    as-kind fit packet-kind.DataAck is room = absurd (not-sending w (eqb-true _ _ (kind-finds (c .addresses) f (prefixRead packet) packet-kind.DataAck (told .ours) is)))
+    as-kind fit packet-kind.DataAck is room = absurd (not-sending w (eqb-true _ _ (kind-finds (c .addresses) f count (prefixRead packet) packet-kind.DataAck (told .ours) is)))
     as-kind fit packet-kind.Open is room = control room true
     as-kind fit packet-kind.Close is room = control room false
     as-kind fit packet-kind.Heartbeat is room =
         replied room acked.Heartbeat refl (λ e. omega (arith, e)) (heartbeatStep c) (heartbeat-long c)
         (still-moves c (heartbeatStep c .channel) m l y (heartbeat-receives c m l y (w .now .means)))
     as-kind fit packet-kind.HeartbeatAck is room = beat-ack
-    as-kind fit packet-kind.ControlAck is room = absurd (not-sending w (eqb-true _ _ (kind-finds (c .addresses) f (prefixRead packet) packet-kind.ControlAck (told .ours) is)))
+    as-kind fit packet-kind.FlowControl is room =
+        arrives-quiet (Refused refusal.Strange) buffer (unwritten w request copy (Refused refusal.Strange) buffer refl)
+    as-kind fit packet-kind.ControlAck is room = absurd (not-sending w (eqb-true _ _ (kind-finds (c .addresses) f count (prefixRead packet) packet-kind.ControlAck (told .ours) is)))
     as-kind fit (packet-kind.Lacking code) is room =
         arrives-quiet (Refused refusal.Lacking) buffer (unwritten w request copy (Refused refusal.Lacking) buffer refl)
 
     refused : (why : refusals.Refusal) → Made (works (refusing c why) m l buffer)
     refused why = arrives-quiet (Refused why) buffer (unwritten w request copy (Refused why) buffer refl)
 
-    small : ltb (length buffer) (replyLength c (kindOf (f .kind))) ≡ true → Made (arriveBy (s .node) f count p c rank m l buffer)
+    small : ltb (length buffer) (replyLength c (kindOf (f .kind)) count) ≡ true → Made (arriveBy (s .node) f count p c rank m l buffer)
     small e =
-        subst Made (sym (by-small (s .node) f count p c rank m l buffer (kindOf (f .kind)) refl (ltb-true _ _ e))) (refused (refusal.Small (replyLength c (kindOf (f .kind)))))
+        subst Made (sym (by-small (s .node) f count p c rank m l buffer (kindOf (f .kind)) refl (ltb-true _ _ e))) (refused (refusal.Small (replyLength c (kindOf (f .kind)) count)))
 
-    by-fit : replyLength c (kindOf (f .kind)) ≤ length buffer → (b : Bool) → unfit c f count ≡ b → Made (arriveBy (s .node) f count p c rank m l buffer)
+    by-fit : replyLength c (kindOf (f .kind)) count ≤ length buffer → (b : Bool) → unfit c f count ≡ b → Made (arriveBy (s .node) f count p c rank m l buffer)
     by-fit room true e = subst Made (sym (by-unfit (s .node) f count p c rank m l buffer room e)) (refused refusal.Strange)
     by-fit room false e =
         let kind = kindOf (f .kind) in
@@ -230,7 +232,7 @@ module _ {h s : End} {past : List Event} {x : Sender} {y : Receiver} {t : List C
 
     own-arrival : Made (arrivalFor (s .node) packet c rank m l buffer)
     unfolding arrivalFor
-    own-arrival = either-way (ltb (length buffer) (replyLength c (kindOf (f .kind)))) small (λ e. by-fit (ltb-false _ _ e) (unfit c f count) refl)
+    own-arrival = either-way (ltb (length buffer) (replyLength c (kindOf (f .kind)) count)) small (λ e. by-fit (ltb-false _ _ e) (unfit c f count) refl)
 
   pub subscriber-arrives : (binds s packet ≡ true → HandedOut h past copy packet × (IsData packet → NotLate (endWith s t mem lens lines n) copy))
       → Seen (Next w request copy) i (calledBy arrives (endWith s t mem lens lines n) request)

@@ -171,7 +171,7 @@ module _ {h s : End} {past : List Event} {x : Sender} {y : Receiver} {t : List C
     ack-for-host q k =
         let d = addresses-are w in
         ap (λ (r : Read). namesBy r q (h .node) (channelOf h .addresses)) (k .read)
-        ∙ ack-names (s .node) (h .node) (c .addresses) (channelOf h .addresses) (f .number) (prefixRead q)
+        ∙ ack-names (s .node) (h .node) (c .addresses) (channelOf h .addresses) (f .number) 0 (prefixRead q)
         (ap (λ (a : Addresses). a .remote) d ∙ w .alike .to-host) (sym (w .alike .protocol)) (w .alike .number ∙ sym (ap (λ (a : Addresses). a .channel) d))
         (w .alike .to-subscriber) (w .alike .sends) (from-us q k)
 

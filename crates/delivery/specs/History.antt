@@ -65,7 +65,7 @@ written e = take (lengthOf (e .answer)) (e .out)
 
 -- The octets are a packet that a node takes for the channel with these addresses: whole, undamaged, of a known form, and addressed to it.
 abbrev pub namesBy : Read → List ℕ → Node → Addresses → Bool
-namesBy (Found f n start x) packet node a = isOurs node f && same a f (prefixRead packet)
+namesBy (Found f n start x) packet node a = isOurs node f && same a f x (prefixRead packet)
 namesBy Short packet node a = false
 namesBy Damaged packet node a = false
 namesBy Strange packet node a = false
@@ -74,20 +74,22 @@ namesBy Lacking packet node a = false
 abbrev pub names : End → List ℕ → Bool
 names e packet = namesBy (readOf packet) packet (e .node) (channelOf e .addresses)
 
--- a Heartbeat or the Ack of one (document 02, A2)
-abbrev pub isBeat : packets.Kind → Bool
-isBeat kinds.Data = false
-isBeat kinds.DataAck = false
-isBeat kinds.Open = false
-isBeat kinds.Close = false
-isBeat kinds.Heartbeat = true
-isBeat kinds.HeartbeatAck = true
-isBeat kinds.ControlAck = false
-isBeat (kinds.Lacking code) = false
+-- a Heartbeat, Flow Control, or the Ack of either (document 02, A2 and A5)
+abbrev pub isFree : packets.Kind → Bool
+isFree kinds.Data = false
+isFree kinds.DataAck = false
+isFree kinds.Open = false
+isFree kinds.Close = false
+isFree kinds.Heartbeat = true
+isFree kinds.HeartbeatAck = true
+isFree kinds.FlowControl = true
+isFree kinds.ControlAck = false
+isFree (kinds.Lacking code) = false
 
--- It names the channel, and the premises bind it: any other packet but a Heartbeat and its Ack. Of these the link may bring what it likes, forged ones too.
+-- It names the channel, and the premises bind it: any other packet. Of Heartbeats, Flow Control and their Acks the link may bring what it likes, forged
+-- ones too.
 abbrev pub binds : End → List ℕ → Bool
-binds e packet = names e packet && not (isBeat (kindOf (fieldsAt packet .kind)))
+binds e packet = names e packet && not (isFree (kindOf (fieldsAt packet .kind)))
 
 -- of what kind it is
 abbrev pub IsData : List ℕ → Type 0

@@ -58,6 +58,7 @@ isDataAck packet-kind.Open = false
 isDataAck packet-kind.Close = false
 isDataAck packet-kind.Heartbeat = false
 isDataAck packet-kind.HeartbeatAck = false
+isDataAck packet-kind.FlowControl = false
 isDataAck packet-kind.ControlAck = false
 isDataAck (packet-kind.Lacking code) = false
 

@@ -170,7 +170,7 @@ pub question-by-addresses : (i : ℕ) → ByAddresses (seeking (Question i))
 question-by-addresses i lines lines2 j c d e = refl
 
 pub packet-by-addresses : (f : Fields) (q : Prefix) (start x : ℕ) → ByAddresses (record { sought = Packet f start x; prefix = q })
-packet-by-addresses f q start x lines lines2 j c d e = ap (addressed f q) e
+packet-by-addresses f q start x lines lines2 j c d e = ap (addressed f x q) e
 
 pub nobody-by-addresses : (why : Refusal) → ByAddresses (seeking (Nobody why))
 nobody-by-addresses why lines lines2 j c d e = refl

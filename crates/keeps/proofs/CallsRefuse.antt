@@ -15,7 +15,7 @@ use Rattle.packet.specs.declared.fields.Fields.{Fields}
 use Rattle.packet.specs.Layout.{fieldsAt, lengthAt}
 use Rattle.walks.specs.Serving.{Worked, works, changes}
 use Rattle.packet.specs.declared.kinds.Kind.{Kind}
-use Rattle.packet.specs.declared.kinds.Kind.the-variants.{Data, DataAck, Open, Close, Heartbeat, HeartbeatAck, ControlAck, Lacking}
+use Rattle.packet.specs.declared.kinds.Kind.the-variants.{Data, DataAck, Open, Close, Heartbeat, HeartbeatAck, FlowControl, ControlAck, Lacking}
 use Rattle.packet.specs.Kinds.{kindOf}
 use Rattle.channel.specs.declared.record.Node.{Node}
 use Rattle.channel.specs.declared.record.Addresses.{Addresses}
@@ -237,14 +237,14 @@ module _ (node : Node) (f : Fields) (x : ℕ) (p : List ℕ) (c : Channel) (rank
       → P (works (heartbeatAckStep c (f .number)) mem lens out)
       → P (arriveBy node f x p c rank mem lens out)
   unfolding arriveBy
-  arrive-cases refuses filed data-ack control-ack control beat beat-ack = go (ltb (length out) (replyLength c (kindOf (f .kind)))) (unfit c f x) (kindOf (f .kind))
+  arrive-cases refuses filed data-ack control-ack control beat beat-ack = go (ltb (length out) (replyLength c (kindOf (f .kind)) x)) (unfit c f x) (kindOf (f .kind))
     where
       go : (small over : Bool) (k : Kind)
           → P
-          (if small then works (refusing c (refusal.Small (replyLength c k))) mem lens out
+          (if small then works (refusing c (refusal.Small (replyLength c k x))) mem lens out
           else if over then works (refusing c refusal.Strange) mem lens out
           else arriveAs k node f p c rank mem lens out)
-      go true over k = refuses (refusal.Small (replyLength c k))
+      go true over k = refuses (refusal.Small (replyLength c k x))
       go false true k = refuses refusal.Strange
       go false false Data = filed
       go false false DataAck = data-ack
@@ -252,6 +252,7 @@ module _ (node : Node) (f : Fields) (x : ℕ) (p : List ℕ) (c : Channel) (rank
       go false false Close = control false
       go false false Heartbeat = beat
       go false false HeartbeatAck = beat-ack
+      go false false FlowControl = refuses refusal.Strange
       go false false ControlAck = control-ack
       go false false (Lacking code) = refuses refusal.Lacking
 

@@ -15,7 +15,7 @@ use Rattle.packet.specs.declared.fields.Fields.{Fields}
 use Rattle.packet.specs.Layout.{fieldsAt, prefixAt, lengthAt, payloadAt, payloadIn}
 use Rattle.walks.specs.Serving.{works}
 use Rattle.packet.specs.declared.kinds.Kind.{Kind}
-use Rattle.packet.specs.declared.kinds.Kind.the-variants.{Data, DataAck, Open, Close, Heartbeat, HeartbeatAck, ControlAck, Lacking}
+use Rattle.packet.specs.declared.kinds.Kind.the-variants.{Data, DataAck, Open, Close, Heartbeat, HeartbeatAck, FlowControl, ControlAck, Lacking}
 use Rattle.packet.specs.Kinds.{kindOf}
 use Rattle.channel.specs.declared.record.Node.{Node}
 use Rattle.channel.specs.declared.record.Channel.{Channel}
@@ -190,7 +190,7 @@ payload-short c s fit k =
 
 pub arrival-keeps : (node : Node) (packet out : List ℕ) → Keeps (lookOf node packet (length out)) (arrivalFor node packet) out
 unfolding arrivalFor
-arrival-keeps node packet out at rank c mem lens g = either-way (ltb (length out) (replyLength c (kindOf (f .kind)))) small (λ e. by-fit (ltb-false _ _ e) (unfit c f x) refl)
+arrival-keeps node packet out at rank c mem lens g = either-way (ltb (length out) (replyLength c (kindOf (f .kind)) x)) small (λ e. by-fit (ltb-false _ _ e) (unfit c f x) refl)
   where
     f : Fields
     f = fieldsAt packet
@@ -230,7 +230,7 @@ arrival-keeps node packet out at rank c mem lens g = either-way (ltb (length out
     control dir opens =
         replied acked.Control (receiver.controlStep c opens n) (fixed.control-fixed c opens n) (received.control-stands c lens dir (g .standing) opens n)
 
-    as-kind : unfit c f x ≡ false → (k : Kind) → kindOf (f .kind) ≡ k → looksFor k (c .addresses .direction) ≡ true → Kept c (arriveAs k node f p c rank mem lens out)
+    as-kind : unfit c f x ≡ false → (k : Kind) → kindOf (f .kind) ≡ k → looksFor k x (c .addresses .direction) ≡ true → Kept c (arriveAs k node f p c rank mem lens out)
     as-kind fit Data is dir =
         let short = payload-short c packet fit is in
         record {
@@ -246,21 +246,22 @@ arrival-keeps node packet out at rank c mem lens g = either-way (ltb (length out
     as-kind fit Heartbeat is dir = replied acked.Heartbeat (heartbeatStep c) (heartbeat-fixed c) (heartbeat-keeps c lens (g .standing))
     as-kind fit HeartbeatAck is dir =
         quiet-kept c mem lens out (g .sized) (heartbeatAckStep c n) (heartbeat-ack-fixed c n) (heartbeat-ack-keeps c lens (g .standing) n)
+    as-kind fit FlowControl is dir = refused-kept c mem lens out (g .sized) refusal.Strange (g .standing)
     as-kind fit ControlAck is dir =
         quiet-kept c mem lens out (g .sized) (controlAckStep c n) (sent.control-ack-fixed c n) (control-ack-stands c lens n (g .standing) (sending dir))
     as-kind fit (Lacking code) is dir = refused-kept c mem lens out (g .sized) refusal.Lacking (g .standing)
 
-    small : ltb (length out) (replyLength c (kindOf (f .kind))) ≡ true → Wanted
+    small : ltb (length out) (replyLength c (kindOf (f .kind)) x) ≡ true → Wanted
     small e =
         subst (Kept c) (sym (by-small node f x p c rank mem lens out (kindOf (f .kind)) refl (ltb-true _ _ e)))
-        (refused-kept c mem lens out (g .sized) (refusal.Small (replyLength c (kindOf (f .kind)))) (g .standing))
+        (refused-kept c mem lens out (g .sized) (refusal.Small (replyLength c (kindOf (f .kind)) x)) (g .standing))
 
-    by-fit : replyLength c (kindOf (f .kind)) ≤ length out → (b : Bool) → unfit c f x ≡ b → Wanted
+    by-fit : replyLength c (kindOf (f .kind)) x ≤ length out → (b : Bool) → unfit c f x ≡ b → Wanted
     by-fit room true e =
         subst (Kept c) (sym (by-unfit node f x p c rank mem lens out room e)) (refused-kept c mem lens out (g .sized) refusal.Strange (g .standing))
     by-fit room false e =
         let k = kindOf (f .kind) in
-        subst (Kept c) (sym (by-kind node f x p c rank mem lens out room e k refl)) (as-kind e k refl (kind-finds (c .addresses) f (prefixRead packet) k (told .ours) refl))
+        subst (Kept c) (sym (by-kind node f x p c rank mem lens out room e k refl)) (as-kind e k refl (kind-finds (c .addresses) f x (prefixRead packet) k (told .ours) refl))
 
 -- ---- a tick of one channel
 

@@ -14,9 +14,9 @@ use Rattle.laws.proofs.Choice.{neither}
 use Rattle.crc.specs.Crc.{crcOf}
 use Rattle.packet.specs.declared.fields.Fields.{Fields}
 use Rattle.packet.specs.declared.kinds.Kind.{Kind}
-use Rattle.packet.specs.Kinds.{kindOf, isData}
+use Rattle.packet.specs.Kinds.{kindOf, isData, mostCarried}
 use Rattle.packet.specs.Layout.{least, mostPrefix, wholeLength, prefixAt, lengthAt}
-use Rattle.packet.proofs.KindLaws.{carried-small}
+use Rattle.packet.proofs.KindLaws.{carried-small, few-carried}
 use Rattle.packet.specs.Tests.{short, damaged, lacking, strange, flagsAllowed, payloadAllowed, Sound}
 
 -- ---- 1
@@ -60,9 +60,9 @@ payload-small k g x = go (isData k)
     counted true z e = omega (arith, eqb-true x 0 z)
     counted false z e = omega (arith, leb-true x 65535 e)
 
-    go : (t : Bool) → (if t then (if eqb x 0 then leb 2 g else leb x 65535) else eqb x 0) ≡ true → x < 65536
+    go : (t : Bool) → (if t then (if eqb x 0 then leb 2 g else leb x 65535) else leb x (mostCarried k)) ≡ true → x < 65536
     go true e = counted (eqb x 0) refl e
-    go false e = omega (arith, eqb-true x 0 e)
+    go false e = omega (arith, leb-true x (mostCarried k) e, few-carried k)
 
 pub sound : (f : Fields) (n x : ℕ) → lacking f n ≡ false → strange f x ≡ false → Sound f n x
 unfolding lacking strange

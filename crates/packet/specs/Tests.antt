@@ -10,7 +10,7 @@ use Rattle.laws.specs.Octets.{pairAt}
 use Rattle.crc.specs.Crc.{crcOf}
 use Rattle.packet.specs.declared.fields.Fields.{Fields}
 use Rattle.packet.specs.declared.kinds.Kind.{Kind}
-use Rattle.packet.specs.Kinds.{kindOf, isData, carried}
+use Rattle.packet.specs.Kinds.{kindOf, isData, carried, mostCarried}
 use Rattle.packet.specs.Layout.{least, mostPrefix, wholeLength, prefixAt, lengthAt}
 
 -- the sequence flags of a segment that ends its unit, 10 if others came before it, 11 if it is the whole (000, Table 4-1)
@@ -42,10 +42,10 @@ lacking f n = not (eqb (f .secondary) 0) || ltb mostPrefix n || not (carried (ki
 abbrev pub flagsAllowed : Kind → ℕ → Bool
 flagsAllowed kind flags = if isData kind then leb flags flagsWhole else eqb flags flagsWhole
 
--- Data carries what two octets can count, and nothing only where it ends its unit (document 02, A8); every other packet carries nothing
--- (000, 4.2.4.1)
+-- Data carries what two octets can count, and nothing only where it ends its unit (document 02, A8); every other packet carries nothing, or
+-- at most the number stated (000, 4.2.4.1; document 02, A5)
 abbrev pub payloadAllowed : Kind → ℕ → ℕ → Bool
-payloadAllowed kind flags x = if isData kind then (if eqb x 0 then leb flagsLast flags else leb x 65535) else eqb x 0
+payloadAllowed kind flags x = if isData kind then (if eqb x 0 then leb flagsLast flags else leb x 65535) else leb x (mostCarried kind)
 
 unfoldable pub strange : Fields → ℕ → Bool
 strange f x =

@@ -2,6 +2,7 @@
 use crate::kinds::Kind;
 use crate::kinds::is_data;
 use crate::kinds::kind_of;
+use crate::kinds::most_carried;
 ghost use mathlib.Core.Path.{_≡_};
 ghost use Rattle.packet.specs.Kinds.{carried};
 ghost use Rattle.packet.specs.Tests.{lacking, flagsAllowed, payloadAllowed, strange};
@@ -85,6 +86,7 @@ fn is_carried(kind: Kind) -> bool
         Kind::Close => true,
         Kind::Heartbeat => true,
         Kind::HeartbeatAck => true,
+        Kind::FlowControl => true,
         Kind::ControlAck => true,
         Kind::Lacking(_) => false,
     }
@@ -109,5 +111,5 @@ fn allows_payload(kind: Kind, flags: u8, length: usize) -> bool
         }
         return length <= 65535;
     }
-    length == 0
+    length <= most_carried(kind)
 }

@@ -1,6 +1,6 @@
 // The kinds of packets, and the codes of their types (000, Table 4-2). No type is told by its number anywhere else.
 ghost use mathlib.Core.Path.{_≡_};
-ghost use Rattle.packet.specs.Kinds.{isData, codeOf, kindOf};
+ghost use Rattle.packet.specs.Kinds.{isData, codeOf, kindOf, mostCarried};
 
 pub enum Kind {
     Data,
@@ -9,8 +9,10 @@ pub enum Kind {
     Close,
     Heartbeat,
     HeartbeatAck,
+    // Flow Control with one octet, its Ack with none.
+    FlowControl,
     ControlAck,
-    // A type that is not carried, by its code: Flow Control, or no type at all.
+    // A code that is no type.
     Lacking(u8),
 }
 
@@ -26,6 +28,8 @@ const HEARTBEAT: u8 = 4;
 
 const HEARTBEAT_ACK: u8 = 5;
 
+const FLOW_CONTROL: u8 = 6;
+
 const CONTROL_ACK: u8 = 7;
 
 pub fn code_of(kind: Kind) -> u8
@@ -38,6 +42,7 @@ pub fn code_of(kind: Kind) -> u8
         Kind::Close => CLOSE,
         Kind::Heartbeat => HEARTBEAT,
         Kind::HeartbeatAck => HEARTBEAT_ACK,
+        Kind::FlowControl => FLOW_CONTROL,
         Kind::ControlAck => CONTROL_ACK,
         Kind::Lacking(code) => code,
     }
@@ -64,6 +69,9 @@ pub fn kind_of(code: u8) -> Kind
     if code == HEARTBEAT_ACK {
         return Kind::HeartbeatAck;
     }
+    if code == FLOW_CONTROL {
+        return Kind::FlowControl;
+    }
     if code == CONTROL_ACK {
         return Kind::ControlAck;
     }
@@ -80,7 +88,25 @@ pub fn is_data(kind: Kind) -> bool
         Kind::Close => false,
         Kind::Heartbeat => false,
         Kind::HeartbeatAck => false,
+        Kind::FlowControl => false,
         Kind::ControlAck => false,
         Kind::Lacking(_) => false,
+    }
+}
+
+// How many octets a packet other than Data carries at most: where a number is stated, that one.
+pub fn most_carried(kind: Kind) -> usize
+    ensures { λ r. ⌜ r ≡ mostCarried kind ⌝ }
+{
+    match kind {
+        Kind::Data => 0,
+        Kind::DataAck => 1,
+        Kind::Open => 0,
+        Kind::Close => 0,
+        Kind::Heartbeat => 0,
+        Kind::HeartbeatAck => 0,
+        Kind::FlowControl => 1,
+        Kind::ControlAck => 1,
+        Kind::Lacking(_) => 0,
     }
 }

@@ -103,14 +103,14 @@ module _ (v : Survey) (n m l : ℕ) where
 
 -- ---- a packet's channel
 
-pub same-rest : (a : Addresses) (f : Fields) (q : Prefix) → a .channel ≡ f .channel → a .remote ≡ f .source → samePrefix (a .prefix) q ≡ true
-    → same a f q ≡ looksFor (kindOf (f .kind)) (a .direction)
+pub same-rest : (a : Addresses) (f : Fields) (x : ℕ) (q : Prefix) → a .channel ≡ f .channel → a .remote ≡ f .source → samePrefix (a .prefix) q ≡ true
+    → same a f x q ≡ looksFor (kindOf (f .kind)) x (a .direction)
 unfolding same
-same-rest a f q e e2 e3 = simp (eq-eqb (a .channel) (f .channel) e, eq-eqb (a .remote) (f .source) e2, e3)
+same-rest a f x q e e2 e3 = simp (eq-eqb (a .channel) (f .channel) e, eq-eqb (a .remote) (f .source) e2, e3)
 
--- its direction is looked for: Data Acks and Control Acks find a sender, Data and Control a receiver, Heartbeats and their Acks either
-pub kind-finds : (a : Addresses) (f : Fields) (q : Prefix) (k : Kind) → same a f q ≡ true → kindOf (f .kind) ≡ k → looksFor k (a .direction) ≡ true
+-- its direction is looked for: Data Acks and Control Acks find a sender, Data and Control a receiver, Heartbeats and their Acks either, type 6 by what it carries
+pub kind-finds : (a : Addresses) (f : Fields) (x : ℕ) (q : Prefix) (k : Kind) → same a f x q ≡ true → kindOf (f .kind) ≡ k → looksFor k x (a .direction) ≡ true
 unfolding same
-kind-finds a f q k e is =
-    ap (λ (x : Kind). looksFor x (a .direction)) (sym is)
+kind-finds a f x q k e is =
+    ap (λ (z : Kind). looksFor z x (a .direction)) (sym is)
     ∙ both (eqb (a .channel) (f .channel) && eqb (a .remote) (f .source) && samePrefix (a .prefix) q) _ e .1

@@ -1,5 +1,5 @@
 -- Which record of the table a call is for (document 01, Answer numbers: 'Data and Control look for a receiving record, Acks for a sending
--- one; none found is 14'; document 02, A2: a Heartbeat and its Ack for either; A4, in place of 01's order of channels of equal rank).
+-- one; none found is 14'; document 02, A2: a Heartbeat and its Ack for either; A5: Flow Control for a sending one, its Ack for a receiving one; A4, in place of 01's order of channels of equal rank).
 use Prim.Native.Nat.{ℕ, _+_}
 use mathlib.Core.Bool.{Bool, true, _&&_}
 use mathlib.Core.List.{List, [], _∷_}
@@ -7,7 +7,7 @@ use lib.Dec.{leb, ltb, eqb}
 use Rattle.laws.specs.Choice.{if_then_else_}
 use Rattle.packet.specs.declared.fields.Fields.{Fields}
 use Rattle.packet.specs.declared.kinds.Kind.{Kind}
-use Rattle.packet.specs.declared.kinds.Kind.the-variants.{Data, DataAck, Open, Close, Heartbeat, HeartbeatAck, ControlAck, Lacking}
+use Rattle.packet.specs.declared.kinds.Kind.the-variants.{Data, DataAck, Open, Close, Heartbeat, HeartbeatAck, FlowControl, ControlAck, Lacking}
 use Rattle.packet.specs.Kinds.{kindOf}
 use Rattle.channel.specs.declared.record.Addresses.{Addresses}
 use Rattle.channel.specs.declared.record.Channel.{Channel}
@@ -21,24 +21,29 @@ use Rattle.table.specs.declared.looking.Sought.{Sought}
 use Rattle.table.specs.declared.looking.Sought.the-variants.{Index, Question, Packet, Ready, Nobody}
 use Rattle.table.specs.Waiting.{gradeAt}
 
--- a packet of a kind looks for a record of this direction; no field of a Heartbeat tells its end
-abbrev pub looksFor : Kind → ℕ → Bool
-looksFor Data direction = eqb direction receives
-looksFor DataAck direction = eqb direction sends
-looksFor Open direction = eqb direction receives
-looksFor Close direction = eqb direction receives
-looksFor Heartbeat direction = true
-looksFor HeartbeatAck direction = true
-looksFor ControlAck direction = eqb direction sends
-looksFor (Lacking code) direction = eqb direction receives
+-- of type 6 the octets that it carries tell its end: one, and it is Flow Control; none, and it is the Ack of it
+abbrev pub flowFinds : ℕ → ℕ
+flowFinds x = if eqb x 0 then receives else sends
 
--- a packet with the prefix q is for the channel with these addresses
-unfoldable pub same : Addresses → Fields → Prefix → Bool
-same a f q =
+-- a packet of a kind that carries x octets looks for a record of this direction; no field of a Heartbeat tells its end
+abbrev pub looksFor : Kind → ℕ → ℕ → Bool
+looksFor Data x direction = eqb direction receives
+looksFor DataAck x direction = eqb direction sends
+looksFor Open x direction = eqb direction receives
+looksFor Close x direction = eqb direction receives
+looksFor Heartbeat x direction = true
+looksFor HeartbeatAck x direction = true
+looksFor FlowControl x direction = eqb direction (flowFinds x)
+looksFor ControlAck x direction = eqb direction sends
+looksFor (Lacking code) x direction = eqb direction receives
+
+-- a packet that carries x octets, with the prefix q, is for the channel with these addresses
+unfoldable pub same : Addresses → Fields → ℕ → Prefix → Bool
+same a f x q =
     eqb (a .channel) (f .channel)
     && eqb (a .remote) (f .source)
     && samePrefix (a .prefix) q
-    && looksFor (kindOf (f .kind)) (a .direction)
+    && looksFor (kindOf (f .kind)) x (a .direction)
 
 -- what is looked for where no prefix counts
 abbrev pub seeking : Sought → Look
@@ -49,14 +54,14 @@ seeking sought = record { sought = sought; prefix = noPrefix }
 abbrev pub indexed : ℕ → ℕ → ℕ
 indexed i j = if eqb i j then 0 else 48
 
-abbrev pub addressed : Fields → Prefix → Addresses → ℕ
-addressed f q a = if same a f q then 0 else 48
+abbrev pub addressed : Fields → ℕ → Prefix → Addresses → ℕ
+addressed f x q a = if same a f x q then 0 else 48
 
 -- the record at index j; the packet that goes next is of the channel whose turn it is by the lines
 abbrev pub gradedBy : Sought → Prefix → List ℕ → ℕ → Channel → ℕ
 gradedBy (Index i) q lines j c = indexed i j
 gradedBy (Question i) q lines j c = indexed i j
-gradedBy (Packet f start x) q lines j c = addressed f q (c .addresses)
+gradedBy (Packet f start x) q lines j c = addressed f x q (c .addresses)
 gradedBy Ready q lines j c = gradeAt j c lines
 gradedBy (Nobody why) q lines j c = 48
 

@@ -12,7 +12,7 @@ use packet::Kind;
 use packet::kinds::kind_of;
 ghost use mathlib.Core.Path.{_≡_};
 ghost use Prim.Native.Nat.{_<_};
-ghost use Rattle.table.specs.Looking.{looksFor, same, seeking, indexed, addressed, graded};
+ghost use Rattle.table.specs.Looking.{flowFinds, looksFor, same, seeking, indexed, addressed, graded};
 ghost use Rattle.table.specs.Waiting.{gradeAt};
 
 pub enum Sought {
@@ -54,9 +54,16 @@ pub fn seek(sought: Sought) -> Look
 // The grade of a record that does not suit.
 pub const UNFIT: usize = 48;
 
+// Of type 6: with an octet it is Flow Control and looks for a sender, without it is the Ack of it.
+fn flow_finds(length: usize) -> u8
+    ensures { λ r. ⌜ r ≡ flowFinds length ⌝ }
+{
+    if length == 0 { RECEIVES } else { SENDS }
+}
+
 // Data Acks and Control Acks look for a record that sends, Data and Control for one that receives. No field of a Heartbeat or its Ack tells its end.
-fn looks_for(kind: Kind, direction: u8) -> bool
-    ensures { λ r. ⌜ r ≡ looksFor kind direction ⌝ }
+fn looks_for(kind: Kind, length: usize, direction: u8) -> bool
+    ensures { λ r. ⌜ r ≡ looksFor kind length direction ⌝ }
 {
     match kind {
         Kind::Data => direction == RECEIVES,
@@ -65,14 +72,15 @@ fn looks_for(kind: Kind, direction: u8) -> bool
         Kind::Close => direction == RECEIVES,
         Kind::Heartbeat => true,
         Kind::HeartbeatAck => true,
+        Kind::FlowControl => direction == flow_finds(length),
         Kind::ControlAck => direction == SENDS,
         Kind::Lacking(_) => direction == RECEIVES,
     }
 }
 
-// The packet, with its prefix, is for the channel with these addresses.
-fn is_same(a: Addresses, f: Fields, prefix: Prefix) -> bool
-    ensures { λ r. ⌜ r ≡ same a f prefix ⌝ }
+// The packet, with so many octets and its prefix, is for the channel with these addresses.
+fn is_same(a: Addresses, f: Fields, length: usize, prefix: Prefix) -> bool
+    ensures { λ r. ⌜ r ≡ same a f length prefix ⌝ }
 {
     if a.channel != f.channel {
         return false;
@@ -83,7 +91,7 @@ fn is_same(a: Addresses, f: Fields, prefix: Prefix) -> bool
     if !prefixes::is_same(a.prefix, prefix) {
         return false;
     }
-    looks_for(kind_of(f.kind), a.direction)
+    looks_for(kind_of(f.kind), length, a.direction)
 }
 
 fn grade_index(i: usize, j: usize) -> usize
@@ -92,10 +100,10 @@ fn grade_index(i: usize, j: usize) -> usize
     if i == j { 0 } else { UNFIT }
 }
 
-fn grade_packet(f: Fields, prefix: Prefix, a: Addresses) -> usize
-    ensures { λ r. ⌜ r ≡ addressed f prefix a ⌝ }
+fn grade_packet(f: Fields, length: usize, prefix: Prefix, a: Addresses) -> usize
+    ensures { λ r. ⌜ r ≡ addressed f length prefix a ⌝ }
 {
-    if is_same(a, f, prefix) { 0 } else { UNFIT }
+    if is_same(a, f, length, prefix) { 0 } else { UNFIT }
 }
 
 // Whose turn it is by the lines.
@@ -119,8 +127,8 @@ pub fn grade(look: Look, lines: [u8; 51], j: usize, c: Channel) -> usize
         Sought::Packet {
             fields,
             start: _,
-            length: _,
-        } => grade_packet(fields, look.prefix, c.addresses),
+            length,
+        } => grade_packet(fields, length, look.prefix, c.addresses),
         Sought::Ready => grade_ready(lines, j, c),
         Sought::Nobody(_) => UNFIT,
     }

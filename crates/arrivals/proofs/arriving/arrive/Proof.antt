@@ -57,7 +57,7 @@ returns-2 c =
     let a = c .before .before .before .before .before .before .before .before .before .before .args in
     let g = c .before .before .before .before .before .before .before .before .before .before .pre .1 in
     let fits = subst (λ (n : ℕ). n ≤ length (a .out .now)) (c .before .before .before .before .reply-length .ensures) (c .before .before .before .if1 .left) in
-    let room = subst (λ (k : Kind). Replies (a .c) k (a .out .now)) (c .before .before .before .before .before .kind-of .ensures) fits in
+    let room = subst (λ (k : Kind). Replies (a .c) k (a .length) (a .out .now)) (c .before .before .before .before .before .kind-of .ensures) fits in
     let u = sym (c .before .before .is-unfit .ensures) ∙ c .before .if2 .taken in
     ap (λ (x : Stepped). works x (a .mem .now) (a .lens .now) (a .out .now)) (c .refused2 .ensures)
     ∙ quiet (arriveBy (a .node) (a .f) (a .length) (payloadIn (a .packet .now))) (a .c) (a .d) (a .mem .now) (a .lens .now) (a .out .now) (refusing (a .c) refusal.Strange) (a .out .now)
@@ -85,7 +85,7 @@ returns-3 c =
     let a = c .before .before .before .before .before .before .before .before .before .before .before .before .before .before .before .before .before .before .before .args in
     let g = c .before .before .before .before .before .before .before .before .before .before .before .before .before .before .before .before .before .before .before .pre .1 in
     let fits = subst (λ (n : ℕ). n ≤ length (a .out .now)) (c .before .before .before .before .before .before .before .before .before .before .before .before .before .reply-length .ensures) (c .before .before .before .before .before .before .before .before .before .before .before .before .if1 .left) in
-    let room = subst (λ (k : Kind). Replies (a .c) k (a .out .now)) (c .before .before .before .before .before .before .before .before .before .before .before .before .before .before .kind-of .ensures) fits in
+    let room = subst (λ (k : Kind). Replies (a .c) k (a .length) (a .out .now)) (c .before .before .before .before .before .before .before .before .before .before .before .before .before .before .kind-of .ensures) fits in
     let u = sym (c .before .before .before .before .before .before .before .before .before .before .before .is-unfit .ensures) ∙ c .before .before .before .before .before .before .before .before .before .before .if2 .left in
     c .before .before .before .before .before .before .arrive-as .ensures
     ∙ ap (λ (w : Worked Stepped). wholly (a .d) (a .mem .now) (a .lens .now) w)

@@ -9,7 +9,7 @@ use mathlib.Core.Bool.{true, false}
 use lib.ListN.{length, take, drop, length-drop}
 use lib.Seq.{length-take-le}
 use Rattle.packet.specs.declared.kinds.Kind.{Kind}
-use Rattle.packet.specs.declared.kinds.Kind.the-variants.{Data, DataAck, Open, Close, Heartbeat, HeartbeatAck, ControlAck}
+use Rattle.packet.specs.declared.kinds.Kind.the-variants.{Data, DataAck, Open, Close, Heartbeat, HeartbeatAck, FlowControl, ControlAck}
 use Rattle.packet.specs.Layout.{lengthAt, payloadIn}
 use Rattle.walks.specs.Serving.{works}
 use Rattle.channel.specs.declared.record.Channel.{Channel}
@@ -72,10 +72,10 @@ arrive-data-requires c κs =
     let n : length (take (at + a .length - at) (drop at (a .packet .now))) ≡ at + a .length - at =
     length-take-le (at + a .length - at) (drop at (a .packet .now)) (omega (arith, length-drop at (a .packet .now), g .whole, g .start)) in (
       p .0,
-      eqb-true (a .c .addresses .direction) receives (kind-finds (a .c .addresses) (a .f) (prefixRead (a .packet .now)) Data (g .ours) is),
+      eqb-true (a .c .addresses .direction) receives (kind-finds (a .c .addresses) (a .f) (a .length) (prefixRead (a .packet .now)) Data (g .ours) is),
       g .flags,
       omega (arith, n, fit-payload (a .c) (a .f) (a .length) (p .4) is),
-      subst (λ (z : Kind). Replies (a .c) z (a .out .now)) kind (p .3),
+      subst (λ (z : Kind). Replies (a .c) z (a .length) (a .out .now)) kind (p .3),
     )
 
 enum-told-2 : tie.Need-enum-told-2
@@ -94,7 +94,7 @@ arrive-control-requires : tie.Need-arrive-control-requires
 arrive-control-requires c κs =
     let a = c .before .before .before .before .before .before .before .args in
     let p = c .before .before .before .before .before .before .before .pre in
-    (ringed (a .c) _ (p .0 .standing), own-fits (a .c) _ (p .0 .standing), subst (λ (z : Kind). Replies (a .c) z (a .out .now)) (c .before .enum-told3 .given .1) (p .3))
+    (ringed (a .c) _ (p .0 .standing), own-fits (a .c) _ (p .0 .standing), subst (λ (z : Kind). Replies (a .c) z (a .length) (a .out .now)) (c .before .enum-told3 .given .1) (p .3))
 
 enum-told-4 : tie.Need-enum-told-4
 enum-told-4 c = search needs
@@ -103,7 +103,7 @@ arrive-control-requires-2 : tie.Need-arrive-control-requires-2
 arrive-control-requires-2 c κs =
     let a = c .before .before .before .before .before .before .before .args in
     let p = c .before .before .before .before .before .before .before .pre in
-    (ringed (a .c) _ (p .0 .standing), own-fits (a .c) _ (p .0 .standing), subst (λ (z : Kind). Replies (a .c) z (a .out .now)) (c .before .enum-told4 .given .1) (p .3))
+    (ringed (a .c) _ (p .0 .standing), own-fits (a .c) _ (p .0 .standing), subst (λ (z : Kind). Replies (a .c) z (a .length) (a .out .now)) (c .before .enum-told4 .given .1) (p .3))
 
 enum-told-5 : tie.Need-enum-told-5
 enum-told-5 c = search needs
@@ -112,7 +112,7 @@ arrive-heartbeat-requires : tie.Need-arrive-heartbeat-requires
 arrive-heartbeat-requires c κs =
     let a = c .before .before .before .before .before .before .before .args in
     let p = c .before .before .before .before .before .before .before .pre in
-    (own-fits (a .c) _ (p .0 .standing), subst (λ (z : Kind). Replies (a .c) z (a .out .now)) (c .before .enum-told5 .given .1) (p .3))
+    (own-fits (a .c) _ (p .0 .standing), subst (λ (z : Kind). Replies (a .c) z (a .length) (a .out .now)) (c .before .enum-told5 .given .1) (p .3))
 
 enum-told-6 : tie.Need-enum-told-6
 enum-told-6 c = search needs
@@ -123,17 +123,23 @@ heartbeat-ack-step-requires c κs = search needs
 enum-told-7 : tie.Need-enum-told-7
 enum-told-7 c = search needs
 
+refused-requires : tie.Need-refused-requires
+refused-requires c κs = search needs
+
+enum-told-8 : tie.Need-enum-told-8
+enum-told-8 c = search needs
+
 control-ack-step-requires : tie.Need-control-ack-step-requires
 control-ack-step-requires c κs =
     let a = c .before .before .before .before .before .before .args in
     let s = c .before .before .before .before .before .before .pre .0 in
     ringed (a .c) _ (s .standing)
 
-enum-told-8 : tie.Need-enum-told-8
-enum-told-8 c = search needs
+enum-told-9 : tie.Need-enum-told-9
+enum-told-9 c = search needs
 
-refused-requires : tie.Need-refused-requires
-refused-requires c κs = search needs
+refused-requires-2 : tie.Need-refused-requires-2
+refused-requires-2 c κs = search needs
 
 same-length : tie.Need-same-length
 same-length c = search needs
@@ -206,16 +212,23 @@ returns-6 c =
 returns-7 : tie.Need-returns-7
 returns-7 c =
     let a = c .before .before .before .before .before .before .before .args in
-    ap (λ (x : Stepped). works x (a .mem .now) (a .lens .now) (a .out .now)) (c .control-ack-step .ensures)
-    ∙ quiet (arriveAs ControlAck (a .node) (a .f) (payloadIn (a .packet .now))) (a .c) (a .d) (a .mem .now) (a .lens .now) (a .out .now) (controlAckStep (a .c) (a .f .number)) (a .out .now) refl
+    ap (λ (x : Stepped). works x (a .mem .now) (a .lens .now) (a .out .now)) (c .refused .ensures)
+    ∙ quiet (λ (c₁ : Channel) (r : ℕ) (m₁ l₁ o₁ : List ℕ). works (refusing c₁ refusal.Strange) m₁ l₁ o₁) (a .c) (a .d) (a .mem .now) (a .lens .now) (a .out .now) (refusing (a .c) refusal.Strange) (a .out .now) refl
     ∙ sym (ap (λ (z : Kind). stepping (arriveAs z (a .node) (a .f) (payloadIn (a .packet .now))) (a .c) (a .d) (a .mem .now) (a .lens .now) (a .out .now)) (c .before .enum-told7 .given .1))
 
 returns-8 : tie.Need-returns-8
 returns-8 c =
     let a = c .before .before .before .before .before .before .before .args in
-    ap (λ (x : Stepped). works x (a .mem .now) (a .lens .now) (a .out .now)) (c .refused .ensures)
-    ∙ quiet (λ (c₁ : Channel) (r : ℕ) (m₁ l₁ o₁ : List ℕ). works (refusing c₁ refusal.Lacking) m₁ l₁ o₁) (a .c) (a .d) (a .mem .now) (a .lens .now) (a .out .now) (refusing (a .c) refusal.Lacking) (a .out .now) refl
+    ap (λ (x : Stepped). works x (a .mem .now) (a .lens .now) (a .out .now)) (c .control-ack-step .ensures)
+    ∙ quiet (arriveAs ControlAck (a .node) (a .f) (payloadIn (a .packet .now))) (a .c) (a .d) (a .mem .now) (a .lens .now) (a .out .now) (controlAckStep (a .c) (a .f .number)) (a .out .now) refl
     ∙ sym (ap (λ (z : Kind). stepping (arriveAs z (a .node) (a .f) (payloadIn (a .packet .now))) (a .c) (a .d) (a .mem .now) (a .lens .now) (a .out .now)) (c .before .enum-told8 .given .1))
+
+returns-9 : tie.Need-returns-9
+returns-9 c =
+    let a = c .before .before .before .before .before .before .before .args in
+    ap (λ (x : Stepped). works x (a .mem .now) (a .lens .now) (a .out .now)) (c .refused2 .ensures)
+    ∙ quiet (λ (c₁ : Channel) (r : ℕ) (m₁ l₁ o₁ : List ℕ). works (refusing c₁ refusal.Lacking) m₁ l₁ o₁) (a .c) (a .d) (a .mem .now) (a .lens .now) (a .out .now) (refusing (a .c) refusal.Lacking) (a .out .now) refl
+    ∙ sym (ap (λ (z : Kind). stepping (arriveAs z (a .node) (a .f) (payloadIn (a .packet .now))) (a .c) (a .d) (a .mem .now) (a .lens .now) (a .out .now)) (c .before .enum-told9 .given .1))
 
 pub arrive-as-spec : {M : Type 1} → statement M
 arrive-as-spec =
@@ -238,9 +251,11 @@ arrive-as-spec =
     enum-told-6
     heartbeat-ack-step-requires
     enum-told-7
-    control-ack-step-requires
-    enum-told-8
     refused-requires
+    enum-told-8
+    control-ack-step-requires
+    enum-told-9
+    refused-requires-2
     same-length
     same-length-2
     same-length-3
@@ -254,4 +269,5 @@ arrive-as-spec =
     returns-5
     returns-6
     returns-7
-    returns-8)
+    returns-8
+    returns-9)

@@ -9,6 +9,7 @@ use Rattle.arrivals.proofs.data.reply_length.Tie as tie
 use Rattle.arrivals.proofs.data.reply_length.Reads as reads
 use Rattle.arrivals.proofs.data.reply_length.Lts as lts
 use Rattle.receiver.proofs.leaving.ack_length.Reads as ack-length-reads
+use Rattle.arrivals.proofs.data.flow_reply.Reads as flow-reply-reads
 
 enum-told : tie.Need-enum-told
 enum-told c = search needs
@@ -43,40 +44,51 @@ enum-told-6 c = search needs
 enum-told-7 : tie.Need-enum-told-7
 enum-told-7 c = search needs
 
+flow-reply-requires : tie.Need-flow-reply-requires
+flow-reply-requires c κs = search needs
+
 enum-told-8 : tie.Need-enum-told-8
 enum-told-8 c = search needs
+
+enum-told-9 : tie.Need-enum-told-9
+enum-told-9 c = search needs
 
 returns : tie.Need-returns
 returns c =
     let a = c .before .before .before .args in
-    c .ack-length .ensures ∙ sym (ap (λ (z : Kind). replyLength (a .c) z) (c .before .enum-told .given .1))
+    c .ack-length .ensures ∙ sym (ap (λ (z : Kind). replyLength (a .c) z (a .length)) (c .before .enum-told .given .1))
 
 returns-2 : tie.Need-returns-2
-returns-2 c = search needs
+returns-2 c = sym (ap (λ (z : Kind). replyLength (c .before .before .args .c) z (c .before .before .args .length)) (c .enum-told2 .given .1))
 
 returns-3 : tie.Need-returns-3
 returns-3 c =
     let a = c .before .before .before .args in
-    c .ack-length2 .ensures ∙ sym (ap (λ (z : Kind). replyLength (a .c) z) (c .before .enum-told3 .given .1))
+    c .ack-length2 .ensures ∙ sym (ap (λ (z : Kind). replyLength (a .c) z (a .length)) (c .before .enum-told3 .given .1))
 
 returns-4 : tie.Need-returns-4
 returns-4 c =
     let a = c .before .before .before .args in
-    c .ack-length3 .ensures ∙ sym (ap (λ (z : Kind). replyLength (a .c) z) (c .before .enum-told4 .given .1))
+    c .ack-length3 .ensures ∙ sym (ap (λ (z : Kind). replyLength (a .c) z (a .length)) (c .before .enum-told4 .given .1))
 
 returns-5 : tie.Need-returns-5
 returns-5 c =
     let a = c .before .before .before .args in
-    c .ack-length4 .ensures ∙ sym (ap (λ (z : Kind). replyLength (a .c) z) (c .before .enum-told5 .given .1))
+    c .ack-length4 .ensures ∙ sym (ap (λ (z : Kind). replyLength (a .c) z (a .length)) (c .before .enum-told5 .given .1))
 
 returns-6 : tie.Need-returns-6
-returns-6 c = search needs
+returns-6 c = sym (ap (λ (z : Kind). replyLength (c .before .before .args .c) z (c .before .before .args .length)) (c .enum-told6 .given .1))
 
 returns-7 : tie.Need-returns-7
-returns-7 c = search needs
+returns-7 c =
+    let a = c .before .before .before .args in
+    c .flow-reply .ensures ∙ sym (ap (λ (z : Kind). replyLength (a .c) z (a .length)) (c .before .enum-told7 .given .1))
 
 returns-8 : tie.Need-returns-8
-returns-8 c = search needs
+returns-8 c = sym (ap (λ (z : Kind). replyLength (c .before .before .args .c) z (c .before .before .args .length)) (c .enum-told8 .given .1))
+
+returns-9 : tie.Need-returns-9
+returns-9 c = sym (ap (λ (z : Kind). replyLength (c .before .before .args .c) z (c .before .before .args .length)) (c .enum-told9 .given .1))
 
 pub reply-length-spec : {M : Type 1} → statement M
 reply-length-spec =
@@ -93,7 +105,9 @@ reply-length-spec =
     ack-length-requires-4
     enum-told-6
     enum-told-7
+    flow-reply-requires
     enum-told-8
+    enum-told-9
     returns
     returns-2
     returns-3
@@ -101,4 +115,5 @@ reply-length-spec =
     returns-5
     returns-6
     returns-7
-    returns-8)
+    returns-8
+    returns-9)

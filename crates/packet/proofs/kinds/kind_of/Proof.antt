@@ -39,5 +39,9 @@ returns-8 : tie.Need-returns-8
 unfolding kindOf
 returns-8 c = search settle
 
+returns-9 : tie.Need-returns-9
+unfolding kindOf
+returns-9 c = search settle
+
 pub kind-of-spec : {M : Type 1} → statement M
-kind-of-spec = tie.close (tie.spec returns returns-2 returns-3 returns-4 returns-5 returns-6 returns-7 returns-8)
+kind-of-spec = tie.close (tie.spec returns returns-2 returns-3 returns-4 returns-5 returns-6 returns-7 returns-8 returns-9)

@@ -14,10 +14,10 @@ is-same-requires : tie.Need-is-same-requires
 is-same-requires c κs = search needs
 
 returns : tie.Need-returns
-returns c = let a = c .before .before .args in let s : same (a .a) (a .f) (a .prefix) ≡ true = sym (c .before .is-same .ensures) ∙ c .if1 .taken in simp (s)
+returns c = let a = c .before .before .args in let s : same (a .a) (a .f) (a .length) (a .prefix) ≡ true = sym (c .before .is-same .ensures) ∙ c .if1 .taken in simp (s)
 
 returns-2 : tie.Need-returns-2
-returns-2 c = let a = c .before .before .args in let s : same (a .a) (a .f) (a .prefix) ≡ false = sym (c .before .is-same .ensures) ∙ c .if1 .left in simp (s)
+returns-2 c = let a = c .before .before .args in let s : same (a .a) (a .f) (a .length) (a .prefix) ≡ false = sym (c .before .is-same .ensures) ∙ c .if1 .left in simp (s)
 
 pub grade-packet-spec : {M : Type 1} → statement M
 grade-packet-spec = tie.close (tie.spec is-same-requires returns returns-2)

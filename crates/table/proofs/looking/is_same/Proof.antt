@@ -41,8 +41,8 @@ returns-4 c =
     let a = c .before .before .before .before .before .before .before .before .before .before .args in
     let s = sym (c .before .before .before .is-same .ensures) ∙ not-false _ (c .before .before .if3 .left) in
     c .looks-for .ensures
-    ∙ ap (λ (k : Kind). looksFor k (a .a .direction)) (c .before .kind-of .ensures)
-    ∙ sym (same-rest (a .a) (a .f) (a .prefix) (c .before .before .before .before .before .before .before .if1 .left) (c .before .before .before .before .if2 .left) s)
+    ∙ ap (λ (k : Kind). looksFor k (a .length) (a .a .direction)) (c .before .kind-of .ensures)
+    ∙ sym (same-rest (a .a) (a .f) (a .length) (a .prefix) (c .before .before .before .before .before .before .before .if1 .left) (c .before .before .before .before .if2 .left) s)
 
 pub is-same-spec : {M : Type 1} → statement M
 is-same-spec = tie.close (tie.spec returns returns-2 is-same-requires returns-3 kind-of-requires looks-for-requires returns-4)
