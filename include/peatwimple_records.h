@@ -12,8 +12,9 @@ enum {
     PEAT_DONE = 0,       /* done */
     PEAT_SHORT = 1,      /* under 12 octets, or not 12 + N + X */
     PEAT_DAMAGED = 2,    /* the check sum is wrong */
-    PEAT_STRANGE = 3,    /* another header field is unexpected, or the payload is too long, or there is one where none may be */
-    PEAT_LACKING = 4,    /* secondary header, Flow Control, or, to be written, a type over 7 or a prefix of over 15 octets */
+    PEAT_STRANGE = 3,    /* another header field is unexpected, or the payload is too long, or there is one where none may be, or none where
+                          * Flow Control asks for one */
+    PEAT_LACKING = 4,    /* secondary header, or, to be written, a type over 7 or a prefix of over 15 octets */
     PEAT_STATE = 5,      /* the state, or the direction, does not allow it */
     PEAT_LONG = 6,       /* the unit has over M segments */
     PEAT_NO_ROOM = 7,    /* slots held and slots needed are over the slots */
@@ -37,7 +38,7 @@ enum { PEAT_CLOSED = 0, PEAT_ENABLED = 1, PEAT_OPEN = 2, PEAT_CLOSING = 3 };
 /* Why a channel went inactive. */
 enum {
     PEAT_NO_REASON = 0,      /* it did not */
-    PEAT_RETRIES = 1,        /* the retries of Data, an Open or a Close were used up */
+    PEAT_RETRIES = 1,        /* the retries of Data, an Open, a Close or a Flow Control packet were used up */
     PEAT_LATE_OPEN = 2,      /* an Open came after Data was accepted */
     PEAT_CONTROL_NUMBER = 3, /* a Control packet had another number than 0 */
     PEAT_DATA_NUMBER = 4,    /* Data had a number neither in the window nor at most k behind it */
@@ -56,6 +57,7 @@ enum {
     PEAT_CLOSE_COMMAND = 3,
     PEAT_HEARTBEAT = 4,
     PEAT_HEARTBEAT_ACK = 5,
+    PEAT_FLOW_CONTROL = 6, /* Flow Control with one octet of payload, the Ack of it with none */
     PEAT_CONTROL_ACK = 7
 };
 enum { PEAT_CONTINUATION = 0, PEAT_FIRST = 1, PEAT_LAST = 2, PEAT_WHOLE = 3 };
@@ -66,7 +68,8 @@ enum { PEAT_CONTINUATION = 0, PEAT_FIRST = 1, PEAT_LAST = 2, PEAT_WHOLE = 3 };
 #define PEAT_LINES 51     /* octets of the lines */
 #define PEAT_SLOTS 128    /* slots that a record has a mark for, used or not */
 #define PEAT_PREFIX 15    /* most octets of a prefix */
-#define PEAT_ACK_OCTETS 12 /* room that every reply buffer needs; of a channel whose own prefix has N octets a reply needs 12 + N */
+#define PEAT_ACK_OCTETS 12 /* room that every reply buffer needs; of a channel whose own prefix has N octets a reply needs 12 + N, and where
+                            * Flow Control is used 13 + N */
 
 /* ---- records ----
  * The caller fills PeatSettings and PeatNode. PeatChannel is made by peat_settings and changed by the calls alone; its phase's state and
@@ -106,8 +109,10 @@ typedef struct PeatLimits {
     uint16_t timeout;  /* ticks until a packet that is not acknowledged is ready again: at least 1 */
     uint16_t closing;  /* ticks that a receiver stays in CLOSING: at least 1 */
     uint16_t retries;  /* resends allowed to a packet: 0 to 255 */
-    uint16_t interval; /* ticks in OPEN after which this end makes a Heartbeat, if it has sent neither Data nor an Ack meanwhile and none of its own
-                        * is under way; 0: it makes none. Each end has its own, and answers those of the other whatever its own is */
+    uint16_t interval; /* ticks in OPEN after which this end makes a Heartbeat, if it has sent neither Data nor an Ack nor Flow Control meanwhile and
+                        * none of its own is under way; 0: it makes none. Each end has its own, and answers those of the other whatever its own is */
+    uint16_t flow;     /* 1: Flow Control is used, 0: it is not. The other end's must be the same: else every Ack of Data, Open or Close is refused
+                        * with 3 */
 } PeatLimits;
 
 typedef struct PeatSettings {
@@ -115,8 +120,8 @@ typedef struct PeatSettings {
     PeatLimits limits;
 } PeatSettings;
 
-/* One packet that is sent alone, a sender's Open or Close, or the Heartbeat of either end. Its timer runs while it is out; tries are the
- * resends left to it. */
+/* One packet that is sent alone: a sender's Open or Close, a receiver's Flow Control, or the Heartbeat of either end. Its timer runs while it is
+ * out; tries are the resends left to it. */
 typedef struct PeatLone {
     uint8_t state;
     uint16_t timer;
@@ -132,10 +137,21 @@ typedef struct PeatPhase {
     PeatLone control; /* a sender's Open or Close */
 } PeatPhase;
 
-/* The Heartbeat of an end; all zeros out of OPEN, in a record that peat_settings and the calls alone have written. */
+/* Flow Control (document 02, A5): of a receiver the packet that is sent, of a sender what it has recorded. */
+typedef struct PeatFlow {
+    PeatLone packet;  /* a receiver's, ready or not acknowledged */
+    uint8_t number;   /* its Sequence Number, while it is out or waits to be resent, else 0 */
+    uint8_t stated;   /* and the number that it stated when it was first handed out, else 0 */
+    uint8_t last;     /* the number of the packet that a receiver has sent last in OPEN, an Ack, a Heartbeat or Flow Control, whether that is used or
+                       * not; of a sender it means nothing */
+    uint8_t recorded; /* a sender's: the number up to which it may send, as the receiver stated it; 0 where Flow Control is not used */
+} PeatFlow;
+
+/* The Heartbeat of an end, and Flow Control; all zeros out of OPEN, in a record that peat_settings and the calls alone have written. */
 typedef struct PeatPulse {
-    uint16_t left; /* ticks until the interval ends, and one is made if there is none; 0: no interval runs */
-    PeatLone beat; /* the one that is ready or not acknowledged */
+    uint16_t left; /* ticks until the interval ends, and a Heartbeat is made if there is none; 0: no interval runs */
+    PeatLone beat; /* the Heartbeat that is ready or not acknowledged */
+    PeatFlow flow;
 } PeatPulse;
 
 /* behind: segments kept before the start (sent and passed, but their unit is not confirmed; or received and not taken). A sender has ahead

@@ -38,6 +38,7 @@ static void what_the_caller_fills(void) {
     FIELD(Limits, closing);
     FIELD(Limits, retries);
     FIELD(Limits, interval);
+    FIELD(Limits, flow);
     WHOLE(Settings);
     FIELD(Settings, addresses);
     FIELD(Settings, limits);
@@ -54,9 +55,16 @@ static void parts_of_a_channel(void) {
     FIELD(Phase, kept);
     FIELD(Phase, accepted);
     FIELD(Phase, control);
+    WHOLE(Flow);
+    FIELD(Flow, packet);
+    FIELD(Flow, number);
+    FIELD(Flow, stated);
+    FIELD(Flow, last);
+    FIELD(Flow, recorded);
     WHOLE(Pulse);
     FIELD(Pulse, left);
     FIELD(Pulse, beat);
+    FIELD(Pulse, flow);
     WHOLE(Window);
     FIELD(Window, start);
     FIELD(Window, place);

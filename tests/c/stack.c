@@ -19,11 +19,11 @@ static uint8_t memory[OCTETS];
 static uint16_t lengths[LENGTHS];
 static uint8_t lines[PEAT_LINES];
 static const PeatLent LENT = {table, RECORDS, memory, OCTETS, lengths, LENGTHS, lines, PEAT_LINES};
-static uint8_t packet[12 + PEAT_PREFIX + PAYLOAD], reply[PEAT_ACK_OCTETS + PEAT_PREFIX], unit[3 * PAYLOAD];
+static uint8_t packet[12 + PEAT_PREFIX + PAYLOAD], reply[PEAT_ACK_OCTETS + PEAT_PREFIX + 1], unit[3 * PAYLOAD];
 
-/* What the last call answered, and the octets of the packet that was handed out last. */
+/* What the last call answered, and the octets of the packet that was handed out last and of the last reply. */
 static uint32_t answer;
-static size_t packet_octets;
+static size_t packet_octets, reply_octets;
 
 #define LONGEST {PEAT_PREFIX, {1, 2, 3, 4, 5, 6, 7, 8, 9, 10, 11, 12, 13, 14, 15}}
 
@@ -38,8 +38,13 @@ static void transfer(void) { answer = peat_lent_transfer(&LENT, RECORDS - 1, uni
 static void take(void) { answer = peat_lent_take(&LENT, 0, unit, sizeof unit).number; }
 static void reclaim(void) { answer = peat_lent_reclaim(&LENT, RECORDS - 1, unit, sizeof unit).number; }
 static void tick(void) { answer = peat_lent_tick(&LENT).number; }
-static void arrive(void) { answer = peat_lent_arrival(&LENT, NODE, packet, packet_octets, reply, sizeof reply).number; }
-static void acknowledge(void) { answer = peat_lent_arrival(&LENT, NODE, reply, sizeof reply, packet, sizeof packet).number; }
+static void acknowledge(void) { answer = peat_lent_arrival(&LENT, NODE, reply, reply_octets, packet, sizeof packet).number; }
+
+static void arrive(void) {
+    PeatSaid said = peat_lent_arrival(&LENT, NODE, packet, packet_octets, reply, sizeof reply);
+    answer = said.number;
+    reply_octets = said.length;
+}
 
 static void hand_out(void) {
     PeatSaid said = peat_lent_next_packet(&LENT, NODE, packet, sizeof packet);
@@ -71,7 +76,7 @@ static size_t taken_by(void (*call)(void)) {
 static void make(void) {
     size_t index;
     for (index = 0; index < RECORDS; index++) {
-        PeatSettings one = {{(uint16_t)index, 64, PEAT_RECEIVES, LONGEST, LONGEST}, {64, SLOTS, PAYLOAD, 3, 9, 9, 3, 2}};
+        PeatSettings one = {{(uint16_t)index, 64, PEAT_RECEIVES, LONGEST, LONGEST}, {SLOTS, SLOTS, PAYLOAD, 3, 9, 9, 3, 2, 1}};
         settings[index] = one;
     }
     settings[RECORDS - 1].addresses.channel = 0;
@@ -85,6 +90,7 @@ int main(void) {
         settle,   open_sender, open_receiver, hand_out, arrive,       acknowledge,                  /* both ends open */
         ask,      transfer,    hand_out,      arrive,   acknowledge,                                /* the first segment */
         hand_out, arrive,      hand_out,      arrive,   take,                                       /* the other two */
+        hand_out, arrive,      acknowledge,                                                         /* Flow Control, as one was taken */
         tick,     tick,        hand_out,      arrive,   acknowledge,                                /* a Heartbeat of the receiver */
         hand_out, arrive,      acknowledge,                                                         /* and one of the sender */
         transfer, tick,        close_sender,  hand_out, arrive,       acknowledge, reclaim,         /* another unit, not sent */

@@ -23,6 +23,7 @@ use Rattle.table.specs.Lent.{areaOf}
 use Rattle.table.specs.Surveying.{mine, mineLens, stepping, Served}
 use Rattle.table.proofs.Parts.{parts-filed}
 use Rattle.receiver.specs.declared.acks.Acked.the-variants as acked
+use Rattle.receiver.specs.Receiving.{carrying}
 use Rattle.arrivals.specs.Replying.{repliedBy, acknowledging}
 use Rattle.arrivals.specs.Data.{unfitAs, unfit, dataFor}
 
@@ -44,14 +45,14 @@ pub data-files : (node : Node) (f : Fields) (p : List ℕ) (c : Channel) (d : De
     → (r : Stepped) (m l o : List ℕ) (j k : ℕ)
     → j ≡ areaOf (c .limits)
     → k ≡ c .limits .slots
-    → r ≡ acknowledging (dataStep c (f .number) (f .flags))
+    → r ≡ acknowledging (f .number) (dataStep c (f .number) (f .flags))
     → m ≡ dataMem c (f .number) p (take j (drop (d .spot .octet) mem))
     → l ≡ dataLens c (f .number) p (take k (drop (d .spot .slot) lens))
-    → o ≡ repliedBy (dataStep c (f .number) (f .flags) .answer) node (c .addresses) acked.Data (f .number) out
+    → o ≡ repliedBy (dataStep c (f .number) (f .flags) .answer) node (c .addresses) acked.Data (f .number) (carrying acked.Data (c .limits) (dataStep c (f .number) (f .flags) .channel .window)) out
     → works r (putMid (d .spot .octet) j mem m) (putMid (d .spot .slot) k lens l) o ≡ stepping (dataFor node f p) c d mem lens out
 data-files node f p c d mem lens out dir s few r m l o j k ej ek er em el eo =
-    parts-filed (dataFor node f p) c d mem lens out j k ej ek (dataMem c (f .number) p) (dataLens c (f .number) p) r (acknowledging (dataStep c (f .number) (f .flags))) m l o er
+    parts-filed (dataFor node f p) c d mem lens out j k ej ek (dataMem c (f .number) p) (dataLens c (f .number) p) r (acknowledging (f .number) (dataStep c (f .number) (f .flags))) m l o er
     em el
     (data-sized c (mineLens c d lens) dir (s .standing) (f .number) p (mine c d mem) few (s .sized))
-    (ap (λ (y : List ℕ). works (acknowledging (dataStep c (f .number) (f .flags))) (dataMem c (f .number) p (mine c d mem)) (dataLens c (f .number) p (mineLens c d lens)) y)
+    (ap (λ (y : List ℕ). works (acknowledging (f .number) (dataStep c (f .number) (f .flags))) (dataMem c (f .number) p (mine c d mem)) (dataLens c (f .number) p (mineLens c d lens)) y)
     (sym eo))

@@ -1,6 +1,6 @@
 -- An arrival of Data (document 01, Answer numbers: 'Data payload over P (3)'; Receiving).
 use Prim.Native.Nat.{ℕ}
-use mathlib.Core.Bool.{Bool, true, false, not}
+use mathlib.Core.Bool.{Bool, false, not}
 use mathlib.Core.List.{List}
 use lib.Dec.{ltb, eqb}
 use Rattle.laws.specs.Choice.{if_then_else_}
@@ -11,36 +11,38 @@ use Rattle.packet.specs.Kinds.{kindOf}
 use Rattle.packet.specs.Layout.{least}
 use Rattle.channel.specs.declared.record.Node.{Node}
 use Rattle.channel.specs.declared.record.Channel.{Channel}
-use Rattle.receiver.specs.Receiving.{ackLength}
+use Rattle.channel.specs.Steps.{outgoingLength}
+use Rattle.channel.specs.Flow.{flows}
+use Rattle.receiver.specs.Receiving.{statedCount, ackLength}
 use Rattle.receiver.specs.declared.acks.Acked.the-variants as acked
 use Rattle.receiver_data.specs.Data.{dataStep, dataMem, dataLens}
 use Rattle.table.specs.Serving.{Step}
 use Rattle.arrivals.specs.Replying.{replying}
 
--- the octets that the reply to a packet of a kind with x octets needs: an Ack carries the own prefix; where no reply is due, as to an Ack, those that
+-- the octets that the reply to a packet of a kind with x octets needs: an Ack carries the own prefix, and that of Data or Control the number stated; where no reply is due, as to an Ack, those that
 -- are asked for first. Type 6 is an Ack where it carries nothing
 abbrev pub replyLength : Channel → Kind → ℕ → ℕ
-replyLength c Data x = ackLength (c .addresses)
+replyLength c Data x = ackLength c
 replyLength c DataAck x = least
-replyLength c Open x = ackLength (c .addresses)
-replyLength c Close x = ackLength (c .addresses)
-replyLength c Heartbeat x = ackLength (c .addresses)
+replyLength c Open x = ackLength c
+replyLength c Close x = ackLength c
+replyLength c Heartbeat x = outgoingLength (c .addresses) 0
 replyLength c HeartbeatAck x = least
-replyLength c FlowControl x = if eqb x 0 then least else ackLength (c .addresses)
+replyLength c FlowControl x = if eqb x 0 then least else outgoingLength (c .addresses) 0
 replyLength c ControlAck x = least
 replyLength c (Lacking code) x = least
 
--- what this channel cannot take of a packet of a kind with x octets: Data payload over P; where there is no Flow Control, type 6, and a number stated
--- in an Ack (document 02, A5)
+-- what this channel cannot take of a packet of a kind with x octets: Data payload over P; an Ack of Data or Control with a number stated where Flow
+-- Control is not used, or without one where it is; and type 6 where it is not (document 02, A5)
 abbrev pub unfitAs : Kind → Channel → ℕ → Bool
 unfitAs Data c x = ltb (c .limits .payload) x
-unfitAs DataAck c x = not (eqb x 0)
+unfitAs DataAck c x = not (eqb x (statedCount (c .limits)))
 unfitAs Open c x = false
 unfitAs Close c x = false
 unfitAs Heartbeat c x = false
 unfitAs HeartbeatAck c x = false
-unfitAs FlowControl c x = true
-unfitAs ControlAck c x = not (eqb x 0)
+unfitAs FlowControl c x = not (flows (c .limits))
+unfitAs ControlAck c x = not (eqb x (statedCount (c .limits)))
 unfitAs (Lacking code) c x = false
 
 unfoldable pub unfit : Channel → Fields → ℕ → Bool

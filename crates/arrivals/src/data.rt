@@ -9,6 +9,7 @@ use packet::Kind;
 use packet::fields::LEAST;
 use packet::kinds::kind_of;
 use receiver::Acked;
+use receiver::acks::stated_count;
 use receiver::leaving::ack_length;
 use table::Decision;
 use table::surveying::area;
@@ -22,14 +23,14 @@ ghost use Rattle.receiver.specs.Receiving.{ackLength};
 ghost use Rattle.table.specs.Surveying.{Served, stepping};
 ghost use Rattle.arrivals.specs.Data.{replyLength, unfitAs, unfit, dataFor};
 
-// Type 6 is Flow Control, and answered, where it carries an octet.
+// Type 6 is Flow Control, and answered, where it carries an octet; its Ack carries none, as that of a Heartbeat.
 fn flow_reply(c: Channel, length: usize) -> usize
     ensures { λ r. ⌜ r ≡ replyLength c FlowControl length ⌝ }
 {
     if length == 0 {
         return LEAST;
     }
-    ack_length(c.addresses)
+    LEAST + (c.addresses.own.length as usize)
 }
 
 // The octets that the reply to a packet of a kind needs: an Ack carries the own prefix, and to an Ack no reply is due.
@@ -37,11 +38,11 @@ pub fn reply_length(c: Channel, kind: Kind, length: usize) -> usize
     ensures { λ r. ⌜ r ≡ replyLength c kind length ⌝ }
 {
     match kind {
-        Kind::Data => ack_length(c.addresses),
+        Kind::Data => ack_length(c.addresses, c.limits),
         Kind::DataAck => LEAST,
-        Kind::Open => ack_length(c.addresses),
-        Kind::Close => ack_length(c.addresses),
-        Kind::Heartbeat => ack_length(c.addresses),
+        Kind::Open => ack_length(c.addresses, c.limits),
+        Kind::Close => ack_length(c.addresses, c.limits),
+        Kind::Heartbeat => flow_reply(c, 1),
         Kind::HeartbeatAck => LEAST,
         Kind::FlowControl => flow_reply(c, length),
         Kind::ControlAck => LEAST,
@@ -49,19 +50,20 @@ pub fn reply_length(c: Channel, kind: Kind, length: usize) -> usize
     }
 }
 
-// What a channel cannot take, though the packet is sound: a payload over P; Flow Control, or a number in an Ack, where it is not used.
+// What a channel cannot take, though the packet is sound: a payload over P; Flow Control, or a number in an Ack, where it is not used; an Ack without one
+// where it is.
 fn is_unfit_as(kind: Kind, c: Channel, length: usize) -> bool
     ensures { λ r. ⌜ r ≡ unfitAs kind c length ⌝ }
 {
     match kind {
         Kind::Data => c.limits.payload < length,
-        Kind::DataAck => length != 0,
+        Kind::DataAck => length != stated_count(c.limits),
         Kind::Open => false,
         Kind::Close => false,
         Kind::Heartbeat => false,
         Kind::HeartbeatAck => false,
-        Kind::FlowControl => true,
-        Kind::ControlAck => length != 0,
+        Kind::FlowControl => c.limits.flow == 0,
+        Kind::ControlAck => length != stated_count(c.limits),
         Kind::Lacking(_) => false,
     }
 }
@@ -83,7 +85,7 @@ pub fn arrive_data(
     lens: &mut [u16],
     out: &mut [u8],
 ) -> Stepped
-    requires { ⌜ (Served c d (now mem) (now lens)) × (c .addresses .direction ≡ receives) × (f .flags < 4) × (length (now payload) ≤ c .limits .payload) × (ackLength (c .addresses) ≤ length (now out)) ⌝ }
+    requires { ⌜ (Served c d (now mem) (now lens)) × (c .addresses .direction ≡ receives) × (f .flags < 4) × (length (now payload) ≤ c .limits .payload) × (ackLength c ≤ length (now out)) ⌝ }
     ensures { λ r. ⌜ works r (now (mem .exit)) (now (lens .exit)) (now (out .exit)) ≡ stepping (dataFor node f (now (payload .entry))) c d (now (mem .entry)) (now (lens .entry)) (now (out .entry)) ⌝ }
 {
     let octet = d.spot.octet;
@@ -94,6 +96,16 @@ pub fn arrive_data(
     let own_lens = &mut lens[slot..slots];
     let s = receiver_data::data_step(c, f.number, f.flags, payload, own, own_lens);
     let answer = s.answer;
-    reply(answer, node, c.addresses, Acked::Data, f.number, out);
-    acknowledged(s)
+    let channel = s.channel;
+    reply(
+        answer,
+        node,
+        c.addresses,
+        Acked::Data,
+        f.number,
+        c.limits,
+        channel.window,
+        out,
+    );
+    acknowledged(f.number, s)
 }

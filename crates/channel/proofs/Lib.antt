@@ -6,3 +6,4 @@ pub mod MadeLaws
 pub mod TableLaws
 pub mod FixedLaws
 pub mod PulseLaws
+pub mod FlowLaws

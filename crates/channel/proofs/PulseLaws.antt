@@ -17,7 +17,8 @@ use Rattle.channel.specs.declared.answer.Refusal.the-variants as refusal
 use Rattle.channel.specs.Record.{opened, loneNone, noLone, withPulse}
 use Rattle.channel.specs.Lone.{readyLone, isOut, fallen}
 use Rattle.channel.specs.Steps.{refusing, doing, outgoingLength}
-use Rattle.channel.specs.Pulse.{restarted, afterSending, paced, beaten, heartbeatStep, heartbeatAckStep}
+use Rattle.channel.proofs.StandingLaws.{Sane}
+use Rattle.channel.specs.Pulse.{restarted, afterSending, withBeat, paced, beaten, heartbeatStep, heartbeatAckStep}
 
 -- ---- case by case
 
@@ -44,7 +45,7 @@ module _ (c : Channel) (number : ℕ) where
   beat-ack-early e z o = simp (eq-eqb (c .phase .state) opened e, eq-eqb number 0 z, o)
 
   pub beat-ack-done : c .phase .state ≡ opened → number ≡ 0 → isOut (c .pulse .beat) ≡ true
-      → heartbeatAckStep c number ≡ doing (withPulse c (record { left = c .pulse .left; beat = noLone })) 0
+      → heartbeatAckStep c number ≡ doing (withPulse c (withBeat (c .pulse) noLone)) 0
   unfolding heartbeatAckStep
   beat-ack-done e z o = simp (eq-eqb (c .phase .state) opened e, eq-eqb number 0 z, o)
 
@@ -60,17 +61,15 @@ fallen-small l h =
     Small : Fallen → Type 0
     Small f = f .lone .state ≤ 3
 
-pub paced-small : (l : Limits) (p : Pulse) → p .beat .state ≤ 3 → paced l p .beat .state ≤ 3
+pub paced-sane : (l : Limits) (p : Pulse) → Sane p → Sane (paced l p)
 unfolding paced
-paced-small l p h =
-    either Small (leb 2 (p .left)) _ _ h
-    (either Small (eqb (p .left) 0) _ _ h (either (λ (b : Lone). b .state ≤ 3) (eqb (p .beat .state) loneNone) readyLone (p .beat) (omega arith) h))
-  where
-    Small : Pulse → Type 0
-    Small q = q .beat .state ≤ 3
+paced-sane l p h =
+    either Sane (leb 2 (p .left)) _ _ (record { beat = h .beat; flow = h .flow })
+    (either Sane (eqb (p .left) 0) _ _ h
+    (record { beat = either (λ (b : Lone). b .state ≤ 3) (eqb (p .beat .state) loneNone) readyLone (p .beat) (omega arith) (h .beat); flow = h .flow }))
 
-pub beaten-small : (l : Limits) (p : Pulse) → p .beat .state ≤ 3 → beaten l p .pulse .beat .state ≤ 3
-beaten-small l p h = paced-small l (record { left = p .left; beat = fallen (p .beat) .lone }) (fallen-small (p .beat) h)
+pub beaten-sane : (l : Limits) (p : Pulse) → Sane p → Sane (beaten l p .pulse)
+beaten-sane l p h = paced-sane l (withBeat p (fallen (p .beat) .lone)) (record { beat = fallen-small (p .beat) (h .beat); flow = h .flow })
 
-pub sending-small : (c : Channel) → c .pulse .beat .state ≤ 3 → afterSending c .pulse .beat .state ≤ 3
-sending-small c h = either (λ (q : Pulse). q .beat .state ≤ 3) (eqb (c .phase .state) opened) (restarted (c .limits) (c .pulse)) (c .pulse) h h
+pub sending-sane : (c : Channel) → Sane (c .pulse) → Sane (afterSending c .pulse)
+sending-sane c h = either Sane (eqb (c .phase .state) opened) (restarted (c .limits) (c .pulse)) (c .pulse) (record { beat = h .beat; flow = h .flow }) h

@@ -15,7 +15,8 @@ use Rattle.channel.specs.Prefixes.{fitPrefix}
 pub fit-is : (l : Limits) → fitLimits l ≡ true → Fit l
 unfolding fitLimits fitWindow fitUnits fitTimers
 fit-is l e =
-    let p = both _ _ e in
+    let f = both _ _ e in
+    let p = both _ _ (f .0) in
     let q = both _ _ (p .0) in
     let w = both _ _ (q .0) in
     let w2 = both _ _ (w .0) in
@@ -37,6 +38,7 @@ fit-is l e =
       timeout = leb-true _ _ (t2 .0);
       closing = leb-true _ _ (t2 .1);
       retries = leb-true _ _ (t .1);
+      flow = leb-true _ _ (f .1);
     }
 
 -- ---- addresses that are fit: the direction has a meaning, and so have both prefixes

@@ -17,6 +17,7 @@ use Rattle.channel.specs.Record.{sends, receives, closed, opened, loneNo
 use Rattle.laws.proofs.Choice.{both, either, either-way}
 use Rattle.channel.specs.declared.record.Limits.{Limits}
 use Rattle.channel.specs.declared.record.Phase.{Phase}
+use Rattle.channel.specs.declared.record.Pulse.{Pulse}
 use Rattle.channel.specs.declared.record.Window.{Window}
 use Rattle.channel.specs.Standing.{named, inRing, inFlight, asking, rested, marked, oldestOf, slotFit, slotsFit, standing, Standing, Counted}
 use Rattle.channel.specs.Asked.{Ringed}
@@ -135,6 +136,11 @@ counted-flight l w k =
       lt-ltb (w .way) (l .segments) (k .unit),
     )
 
+-- the states of the packets that an OPEN end sends alone
+pub record Sane (p : Pulse) : Type 0 where
+  pub beat : p .beat .state ≤ 3
+  pub flow : p .flow .packet .state ≤ 3
+
 -- the small numbers
 pub record Named (c : Channel) : Type 0 where
   pub addresses : fitAddresses (c .addresses) ≡ true
@@ -143,12 +149,13 @@ pub record Named (c : Channel) : Type 0 where
   pub kept : c .phase .kept ≤ 1
   pub accepted : c .phase .accepted ≤ 1
   pub control : c .phase .control .state ≤ 3
-  pub beat : c .pulse .beat .state ≤ 3
+  pub pulse : Sane (c .pulse)
 
 pub named-is : (c : Channel) → named c ≡ true → Named c
 unfolding named
 named-is c e =
-    let n6 = both _ _ e in
+    let n7 = both _ _ e in
+    let n6 = both _ _ (n7 .0) in
     let n5 = both _ _ (n6 .0) in
     let n4 = both _ _ (n5 .0) in
     let n3 = both _ _ (n4 .0) in
@@ -161,7 +168,7 @@ named-is c e =
       kept = leb-true _ _ (n3 .1);
       accepted = leb-true _ _ (n4 .1);
       control = leb-true _ _ (n5 .1);
-      beat = leb-true _ _ (n6 .1);
+      pulse = record { beat = leb-true _ _ (n6 .1); flow = leb-true _ _ (n7 .1) };
     }
 
 pub is-named : (c : Channel) → Named c → named c ≡ true
@@ -174,7 +181,8 @@ is-named c n =
       le-leb _ _ (n .kept),
       le-leb _ _ (n .accepted),
       le-leb _ _ (n .control),
-      le-leb _ _ (n .beat),
+      le-leb _ _ (n .pulse .beat),
+      le-leb _ _ (n .pulse .flow),
     )
 
 -- the own prefix of a record that stands is fit

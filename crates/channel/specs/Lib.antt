@@ -8,4 +8,5 @@ pub mod Standing
 pub mod Asked
 pub mod Steps
 pub mod Pulse
+pub mod Flow
 pub mod Tables

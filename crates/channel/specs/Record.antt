@@ -8,6 +8,7 @@ use Rattle.channel.specs.declared.record.Settings.{Settings}
 use Rattle.channel.specs.declared.record.Channel.{Channel}
 use Rattle.channel.specs.declared.record.Lone.{Lone}
 use Rattle.channel.specs.declared.record.Phase.{Phase}
+use Rattle.channel.specs.declared.record.Flow.{Flow}
 use Rattle.channel.specs.declared.record.Pulse.{Pulse}
 use Rattle.channel.specs.declared.record.Window.{Window}
 use Rattle.channel.specs.declared.record.Timers.{Timers}
@@ -77,8 +78,11 @@ loneAgain = 3
 abbrev pub noLone : Lone
 noLone = record { state = loneNone; timer = 0; tries = 0 }
 
+abbrev pub noFlow : Flow
+noFlow = record { packet = noLone; number = 0; stated = 0; last = 0; recorded = 0 }
+
 abbrev pub noPulse : Pulse
-noPulse = record { left = 0; beat = noLone }
+noPulse = record { left = 0; beat = noLone; flow = noFlow }
 
 abbrev pub freshWindow : Window
 freshWindow = record { start = 1; place = 0; behind = 0; ahead = 0; flight = 0; way = 0 }

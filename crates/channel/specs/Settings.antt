@@ -29,8 +29,9 @@ fitUnits l = leb 1 (l .payload) && leb (l .payload) 1024 && leb 1 (l .segments) 
 unfoldable pub fitTimers : Limits → Bool
 fitTimers l = leb 1 (l .timeout) && leb 1 (l .closing) && leb (l .retries) 255
 
+-- Flow Control is used (1) or not (0)
 unfoldable pub fitLimits : Limits → Bool
-fitLimits l = fitWindow l && fitUnits l && fitTimers l
+fitLimits l = fitWindow l && fitUnits l && fitTimers l && leb (l .flow) 1
 
 -- a direction has a meaning, and a prefix at most 15 octets, with 0 past them (document 02, A7)
 unfoldable pub fitAddresses : Addresses → Bool
@@ -52,6 +53,7 @@ pub record Fit (l : Limits) : Type 0 where
   pub timeout : 1 ≤ l .timeout
   pub closing : 1 ≤ l .closing
   pub retries : l .retries ≤ 255
+  pub flow : l .flow ≤ 1
 
 -- two records that may not stand in one table: equal channel number, remote address and remote prefix, whatever their directions (document 02, A2:
 -- 'Where no field tells its end, records that differ only in direction give 13'); an own prefix is not seen in what arrives

@@ -18,7 +18,7 @@ use Rattle.channel.specs.Settings.{fitLimits, fitAddresses}
 
 -- ---- as a test
 
--- the addresses, state, reason, the two marks 0 or 1, and the states of the control packet and the Heartbeat have a meaning
+-- the addresses, state, reason, the two marks 0 or 1, and the states of the control packet, the Heartbeat and Flow Control have a meaning
 unfoldable pub named : Channel → Bool
 named c =
     fitAddresses (c .addresses)
@@ -28,6 +28,7 @@ named c =
     && leb (c .phase .accepted) 1
     && leb (c .phase .control .state) 3
     && leb (c .pulse .beat .state) 3
+    && leb (c .pulse .flow .packet .state) 3
 
 -- what is held is within the slots
 unfoldable pub inRing : Limits → Window → Bool

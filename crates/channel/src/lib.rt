@@ -1,6 +1,7 @@
 // A channel's record with its nested parts, the settings it is made from and their test, and the answers of its calls (document 01, A channel's
 // record and memory). The standing condition is a definition here; it is tested in `condition`.
 pub mod answer;
+pub mod flow;
 pub mod lone;
 pub mod places;
 pub mod prefixes;
@@ -13,6 +14,7 @@ pub use answer::Answer;
 pub use answer::Refusal;
 pub use record::Addresses;
 pub use record::Channel;
+pub use record::Flow;
 pub use record::Limits;
 pub use record::Lone;
 pub use record::Node;

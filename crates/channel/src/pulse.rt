@@ -3,6 +3,7 @@ use crate::answer::Refusal;
 use crate::lone::fall;
 use crate::lone::is_out;
 use crate::record::Channel;
+use crate::record::Flow;
 use crate::record::Limits;
 use crate::record::Lone;
 use crate::record::OPEN;
@@ -12,9 +13,9 @@ use crate::step::done;
 use crate::step::refused;
 use packet::fields::LEAST;
 ghost use mathlib.Core.Path.{_≡_};
-ghost use Rattle.channel.specs.Record.{noLone, noPulse};
+ghost use Rattle.channel.specs.Record.{noLone, noFlow, noPulse};
 ghost use Rattle.channel.specs.Lone.{readyLone};
-ghost use Rattle.channel.specs.Pulse.{startedPulse, restarted, sentIn, nextBeat, paced, beaten, heartbeatStep, heartbeatAckStep};
+ghost use Rattle.channel.specs.Pulse.{startedPulse, restarted, sentIn, withBeat, nextBeat, paced, beaten, heartbeatStep, heartbeatAckStep};
 
 // The pulse after a tick, and whether its Heartbeat's timer ended with its retries used up.
 pub struct Beaten {
@@ -32,6 +33,29 @@ fn no_beat() -> Lone
     }
 }
 
+fn no_flow() -> Flow
+    ensures { λ r. ⌜ r ≡ noFlow ⌝ }
+{
+    Flow {
+        packet: no_beat(),
+        number: 0,
+        stated: 0,
+        last: 0,
+        recorded: 0,
+    }
+}
+
+pub fn with_beat(p: Pulse, beat: Lone) -> Pulse
+    ensures { λ r. ⌜ r ≡ withBeat p beat ⌝ }
+{
+    let flow = p.flow;
+    Pulse {
+        left: p.left,
+        beat,
+        flow,
+    }
+}
+
 // Out of OPEN there is none.
 pub fn none() -> Pulse
     ensures { λ r. ⌜ r ≡ noPulse ⌝ }
@@ -39,6 +63,7 @@ pub fn none() -> Pulse
     Pulse {
         left: 0,
         beat: no_beat(),
+        flow: no_flow(),
     }
 }
 
@@ -49,6 +74,7 @@ pub fn start(l: Limits) -> Pulse
     Pulse {
         left: l.interval,
         beat: no_beat(),
+        flow: no_flow(),
     }
 }
 
@@ -56,9 +82,11 @@ fn restart(l: Limits, p: Pulse) -> Pulse
     ensures { λ r. ⌜ r ≡ restarted l p ⌝ }
 {
     let beat = p.beat;
+    let flow = p.flow;
     Pulse {
         left: l.interval,
         beat,
+        flow,
     }
 }
 
@@ -93,17 +121,21 @@ fn pace(l: Limits, p: Pulse) -> Pulse
 {
     if 2 <= p.left {
         let beat = p.beat;
+        let flow = p.flow;
         return Pulse {
             left: p.left - 1,
             beat,
+            flow,
         };
     }
     if p.left == 0 {
         return p;
     }
+    let flow = p.flow;
     Pulse {
         left: l.interval,
         beat: next_beat(p.beat),
+        flow,
     }
 }
 
@@ -113,7 +145,7 @@ pub fn tick(l: Limits, p: Pulse) -> Beaten
 {
     let fallen = fall(p.beat);
     let beat = fallen.lone;
-    let lowered = Pulse { left: p.left, beat };
+    let lowered = with_beat(p, beat);
     Beaten {
         pulse: pace(l, lowered),
         spent: fallen.spent,
@@ -144,10 +176,7 @@ pub fn heartbeat_ack_step(c: Channel, number: u8) -> Stepped
     if !is_out(c.pulse.beat) {
         return refused(c, Refusal::Ignored);
     }
-    let pulse = Pulse {
-        left: c.pulse.left,
-        beat: no_beat(),
-    };
+    let pulse = with_beat(c.pulse, no_beat());
     let mut d = c;
     d.pulse = pulse;
     done(d, 0)

@@ -59,8 +59,8 @@ pub struct Addresses {
     pub own: Prefix,
 }
 
-// What the settings fix: window k, slots, P (most payload octets), M (most segments in a unit), and in ticks the timeouts and the interval of this
-// end's own Heartbeat (0: it makes none).
+// What the settings fix: window k, slots, P (most payload octets), M (most segments in a unit), in ticks the timeouts and the interval of this
+// end's own Heartbeat (0: it makes none), and whether Flow Control is used (0 or 1).
 #[repr(C)]
 pub struct Limits {
     pub window: usize,
@@ -71,6 +71,7 @@ pub struct Limits {
     pub closing: u16,
     pub retries: u16,
     pub interval: u16,
+    pub flow: u16,
 }
 
 #[repr(C)]
@@ -99,11 +100,23 @@ pub struct Phase {
     pub control: Lone,
 }
 
-// In OPEN: the ticks left until this end makes a Heartbeat (0: it makes none), and the Heartbeat that is sent (document 02, A2).
+// Flow Control (document 02, A5). Of a receiver: the packet that states a number, its own number and the one that it stated when it was first handed
+// out (both 0 but while it is out), and the number of the last packet sent. Of a sender: the number recorded, up to which it may send.
+#[repr(C)]
+pub struct Flow {
+    pub packet: Lone,
+    pub number: u8,
+    pub stated: u8,
+    pub last: u8,
+    pub recorded: u8,
+}
+
+// In OPEN: the ticks left until this end makes a Heartbeat (0: it makes none), the Heartbeat that is sent (document 02, A2), and Flow Control.
 #[repr(C)]
 pub struct Pulse {
     pub left: u16,
     pub beat: Lone,
+    pub flow: Flow,
 }
 
 // The window's first number, and the place on the ring of slots where that segment lies: the number does not tell it.
@@ -161,6 +174,17 @@ pub fn fresh(addresses: Addresses, limits: Limits, state: u8, control: Lone) -> 
                 state: 0,
                 timer: 0,
                 tries: 0,
+            },
+            flow: Flow {
+                packet: Lone {
+                    state: 0,
+                    timer: 0,
+                    tries: 0,
+                },
+                number: 0,
+                stated: 0,
+                last: 0,
+                recorded: 0,
             },
         },
         window: Window {

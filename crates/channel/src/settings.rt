@@ -41,7 +41,10 @@ pub fn fits_limits(l: Limits) -> bool
     if !fits_units(l) {
         return false;
     }
-    fits_timers(l)
+    if !fits_timers(l) {
+        return false;
+    }
+    l.flow <= 1
 }
 
 // A power of two up to 128 is what divides 128.
@@ -87,7 +90,7 @@ fn fits_timers(l: Limits) -> bool
     l.retries <= 255
 }
 
-// No two records may be so: equal channel number, remote address, direction and remote prefix.
+// No two records may be so: equal channel number, remote address and remote prefix, whatever their directions.
 pub fn is_clash(a: Addresses, b: Addresses) -> bool
     ensures { λ r. ⌜ r ≡ clash a b ⌝ }
 {

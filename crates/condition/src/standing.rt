@@ -75,7 +75,10 @@ fn is_named(c: Channel) -> bool
     if 3 < c.phase.control.state {
         return false;
     }
-    c.pulse.beat.state <= 3
+    if 3 < c.pulse.beat.state {
+        return false;
+    }
+    c.pulse.flow.packet.state <= 3
 }
 
 // What is held is within the slots.

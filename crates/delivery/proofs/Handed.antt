@@ -12,7 +12,7 @@ use Rattle.laws.specs.Choice.{if_then_else_}
 use Rattle.laws.proofs.Choice.{chosen, passed-by}
 use Rattle.slots.specs.Slots.{segmentIn}
 use Rattle.channel.specs.Places.{slotOf}
-use Rattle.packet.specs.declared.kinds.Kind.the-variants.{Data, Open, Close, Heartbeat}
+use Rattle.packet.specs.declared.kinds.Kind.the-variants.{Data, Open, Close, Heartbeat, FlowControl}
 use Rattle.packet.specs.Kinds.{codeOf, kindOf, isData}
 use Rattle.packet.specs.declared.fields.Fields.{Fields}
 use Rattle.packet.specs.declared.reading.Read.the-variants.{Found}
@@ -29,6 +29,7 @@ use Rattle.channel.specs.declared.record.Channel.{Channel}
 use Rattle.channel.specs.declared.answer.Refusal.the-variants as refusal
 use Rattle.channel.specs.declared.step.Stepped.{Stepped}
 use Rattle.channel.specs.Record.{enabled, opened}
+use Rattle.channel.specs.Flow.{flowNumber}
 use Rattle.channel.specs.Steps.{refusing, doing, outgoingLength}
 use Rattle.channel.specs.Prefixes.{prefixOf}
 use Rattle.channel.proofs.PrefixLaws.{prefix-length}
@@ -36,8 +37,8 @@ use Rattle.channel.specs.Asked.{Asked}
 use Rattle.channel.proofs.StandingLaws.{counted-is, own-fits}
 use Rattle.sender.specs.Directives.{placeAt}
 use Rattle.sender_packets.specs.Asked.{Ready, Plain}
-use Rattle.sender_packets.specs.HandingOut.{againAt, singleFields, dataFields, segmentFor, nextFields, nextPayload, nextOut, nextLength, handStep, handOut}
-use Rattle.sender_packets.proofs.HandLaws.{ready-as, ready-1-is, ready-2-is, single-plain, data-plain}
+use Rattle.sender_packets.specs.HandingOut.{againAt, isFlow, singleCount, singlePayload, singleFields, dataFields, segmentFor, nextFields, nextPayload, nextOut, nextLength, handStep, handOut}
+use Rattle.sender_packets.proofs.HandLaws.{ready-as, ready-1-is, ready-2-is, single-plain, single-length, data-plain}
 use Rattle.sender_packets.proofs.LyingLaws.{lying, segment-sized}
 use Rattle.requests.specs.Handing.{nextFor}
 
@@ -61,7 +62,7 @@ module _ (node : Node) (c : Channel) (rank : ℕ) where
       go true = refl
       go false = refl
 
-  -- rank 0 is Control or the Heartbeat, and the others are Data
+  -- rank 0 is Control, the Heartbeat or Flow Control, and the others are Data
   pub next-single : rank ≡ 0 → nextFields node c rank ≡ singleFields node c
   unfolding nextFields
   next-single e = chosen (eqb rank 0) (singleFields node c) (dataFields node c (segmentFor c rank)) (eq-eqb rank 0 e)
@@ -73,21 +74,22 @@ module _ (node : Node) (c : Channel) (rank : ℕ) where
 -- a packet of rank 0 is no Data
 pub single-kind : (node : Node) (c : Channel) → kindOf (singleFields node c .kind) ≡ Data → ⊥
 unfolding kindOf
-single-kind node c = go (eqb (c .phase .state) enabled) (eqb (c .phase .state) opened)
+single-kind node c = go (isFlow c) (eqb (c .phase .state) enabled) (eqb (c .phase .state) opened)
   where
-    go : (b d : Bool) → kindOf (codeOf (if b then Open else if d then Heartbeat else Close)) ≡ Data → ⊥
-    go true d e = false≢true (ap isData e)
-    go false true e = false≢true (ap isData e)
-    go false false e = false≢true (ap isData e)
+    go : (v b d : Bool) → kindOf (codeOf (if v then FlowControl else if b then Open else if d then Heartbeat else Close)) ≡ Data → ⊥
+    go true b d e = false≢true (ap isData e)
+    go false true d e = false≢true (ap isData e)
+    go false false true e = false≢true (ap isData e)
+    go false false false e = false≢true (ap isData e)
 
 module _ (c : Channel) (mem lens : List ℕ) (rank : ℕ) where
-  pub payload-single : rank ≡ 0 → nextPayload c lens mem rank ≡ []
+  pub payload-single : rank ≡ 0 → nextPayload c lens mem rank ≡ singlePayload c
   unfolding nextPayload
-  payload-single e = chosen (eqb rank 0) [] (segmentIn (c .limits .payload) mem lens (slotOf c (placeAt c (segmentFor c rank)))) (eq-eqb rank 0 e)
+  payload-single e = chosen (eqb rank 0) (singlePayload c) (segmentIn (c .limits .payload) mem lens (slotOf c (placeAt c (segmentFor c rank)))) (eq-eqb rank 0 e)
 
   pub payload-data : (rank ≡ 0 → ⊥) → nextPayload c lens mem rank ≡ segmentIn (c .limits .payload) mem lens (slotOf c (placeAt c (segmentFor c rank)))
   unfolding nextPayload
-  payload-data e = passed-by (eqb rank 0) [] (segmentIn (c .limits .payload) mem lens (slotOf c (placeAt c (segmentFor c rank)))) (ne-eqb rank 0 e)
+  payload-data e = passed-by (eqb rank 0) (singlePayload c) (segmentIn (c .limits .payload) mem lens (slotOf c (placeAt c (segmentFor c rank)))) (ne-eqb rank 0 e)
 
 -- ---- the packet
 
@@ -118,12 +120,12 @@ module _ (node : Node) (c : Channel) (mem lens : List ℕ) (a : Asked c mem lens
     where
       go : (b : Bool) → eqb rank 0 ≡ b
           → Plain (c .addresses) (nextFields node c rank) (length (nextPayload c lens mem rank))
-          × (outgoingLength (c .addresses) (if b then 0 else getD lens (slotOf c (placeAt c (segmentFor c rank))) 0) ≡ outgoingLength (c .addresses) (length (nextPayload c lens mem rank)))
+          × (outgoingLength (c .addresses) (if b then singleCount c else getD lens (slotOf c (placeAt c (segmentFor c rank))) 0) ≡ outgoingLength (c .addresses) (length (nextPayload c lens mem rank)))
       go true e =
           let zero = eqb-true rank 0 e in
-          let p : length (nextPayload c lens mem rank) ≡ 0 = ap length (payload-single c mem lens rank zero) in (
+          let p : length (nextPayload c lens mem rank) ≡ singleCount c = ap length (payload-single c mem lens rank zero) ∙ single-length c in (
             subst (λ (f : Fields). Plain (c .addresses) f (length (nextPayload c lens mem rank))) (sym (next-single node c rank zero))
-                (subst (λ (n : ℕ). Plain (c .addresses) (singleFields node c) n) (sym p) (single-plain node (c .addresses) (own-fits c lens (a .standing)) (c .phase .state))),
+                (subst (λ (n : ℕ). Plain (c .addresses) (singleFields node c) n) (sym p) (single-plain node (c .addresses) (own-fits c lens (a .standing)) (c .phase .state) (isFlow c) (flowNumber (c .pulse .flow)))),
             ap (outgoingLength (c .addresses)) (sym p),
           )
       go false e =

@@ -10,7 +10,7 @@ use borrow.Author.Tests.{eqb-true, eqb-false, ne-eqb, ltb-true, ltb-false}
 use lib.Dec.{ltb, eqb}
 use lib.ListN.{length}
 use Rattle.laws.specs.Choice.{if_then_else_}
-use Rattle.laws.proofs.Choice.{either-way, chosen, passed-by}
+use Rattle.laws.proofs.Choice.{either, either-way, chosen, passed-by}
 use Rattle.packet.specs.declared.kinds.Kind as packets
 use Rattle.packet.specs.declared.kinds.Kind.the-variants as packet-kind
 use Rattle.packet.specs.Kinds.{kindOf, isData}
@@ -18,24 +18,30 @@ use Rattle.packet.specs.declared.fields.Fields.{Fields}
 use Rattle.packet.specs.Layout.{least, fieldsAt, prefixAt, lengthAt, payloadAt, payloadIn}
 use Rattle.channel.specs.declared.record.Node.{Node}
 use Rattle.channel.specs.declared.record.Addresses.{Addresses}
+use Rattle.channel.specs.declared.record.Pulse.{Pulse}
 use Rattle.channel.specs.declared.record.Channel.{Channel}
 use Rattle.channel.specs.declared.answer.Answer.{Answer}
 use Rattle.channel.specs.declared.answer.Answer.the-variants.{Refused}
 use Rattle.channel.specs.declared.step.Stepped.{Stepped}
 use Rattle.channel.specs.Answers.{numberOf, confirmedOf}
 use Rattle.channel.specs.declared.answer.Refusal.the-variants as refusal
-use Rattle.channel.specs.Record.{sends, receives}
+use Rattle.channel.specs.Record.{sends, receives, withPulse}
 use Rattle.channel.specs.Steps.{refusing}
 use Rattle.channel.specs.Pulse.{heartbeatStep, heartbeatAckStep}
+use Rattle.channel.specs.Flow.{flowStep, flowAckStep}
+use Rattle.receiver.specs.declared.acks.Acked.{Acked}
 use Rattle.receiver.specs.declared.acks.Acked.the-variants as acked
+use Rattle.receiver.specs.Receiving.{carrying}
 use Rattle.walks.specs.Serving.{Worked, works}
 use Rattle.sender_acks.specs.Acks.{controlAckStep, dataAckStep}
+use Rattle.sender_acks.specs.Stated.{dataAckStated, controlAckStated}
+use Rattle.ends.proofs.Stated.{dataPulse, controlPulse, data-stated, control-stated}
 use Rattle.table.specs.Waiting.{rankIn}
 use Rattle.table.specs.declared.looking.Look.{Look}
 use Rattle.table.specs.Looking.{looksFor, same, graded, chosen as choice}
 use Rattle.table.proofs.OneLaws.{kind-finds}
 use Rattle.table.specs.Serving.{recordAt}
-use Rattle.arrivals.specs.Arriving.{arriveAs, arriveBy, arrivalFor, Framed}
+use Rattle.arrivals.specs.Arriving.{statedIn, sixFor, arriveAs, arriveBy, arrivalFor, Framed}
 use Rattle.arrivals.specs.Replying.{repliedBy, acknowledging, replying}
 use Rattle.arrivals.specs.Finding.{lookOf, prefixRead}
 use Rattle.arrivals.specs.Data.{replyLength, unfitAs, unfit}
@@ -54,10 +60,10 @@ use Rattle.protocol.specs.Sending.{Sender, SenderCall, senderStep, acknowledged
 use Rattle.protocol.specs.Receiving.{Receiver}
 use Rattle.protocol.specs.History as protocol
 use Rattle.ends.proofs.SenderCases.{control-ack-cases}
-use Rattle.ends.proofs.PulseCases.{heartbeat-cases, heartbeat-ack-cases}
+use Rattle.ends.proofs.PulseCases.{heartbeat-cases, heartbeat-ack-cases, flow-cases, flow-ack-cases}
 use Rattle.means.proofs.Sends.{Sends, open-state, state-opened}
-use Rattle.means.proofs.SenderControl.{stays, control-ack-sends}
-use Rattle.means.proofs.Pulses.{pulse-sends, heartbeat-sends, heartbeat-ack-sends}
+use Rattle.means.proofs.SenderControl.{stays, control-ack-sends, pulse-sender-moves}
+use Rattle.means.proofs.Pulses.{pulse-sends, heartbeat-sends, heartbeat-ack-sends, flow-sends}
 use Rattle.means.proofs.SenderAcks.{ack-sends, ack-near}
 use Rattle.delivery.specs.Calls.{End, arrives, Request, channelOf}
 use Rattle.delivery.specs.History.{Event, names, isFree, binds, IsData, IsDataAck, Replied, confirmed}
@@ -83,6 +89,12 @@ heartbeat-confirms c = heartbeat-cases c (λ (s : Stepped). confirmedOf (s .answ
 heartbeat-ack-confirms : (c : Channel) (number : ℕ) → confirmedOf (heartbeatAckStep c number .answer) ≡ 0
 heartbeat-ack-confirms c number = heartbeat-ack-cases c (λ (s : Stepped). confirmedOf (s .answer) ≡ 0) refl number refl (λ e. refl)
 
+flow-confirms : (c : Channel) (number : ℕ) → confirmedOf (flowStep c number .answer) ≡ 0
+flow-confirms c number = flow-cases c (λ (s : Stepped). confirmedOf (s .answer) ≡ 0) refl number (λ e. refl)
+
+flow-ack-confirms : (c : Channel) (number : ℕ) → confirmedOf (flowAckStep c number .answer) ≡ 0
+flow-ack-confirms c number = flow-ack-cases c (λ (s : Stepped). confirmedOf (s .answer) ≡ 0) refl number refl (λ e. refl)
+
 beats-confirm : (node : Node) (u : List ℕ) (c : Channel) (rank : ℕ) (mem lens out : List ℕ) → isFree (kindOf (fieldsAt u .kind)) ≡ true
     → confirmedOf (arrivalFor node u c rank mem lens out .made .answer) ≡ 0
 unfolding arrivalFor arriveBy
@@ -101,7 +113,8 @@ beats-confirm node u c rank mem lens out = go (ltb (length out) (replyLength c (
     go false true kind e = refl
     go false false packet-kind.Heartbeat e = heartbeat-confirms c
     go false false packet-kind.HeartbeatAck e = heartbeat-ack-confirms c (f .number)
-    go false false packet-kind.FlowControl e = refl
+    go false false packet-kind.FlowControl e =
+        either (λ (z : Worked Stepped). confirmedOf (z .made .answer) ≡ 0) (eqb (c .addresses .direction) receives) _ _ (flow-ack-confirms c (f .number)) (flow-confirms c (statedIn (payloadIn u)))
     go false false packet-kind.Data e = absurd (false≢true e)
     go false false packet-kind.DataAck e = absurd (false≢true e)
     go false false packet-kind.Open e = absurd (false≢true e)
@@ -171,19 +184,20 @@ module _ {h s : End} {past : List Event} {x : Sender} {y : Receiver} {t : List C
   abbrev number : ℕ
   number = fieldsAt u .number
 
-  ack-own : names h u ≡ true → IsDataAck u → Replied s past copy u → NotLate (endWith h t mem lens lines n) copy
-      → Next k request copy (dataAckStep (own k) number .answer) b (dataAckStep (own k) number .channel) (octets k) (lengths k)
-  ack-own named kind replied late =
+  ack-own : (p : Pulse) → names h u ≡ true → IsDataAck u → Replied s past copy u → NotLate (endWith h t mem lens lines n) copy
+      → Next k request copy (dataAckStep (own k) number .answer) b (withPulse (dataAckStep (own k) number .channel) p) (octets k) (lengths k)
+  ack-own p named kind replied late =
       let a = dataAckStep (own k) number .answer in
-      let c = dataAckStep (own k) number .channel in
+      let c = withPulse (dataAckStep (own k) number .channel) p in
       let call = SenderCall.ack copy number in
       let L = limits h s in
-      let w = subst Acked (own-limits k) (
+      let before = subst Acked (own-limits k) (
         ack-sends (own k) (octets k) (lengths k) x (asked k) (own-sends k) (k .now .means) number copy,
         ack-near (own k) (octets k) (lengths k) x (asked k) (own-sends k) (k .now .means) number copy,
       )
       in
       let z = senderStep L x call .0 in
+      let means = pulse-sends (dataAckStep (own k) number .channel) (octets k) (lengths k) z p (before .0 .0) in
       let d = distance number (numberAt (x .start)) in
       let o = isOpen (x .phase) in
       let v = sending.isAwaited L x d in
@@ -196,12 +210,12 @@ module _ {h s : End} {past : List Event} {x : Sender} {y : Receiver} {t : List C
       )
       refl
       (chosen (names h u) (confirmed h past + confirmedOf a) (confirmed h past) named
-      ∙ ap (λ (m : ℕ). confirmed h past + m) (w .0 .2)
+      ∙ ap (λ (m : ℕ). confirmed h past + m) (before .0 .2)
       ∙ sym (acked-count L x o v (x .start + d) (confirmed h past)))
       refl
       (λ j packet q. absurd (true≢false (sym q)))
-      (own k) c (octets k) (lengths k) (w .0 .0)
-      (counts k c (octets k) (lengths k) z (w .0 .0) (w .1 .0) (let e = w .1 .1 in omega (arith, e)) (was-open k phase)
+      (own k) c (octets k) (lengths k) means
+      (counts k c (octets k) (lengths k) z means (before .1 .0) (let e = before .1 .1 in omega (arith, e)) (was-open k phase)
       (λ q. acked-still L x o v (x .start + d) (λ e. q (phase ∙ state-opened (x .phase) (open-state (x .phase) e)))))
       (λ q. phase ∙ waits-on k (hostEvent request copy n (indexFor k request) a b) q)
     where
@@ -213,24 +227,37 @@ module _ {h s : End} {past : List Event} {x : Sender} {y : Receiver} {t : List C
           × (confirmedOf (dataAckStep (own k) number .answer) ≡ r .1 .count))
           × ((x .start ≤ r .0 .start) × (r .0 .start ≤ x .start + 128))
 
-  control-ack-own : Next k request copy (controlAckStep (own k) number .answer) b (controlAckStep (own k) number .channel) (octets k) (lengths k)
+  abbrev m : ℕ
+  m = statedIn (payloadIn u)
+
+  -- what the Ack states moves the pulse alone
+  ack-stated-own : names h u ≡ true → IsDataAck u → Replied s past copy u → NotLate (endWith h t mem lens lines n) copy
+      → Left (Next k request copy) (works (dataAckStated (own k) number m) (octets k) (lengths k) b)
+  ack-stated-own named kind replied late =
+      subst (λ (z : Stepped). Left (Next k request copy) (works z (octets k) (lengths k) b)) (sym (data-stated (own k) number m)) (ack-own (dataPulse (own k) number m) named kind replied late)
+
+  control-ack-own : Left (Next k request copy) (works (controlAckStated (own k) number m) (octets k) (lengths k) b)
   control-ack-own =
       let a = controlAckStep (own k) number .answer in
-      moves-on k request copy a b refl (confirms (confirmedOf a) (names h u) (λ _. control-confirms (own k) number)) refl refl
-      (controlAckStep (own k) number .channel)
-      (control-ack-sends (own k) (octets k) (lengths k) x (asked k) (own-sends k) (k .now .means) number)
+      let p = controlPulse (own k) number m in
+      let moved = control-ack-sends (own k) (octets k) (lengths k) x (asked k) (own-sends k) (k .now .means) number in
+      subst (λ (z : Stepped). Left (Next k request copy) (works z (octets k) (lengths k) b)) (sym (control-stated (own k) number m))
+      (moves-on k request copy a b refl (confirms (confirmedOf a) (names h u) (λ _. control-confirms (own k) number)) refl refl
+      (withPulse (controlAckStep (own k) number .channel) p)
+      (pulse-sender-moves (own k) (controlAckStep (own k) number .channel) (octets k) (lengths k) x p moved))
 
-  -- a Heartbeat, with its reply, and the Ack of one: the record means the same
+  -- a step with its reply that moves the pulse alone: the record means the same
+  beside-own : (of : Acked) (step : Stepped) → confirmedOf (step .answer) ≡ 0 → Sends (step .channel) (octets k) (lengths k) x
+      → Left (Next k request copy) (replying (h .node) (own k) of number step (octets k) (lengths k) b)
+  beside-own of step none same =
+      moves-on k request copy (step .answer) (repliedBy (step .answer) (h .node) (own k .addresses) of number (carrying of (own k .limits) (step .channel .window)) b) refl
+      (confirms (confirmedOf (step .answer)) (names h u) (λ _. none)) refl refl
+      (acknowledging number step .channel)
+      (stays _ (octets k) (lengths k) x (own k) (pulse-sends (step .channel) (octets k) (lengths k) x (acknowledging number step .channel .pulse) same))
+
+  -- a Heartbeat, with its reply, and the Ack of one
   beat-own : Left (Next k request copy) (replying (h .node) (own k) acked.Heartbeat number (heartbeatStep (own k)) (octets k) (lengths k) b)
-  beat-own =
-      let c = heartbeatStep (own k) .channel in
-      let p = acknowledging (heartbeatStep (own k)) .channel .pulse in
-      let a = heartbeatStep (own k) .answer in
-      moves-on k request copy a (repliedBy a (h .node) (own k .addresses) acked.Heartbeat number b) refl
-      (confirms (confirmedOf a) (names h u) (λ _. heartbeat-confirms (own k))) refl refl
-      (acknowledging (heartbeatStep (own k)) .channel)
-      (stays _ (octets k) (lengths k) x (own k)
-      (pulse-sends c (octets k) (lengths k) x p (heartbeat-sends (own k) (octets k) (lengths k) x (k .now .means))))
+  beat-own = beside-own acked.Heartbeat (heartbeatStep (own k)) (heartbeat-confirms (own k)) (heartbeat-sends (own k) (octets k) (lengths k) x (k .now .means))
 
   beat-ack-own : Next k request copy (heartbeatAckStep (own k) number .answer) b (heartbeatAckStep (own k) number .channel) (octets k) (lengths k)
   beat-ack-own =
@@ -238,6 +265,12 @@ module _ {h s : End} {past : List Event} {x : Sender} {y : Receiver} {t : List C
       moves-on k request copy a b refl (confirms (confirmedOf a) (names h u) (λ _. heartbeat-ack-confirms (own k) number)) refl refl
       (heartbeatAckStep (own k) number .channel)
       (stays _ (octets k) (lengths k) x (own k) (heartbeat-ack-sends (own k) (octets k) (lengths k) x (k .now .means) number))
+
+  -- Flow Control
+  flow-own : Left (Next k request copy) (sixFor (h .node) number m (own k) (octets k) (lengths k) b)
+  flow-own =
+      subst (Left (Next k request copy)) (sym (passed-by (eqb (own k .addresses .direction) receives) _ _ (ne-eqb (own k .addresses .direction) receives (λ e. omega (arith, own-sends k, e)))))
+      (beside-own acked.Flow (flowStep (own k) m) (flow-confirms (own k) m) (flow-sends (own k) (octets k) (lengths k) x (k .now .means) m))
 
   arrive-own : FairReply → (r : ℕ) → Given looked (h .index) r (own k) (octets k) (lengths k)
       → Left (Next k request copy) (arrivalFor (h .node) u (own k) r (octets k) (lengths k) b)
@@ -296,11 +329,11 @@ module _ {h s : End} {past : List Event} {x : Sender} {y : Receiver} {t : List C
       as-kind : (kind : packets.Kind) → kindOf (f .kind) ≡ kind → Result
       as-kind packet-kind.DataAck is =
           let w = fair (binds-so h u packet-kind.DataAck is refl named) in
-          fitting packet-kind.DataAck is least-room (λ _. ack-own named is (w .0) (w .1 is))
+          fitting packet-kind.DataAck is least-room (λ _. ack-stated-own named is (w .0) (w .1 is))
       as-kind packet-kind.ControlAck is = fitting packet-kind.ControlAck is least-room (λ _. control-ack-own)
       as-kind packet-kind.HeartbeatAck is = fitting packet-kind.HeartbeatAck is least-room (λ _. beat-ack-own)
       as-kind packet-kind.Heartbeat is = answered packet-kind.Heartbeat is (λ _. beat-own)
-      as-kind packet-kind.FlowControl is = answered packet-kind.FlowControl is (λ e. absurd (true≢false e))
+      as-kind packet-kind.FlowControl is = answered packet-kind.FlowControl is (λ _. flow-own)
       as-kind packet-kind.Data is = absurd (false≢true (looks packet-kind.Data is))
       as-kind packet-kind.Open is = absurd (false≢true (looks packet-kind.Open is))
       as-kind packet-kind.Close is = absurd (false≢true (looks packet-kind.Close is))

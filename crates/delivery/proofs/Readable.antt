@@ -47,5 +47,5 @@ module _ (t : List Channel) (mem lens lines : List ℕ) (node : Node) (out : Lis
       serve-cases (lookOf node packet (length out)) (arrivalFor node packet) t mem lens lines out ReplyRead (inl refl) (inl refl)
       (λ h below g.
       let i = servedAt (lookOf node packet (length out)) (arrivalFor node packet) t mem lens lines out in
-      ⊎-elim (λ e. inl e) (⊎-elim (λ a. inr (ap readNumber (a .read))) (⊎-elim (λ a. inr (ap readNumber (a .read))) (λ a. inr (ap readNumber (a .1 .read)))))
+      ⊎-elim (λ e. inl e) (⊎-elim (λ a. inr (ap readNumber (a .acks .read))) (λ a. inr (ap readNumber (a .1 .read))))
       (arrival-wrote node packet out i (rankIn (choice (lookOf node packet (length out)) lines t .grade)) (recordAt t i) (ownMem t i mem) (ownLens t i lens) g))

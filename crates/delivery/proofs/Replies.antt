@@ -5,17 +5,18 @@ use mathlib.Core.Bool.{Bool, true, false, not, _&&_, _||_}
 use mathlib.Core.List.{List, [], _++_}
 use mathlib.Core.Logic.{_⊎_, inl, inr, ⊎-elim}
 use Prim.Native.Nat.{ℕ, _≤_, _<_}
-use borrow.Author.Tests.{le-ltb, ltb-true, ltb-false, eqb-true, eq-eqb}
+use native.Mathlib.Omega.{arith}
+use borrow.Author.Tests.{ltb-true, ltb-false, eqb-true, eqb-false, eq-eqb, ne-eqb}
 use lib.Dec.{ltb, eqb}
 use lib.ListN.{length, take, drop}
 use Rattle.laws.specs.Choice.{if_then_else_}
-use Rattle.laws.proofs.Choice.{both, either-way}
+use Rattle.laws.proofs.Choice.{both, either-way, by-test, passed-by}
 use Rattle.packet.specs.declared.kinds.Kind.{Kind}
 use Rattle.packet.specs.declared.kinds.Kind.the-variants.{Data, DataAck, Open, Close, Heartbeat, HeartbeatAck, FlowControl, ControlAck, Lacking}
-use Rattle.packet.specs.Kinds.{kindOf}
+use Rattle.packet.specs.Kinds.{kindOf, codeOf, carried, mostCarried}
 use Rattle.packet.specs.declared.fields.Fields.{Fields}
-use Rattle.packet.specs.Layout.{mostPrefix, prefixFrom, packetOf, payloadAt, fieldsAt, prefixAt, lengthAt, payloadIn}
-use Rattle.packet.specs.Tests.{lacking, strange, flagsWhole}
+use Rattle.packet.specs.Layout.{least, prefixFrom, payloadAt, fieldsAt, prefixAt, lengthAt, payloadIn}
+use Rattle.packet.specs.Tests.{flagsWhole}
 use Rattle.packet.specs.Writing.{writtenOf, afterWrite}
 use Rattle.packet.proofs.WriteLaws.{write-done}
 use Rattle.packet.specs.declared.reading.Read.the-variants.{Found}
@@ -25,6 +26,8 @@ use Rattle.packet.proofs.RoundTrip.{written-then-read}
 use Rattle.walks.specs.Serving.{Worked, works}
 use Rattle.channel.specs.declared.record.Node.{Node}
 use Rattle.channel.specs.declared.record.Addresses.{Addresses}
+use Rattle.channel.specs.declared.record.Limits.{Limits}
+use Rattle.channel.specs.declared.record.Window.{Window}
 use Rattle.channel.specs.declared.record.Channel.{Channel}
 use Rattle.channel.specs.declared.answer.Answer.{Answer}
 use Rattle.channel.specs.declared.answer.Answer.the-variants.{Done, Repeated, Inactive, Refused}
@@ -32,26 +35,31 @@ use Rattle.channel.specs.declared.answer.Refusal.the-variants as refusal
 use Rattle.channel.specs.declared.step.Stepped.{Stepped}
 use Rattle.channel.specs.Record.{sends, receives, enabled, opened, closing}
 use Rattle.channel.specs.Answers.{lengthOf}
-use Rattle.channel.specs.Steps.{refusing, doing, outgoingOf}
+use Rattle.channel.specs.Steps.{refusing, doing, outgoingOf, outgoingLength}
 use Rattle.channel.specs.declared.record.Prefix.{Prefix}
 use Rattle.channel.specs.Prefixes.{prefixOf, fitPrefix, samePrefix, prefixWith}
-use Rattle.channel.proofs.PrefixLaws.{prefix-length, prefix-short}
+use Rattle.channel.proofs.PrefixLaws.{prefix-length}
 use Rattle.channel.proofs.StandingLaws.{own-fits}
 use Rattle.channel.specs.Lone.{isOut}
 use Rattle.sender_acks.specs.Acks.{controlAcked, controlAckStep, awayOf, isAwaited, recorded, confirmedAt, advanced, dataAckStep}
+use Rattle.sender_acks.specs.Stated.{dataAckStated, controlAckStated}
 use Rattle.channel.specs.Pulse.{heartbeatStep, heartbeatAckStep}
+use Rattle.channel.specs.Flow.{flowStep, flowAckStep}
 use Rattle.receiver.specs.declared.acks.Acked.{Acked}
 use Rattle.receiver.specs.declared.acks.Acked.the-variants as acked
-use Rattle.receiver.specs.Receiving.{ackLength, ackKind, controlStep}
+use Rattle.receiver.specs.Receiving.{ackLength, ackKind, statedCount, carries, carrying, controlStep}
+use Rattle.receiver.proofs.StepLaws.{ack-base, ack-plain, carries-few, carrying-length}
 use Rattle.receiver_data.specs.Data.{dataStep}
-use Rattle.ends.proofs.PulseCases.{heartbeat-cases, heartbeat-ack-cases}
+use Rattle.ends.proofs.PulseCases.{heartbeat-cases, heartbeat-ack-cases, flow-cases, flow-ack-cases}
+use Rattle.ends.proofs.Stated.{data-stated-answer, control-stated-answer}
 use Rattle.ends.proofs.ReceiverCases.{control-cases, data-cases, accept-cases}
 use Rattle.table.specs.declared.looking.Look.{Look}
 use Rattle.table.specs.Looking.{same, graded}
-use Rattle.arrivals.specs.Arriving.{arriveAs, arriveBy, arrivalFor, Framed}
+use Rattle.arrivals.specs.Arriving.{statedIn, arriveAs, arriveBy, arrivalFor, Framed}
 use Rattle.arrivals.specs.Finding.{isOurs, lookOf, prefixRead}
 use Rattle.arrivals.specs.Data.{replyLength, unfit}
-use Rattle.arrivals.specs.Replying.{repliedBy, replying}
+use Rattle.arrivals.specs.Replying.{ackOut, repliedBy, replying}
+use Rattle.arrivals.proofs.StatedLaws.{six-carries}
 use Rattle.arrivals.proofs.ArriveLaws.{framed, by-small, by-unfit, by-kind}
 use Rattle.table.proofs.OneLaws.{kind-finds}
 use Rattle.arrivals.proofs.FindLaws.{found-packet}
@@ -59,26 +67,32 @@ use Rattle.keeps.specs.Keeping.{Given}
 
 -- ---- the steps that reply: with 0 and 15 they have an Ack's octets written
 
-abbrev pub AsLong : Addresses → Answer → Type 0
-AsLong a (Done n u) = n ≡ ackLength a
-AsLong a (Repeated n) = n ≡ ackLength a
-AsLong a (Inactive why) = Unit {0}
-AsLong a (Refused why) = Unit {0}
+abbrev pub AsLong : ℕ → Answer → Type 0
+AsLong k (Done n u) = n ≡ k
+AsLong k (Repeated n) = n ≡ k
+AsLong k (Inactive why) = Unit {0}
+AsLong k (Refused why) = Unit {0}
 
-pub data-long : (c : Channel) (number flags : ℕ) → AsLong (c .addresses) (dataStep c number flags .answer)
+pub data-long : (c : Channel) (number flags : ℕ) → AsLong (ackLength c) (dataStep c number flags .answer)
 data-long c number flags =
-    data-cases c number flags [] [] [] (λ (s : Stepped) (m l : List ℕ). AsLong (c .addresses) (s .answer)) tt tt refl tt
-    (λ o room. accept-cases c _ flags (λ (s : Stepped). AsLong (c .addresses) (s .answer)) tt refl)
+    data-cases c number flags [] [] [] (λ (s : Stepped) (m l : List ℕ). AsLong (ackLength c) (s .answer)) tt tt refl tt
+    (λ o room. accept-cases c _ flags (λ (s : Stepped). AsLong (ackLength c) (s .answer)) tt refl)
 
-pub control-long : (c : Channel) (opens : Bool) (number : ℕ) → AsLong (c .addresses) (controlStep c opens number .answer)
-control-long c opens number = control-cases c (λ (s : Stepped). AsLong (c .addresses) (s .answer)) tt refl opens number refl refl tt tt
+pub control-long : (c : Channel) (opens : Bool) (number : ℕ) → AsLong (ackLength c) (controlStep c opens number .answer)
+control-long c opens number = control-cases c (λ (s : Stepped). AsLong (ackLength c) (s .answer)) tt refl opens number refl refl tt tt
 
-pub heartbeat-long : (c : Channel) → AsLong (c .addresses) (heartbeatStep c .answer)
-heartbeat-long c = heartbeat-cases c (λ (s : Stepped). AsLong (c .addresses) (s .answer)) tt (λ e. refl)
+pub heartbeat-long : (c : Channel) → AsLong (outgoingLength (c .addresses) 0) (heartbeatStep c .answer)
+heartbeat-long c = heartbeat-cases c (λ (s : Stepped). AsLong (outgoingLength (c .addresses) 0) (s .answer)) tt (λ e. refl)
+
+pub flow-long : (c : Channel) (number : ℕ) → AsLong (outgoingLength (c .addresses) 0) (flowStep c number .answer)
+flow-long c number = flow-cases c (λ (s : Stepped). AsLong (outgoingLength (c .addresses) 0) (s .answer)) tt number (λ e. refl)
 
 -- where an Ack arrives they have none
 pub heartbeat-ack-silent : (c : Channel) (number : ℕ) → lengthOf (heartbeatAckStep c number .answer) ≡ 0
 heartbeat-ack-silent c number = heartbeat-ack-cases c (λ (s : Stepped). lengthOf (s .answer) ≡ 0) refl number refl (λ e. refl)
+
+pub flow-ack-silent : (c : Channel) (number : ℕ) → lengthOf (flowAckStep c number .answer) ≡ 0
+flow-ack-silent c number = flow-ack-cases c (λ (s : Stepped). lengthOf (s .answer) ≡ 0) refl number refl (λ e. refl)
 
 data-ack-silent : (c : Channel) (number : ℕ) → lengthOf (dataAckStep c number .answer) ≡ 0
 unfolding dataAckStep
@@ -107,54 +121,63 @@ control-ack-silent c number = go (not (eqb (c .phase .state) enabled || eqb (c .
 
 -- ---- an Ack, read back
 
+-- with so many octets
 pub record Acks (node : Node) (a : Addresses) (kind : Kind) (number : ℕ) (packet : List ℕ) : Type 0 where
-  pub read : readOf packet ≡ Found (outgoingOf node a kind flagsWhole number) (length (prefixOf (a .own))) (payloadAt (length (prefixOf (a .own)))) 0
+  pub count : ℕ
+  pub read : readOf packet ≡ Found (outgoingOf node a kind flagsWhole number) (length (prefixOf (a .own))) (payloadAt (length (prefixOf (a .own)))) count
   pub fields : fieldsAt packet ≡ outgoingOf node a kind flagsWhole number
   pub prefix : prefixRead packet ≡ prefixWith (a .own .length) (prefixOf (a .own))
 
-module _ (node : Node) (a : Addresses) (number : ℕ) (fits : fitPrefix (a .own) ≡ true) where
-  few : ltb mostPrefix (a .own .length) ≡ false
-  few = le-ltb mostPrefix (a .own .length) (prefix-short (a .own) fits)
+-- one that is no Data Ack
+pub record OtherAck (node : Node) (a : Addresses) (number : ℕ) (packet : List ℕ) : Type 0 where
+  pub kind : Kind
+  pub known : carried kind ≡ true
+  pub other : codeOf kind ≡ codeOf DataAck → ⊥
+  pub acks : Acks node a kind number packet
 
-  ack-plain : (of : Acked)
-      → (lacking (outgoingOf node a (ackKind of) flagsWhole number) (a .own .length) ≡ false) × (strange (outgoingOf node a (ackKind of) flagsWhole number) 0 ≡ false)
-  unfolding lacking strange kindOf
-  ack-plain acked.Data = (simp (few), refl)
-  ack-plain acked.Control = (simp (few), refl)
-  ack-plain acked.Heartbeat = (simp (few), refl)
+module _ (node : Node) (a : Addresses) (number : ℕ) (fits : fitPrefix (a .own) ≡ true) (of : Acked) (l : Limits) (w : Window) (out : List ℕ)
+    (room : outgoingLength a (carries of l) ≤ length out) where
+  abbrev f : Fields
+  f = outgoingOf node a (ackKind of) flagsWhole number
 
-  module _ (of : Acked) (out : List ℕ) (room : ackLength a ≤ length out) where
-    abbrev f : Fields
-    f = outgoingOf node a (ackKind of) flagsWhole number
+  abbrev q : List ℕ
+  q = prefixOf (a .own)
 
-    abbrev q : List ℕ
-    q = prefixOf (a .own)
+  abbrev p : List ℕ
+  p = carrying of l w
 
-    pub ack-written : Acks node a (ackKind of) number (take (ackLength a) (packetOf f q [] ++ drop (ackLength a) out))
-    unfolding afterWrite
-    ack-written =
-        let plain = ack-plain of in
-        let own = prefix-length (a .own) in
-        let done = ap (λ (n : ℕ). writtenOf f n 0 (length out)) own ∙ write-done f (a .own .length) 0 (length out) (plain .0) (plain .1) room in
-        let r = written-then-read f q [] out (ackLength a) done in
-        let packet = take (ackLength a) (packetOf f q [] ++ drop (ackLength a) out) in
-        let got = accepted packet f (length q) (payloadAt (length q)) 0 (r .answer) in
-        record {
-          read = r .answer;
-          fields = got .fields;
-          prefix =
-              ap (λ (n : ℕ). prefixWith n (take n (drop prefixFrom packet))) (got .prefix)
-              ∙ ap (prefixWith (length q)) (r .prefix)
-              ∙ ap (λ (n : ℕ). prefixWith n q) own;
-        }
+  long : length p ≡ carries of l
+  long = carrying-length of l w
 
-    -- what is written by an answer: nothing, or the Ack
-    pub reply-written : (r : Answer) → AsLong a r
-        → (take (lengthOf r) (repliedBy r node a of number out) ≡ []) ⊎ Acks node a (ackKind of) number (take (lengthOf r) (repliedBy r node a of number out))
-    reply-written (Done n u) e = inr (subst (λ (k : ℕ). Acks node a (ackKind of) number (take k (packetOf f q [] ++ drop (ackLength a) out))) (sym e) ack-written)
-    reply-written (Repeated n) e = inr (subst (λ (k : ℕ). Acks node a (ackKind of) number (take k (packetOf f q [] ++ drop (ackLength a) out))) (sym e) ack-written)
-    reply-written (Inactive why) e = inl refl
-    reply-written (Refused why) e = inl refl
+  pub ack-written : Acks node a (ackKind of) number (take (outgoingLength a (carries of l)) (ackOut node a of number p out))
+  unfolding afterWrite
+  ack-written =
+      let own = prefix-length (a .own) in
+      let few : length p ≤ mostCarried (ackKind of) = subst (λ (n : ℕ). n ≤ mostCarried (ackKind of)) (sym long) (carries-few of l) in
+      let enough : outgoingLength a (length p) ≤ length out = subst (λ (n : ℕ). outgoingLength a n ≤ length out) (sym long) room in
+      let done = ap (λ (n : ℕ). writtenOf f n (length p) (length out)) own
+      ∙ write-done f (a .own .length) (length p) (length out) (ack-base node a number fits of) (ack-plain node a number fits of (length p) few) enough in
+      let r = written-then-read f q p out (outgoingLength a (length p)) done in
+      let packet = take (outgoingLength a (length p)) (ackOut node a of number p out) in
+      let got = accepted packet f (length q) (payloadAt (length q)) (length p) (r .answer) in
+      subst (λ (n : ℕ). Acks node a (ackKind of) number (take (outgoingLength a n) (ackOut node a of number p out))) long
+      (record {
+        count = length p;
+        read = r .answer;
+        fields = got .fields;
+        prefix =
+            ap (λ (n : ℕ). prefixWith n (take n (drop prefixFrom packet))) (got .prefix)
+            ∙ ap (prefixWith (length q)) (r .prefix)
+            ∙ ap (λ (n : ℕ). prefixWith n q) own;
+      })
+
+  -- what is written by an answer: nothing, or the Ack
+  pub reply-written : (r : Answer) → AsLong (outgoingLength a (carries of l)) r
+      → (take (lengthOf r) (repliedBy r node a of number p out) ≡ []) ⊎ Acks node a (ackKind of) number (take (lengthOf r) (repliedBy r node a of number p out))
+  reply-written (Done n u) e = inr (subst (λ (k : ℕ). Acks node a (ackKind of) number (take k (ackOut node a of number p out))) (sym e) ack-written)
+  reply-written (Repeated n) e = inr (subst (λ (k : ℕ). Acks node a (ackKind of) number (take k (ackOut node a of number p out))) (sym e) ack-written)
+  reply-written (Inactive why) e = inl refl
+  reply-written (Refused why) e = inl refl
 
 -- ---- whom a Data Ack names
 
@@ -195,8 +218,7 @@ module _ (node : Node) (packet out : List ℕ) (at rank : ℕ) (c : Channel) (me
   abbrev Wrote : Worked Stepped → Type 0
   Wrote v =
       (take (lengthOf (v .made .answer)) (v .out) ≡ [])
-      ⊎ (Acks node (c .addresses) ControlAck n (take (lengthOf (v .made .answer)) (v .out)))
-      ⊎ (Acks node (c .addresses) HeartbeatAck n (take (lengthOf (v .made .answer)) (v .out)))
+      ⊎ (OtherAck node (c .addresses) n (take (lengthOf (v .made .answer)) (v .out)))
       ⊎ ((c .addresses .direction ≡ receives) × Acks node (c .addresses) DataAck n (take (lengthOf (v .made .answer)) (v .out)))
 
   pub arrival-wrote : Wrote (arrivalFor node packet c rank mem lens out)
@@ -221,24 +243,41 @@ module _ (node : Node) (packet out : List ℕ) (at rank : ℕ) (c : Channel) (me
       fits : fitPrefix (c .addresses .own) ≡ true
       fits = own-fits c lens (given .standing)
 
-      control : ackLength (c .addresses) ≤ length out → (opens : Bool) → Wrote (replying node c acked.Control n (controlStep c opens n) mem lens out)
-      control room opens =
-          ⊎-elim (λ e. inl e) (λ e. inr (inl e))
-          (reply-written node (c .addresses) n fits acked.Control out room (controlStep c opens n .answer) (control-long c opens n))
+      other : (kind : Kind) (o : List ℕ) → carried kind ≡ true → (codeOf kind ≡ codeOf DataAck → ⊥) → Acks node (c .addresses) kind n o → OtherAck node (c .addresses) n o
+      other kind o known not k = record { kind = kind; known = known; other = not; acks = k }
+
+      control : ackLength c ≤ length out → (of : Acked) → ackKind of ≡ ControlAck → carries of (c .limits) ≡ statedCount (c .limits) → (opens : Bool)
+          → Wrote (replying node c of n (controlStep c opens n) mem lens out)
+      control room of is-control count opens =
+          let step = controlStep c opens n in
+          ⊎-elim (λ e. inl e)
+          (λ e. inr (inl (other (ackKind of) _ (ap carried is-control) (λ z. omega (arith, sym (ap codeOf is-control) ∙ z)) e)))
+          (reply-written node (c .addresses) n fits of (c .limits) (step .channel .window) out (subst (λ (k : ℕ). outgoingLength (c .addresses) k ≤ length out) (sym count) room) (step .answer)
+          (subst (λ (k : ℕ). AsLong (outgoingLength (c .addresses) k) (step .answer)) (sym count) (control-long c opens n)))
+
+      m : ℕ
+      m = statedIn p
 
       as-kind : (k : Kind) → kindOf (f .kind) ≡ k → replyLength c k x ≤ length out → Wrote (arriveAs k node f p c rank mem lens out)
       as-kind Data is room =
-          ⊎-elim (λ e. inl e) (λ e. inr (inr (inr (eqb-true _ _ (kind-finds (c .addresses) f x (prefixRead packet) Data (told .ours) is), e))))
-          (reply-written node (c .addresses) n fits acked.Data out room (dataStep c n (f .flags) .answer) (data-long c n (f .flags)))
-      as-kind DataAck is room = silent (dataAckStep c n) (data-ack-silent c n)
-      as-kind Open is room = control room true
-      as-kind Close is room = control room false
+          ⊎-elim (λ e. inl e) (λ e. inr (inr (eqb-true _ _ (kind-finds (c .addresses) f x (prefixRead packet) Data (told .ours) is), e)))
+          (reply-written node (c .addresses) n fits acked.Data (c .limits) (dataStep c n (f .flags) .channel .window) out room (dataStep c n (f .flags) .answer) (data-long c n (f .flags)))
+      as-kind DataAck is room = silent (dataAckStated c n m) (ap lengthOf (data-stated-answer c n m) ∙ data-ack-silent c n)
+      as-kind Open is room = control room acked.Open refl refl true
+      as-kind Close is room = control room acked.Close refl refl false
       as-kind Heartbeat is room =
-          ⊎-elim (λ e. inl e) (λ e. inr (inr (inl e)))
-          (reply-written node (c .addresses) n fits acked.Heartbeat out room (heartbeatStep c .answer) (heartbeat-long c))
+          ⊎-elim (λ e. inl e) (λ e. inr (inl (other HeartbeatAck _ refl (λ z. omega (arith, z)) e)))
+          (reply-written node (c .addresses) n fits acked.Heartbeat (c .limits) (heartbeatStep c .channel .window) out room (heartbeatStep c .answer) (heartbeat-long c))
       as-kind HeartbeatAck is room = silent (heartbeatAckStep c n) (heartbeat-ack-silent c n)
-      as-kind FlowControl is room = inl refl
-      as-kind ControlAck is room = silent (controlAckStep c n) (control-ack-silent c n)
+      as-kind FlowControl is room =
+          by-test Wrote (eqb (c .addresses .direction) receives) _ _
+          (λ e. silent (flowAckStep c n) (flow-ack-silent c n))
+          (λ e.
+          let some = six-carries (c .addresses) f x (prefixRead packet) (told .ours) is (eqb-false _ _ e) in
+          let enough = subst (λ (k : ℕ). k ≤ length out) (passed-by (eqb x 0) least (outgoingLength (c .addresses) 0) (ne-eqb x 0 some)) room in
+          ⊎-elim (λ z. inl z) (λ z. inr (inl (other FlowControl _ refl (λ y. omega (arith, y)) z)))
+          (reply-written node (c .addresses) n fits acked.Flow (c .limits) (flowStep c m .channel .window) out enough (flowStep c m .answer) (flow-long c m)))
+      as-kind ControlAck is room = silent (controlAckStated c n m) (ap lengthOf (control-stated-answer c n m) ∙ control-ack-silent c n)
       as-kind (Lacking code) is room = inl refl
 
       small : ltb (length out) (replyLength c (kindOf (f .kind)) x) ≡ true → Wrote (arriveBy node f x p c rank mem lens out)

@@ -8,10 +8,11 @@ use mathlib.Core.List.{List, []}
 use mathlib.Core.Logic.{_⊎_, ⊎-elim}
 use Prim.Native.Nat.{ℕ, _≤_, _<_}
 use native.Mathlib.Omega.{arith}
-use borrow.Author.Tests.{ltb-true, ltb-false, eqb-true}
+use borrow.Author.Tests.{ltb-true, ltb-false, eqb-true, eq-eqb}
 use lib.Dec.{ltb}
 use lib.ListN.{length, take, drop, length-take}
-use Rattle.laws.proofs.Choice.{either-way}
+use lib.Dec.{eqb}
+use Rattle.laws.proofs.Choice.{either-way, chosen}
 use Rattle.packet.specs.declared.kinds.Kind as packets
 use Rattle.packet.specs.declared.kinds.Kind.the-variants as packet-kind
 use Rattle.packet.specs.Kinds.{codeOf, kindOf, carried}
@@ -30,11 +31,12 @@ use Rattle.channel.specs.Record.{sends, receives}
 use Rattle.channel.specs.Answers.{lengthOf}
 use Rattle.channel.specs.Prefixes.{fitPrefix, samePrefix}
 use Rattle.channel.proofs.StandingLaws.{own-fits}
-use Rattle.channel.specs.Steps.{refusing}
+use Rattle.channel.specs.Steps.{refusing, outgoingLength}
 use Rattle.channel.specs.Pulse.{heartbeatStep, heartbeatAckStep}
+use Rattle.channel.specs.Flow.{flowAckStep}
 use Rattle.receiver.specs.declared.acks.Acked.{Acked}
 use Rattle.receiver.specs.declared.acks.Acked.the-variants as acked
-use Rattle.receiver.specs.Receiving.{ackLength, ackKind, controlStep}
+use Rattle.receiver.specs.Receiving.{ackKind, carries, carrying, controlStep}
 use Rattle.table.specs.Waiting.{rankIn}
 use Rattle.table.specs.declared.looking.Look.{Look}
 use Rattle.table.specs.Looking.{same, chosen as choice}
@@ -53,7 +55,7 @@ use Rattle.keeps.proofs.CallsAlone.{shapes}
 use Rattle.protocol.specs.Sending.{Sender}
 use Rattle.protocol.specs.Receiving.{Receiver}
 use Rattle.means.proofs.ReceiverControl.{Moves, control-receives}
-use Rattle.means.proofs.Pulses.{heartbeat-receives, heartbeat-ack-receives}
+use Rattle.means.proofs.Pulses.{heartbeat-receives, heartbeat-ack-receives, flow-ack-receives}
 use Rattle.means.proofs.PulseMoves.{pulse-moves, still-moves}
 use Rattle.delivery.specs.Calls.{End, arrives, Request, channelOf, calledBy}
 use Rattle.delivery.specs.History.{Event, names, binds, IsData, Toward, HandedOut}
@@ -61,7 +63,7 @@ use Rattle.delivery.specs.Delivery.{rivals, NotLate}
 use Rattle.delivery.proofs.Own.{Seen, Left, own-cases}
 use Rattle.delivery.proofs.Nodes.{endWith, same-length, same-addresses, toward-itself}
 use Rattle.delivery.proofs.Packets.{named-is, names-so, binds-so, equal-rivals}
-use Rattle.delivery.proofs.Replies.{AsLong, control-long, heartbeat-long, heartbeat-ack-silent, Acks, reply-written, ack-named, arrival-framed, arrival-wrote}
+use Rattle.delivery.proofs.Replies.{AsLong, control-long, heartbeat-long, heartbeat-ack-silent, flow-ack-silent, Acks, OtherAck, reply-written, ack-named, arrival-framed, arrival-wrote}
 use Rattle.delivery.proofs.SubscriberData.{data-next}
 use Rattle.delivery.proofs.SubscriberEnd.{Stage, below, addresses-are, receiving, not-sending, asked, indexFor, Next, Unreplied, unwritten, quiet, moves-next}
 
@@ -109,11 +111,8 @@ module _ {h s : End} {past : List Event} {x : Sender} {y : Receiver} {t : List C
       in
       other (ap codeOf (sym is-ack ∙ kind))
 
-  control-written : (a : Answer) (o : List ℕ) (d : Addresses) (number : ℕ) → Acks (s .node) d packet-kind.ControlAck number (take (lengthOf a) o) → Unreplied w request copy a o
-  control-written a o d number k = other-ack a o d number packet-kind.ControlAck refl (λ e. omega (arith, e)) k
-
-  beat-written : (a : Answer) (o : List ℕ) (d : Addresses) (number : ℕ) → Acks (s .node) d packet-kind.HeartbeatAck number (take (lengthOf a) o) → Unreplied w request copy a o
-  beat-written a o d number k = other-ack a o d number packet-kind.HeartbeatAck refl (λ e. omega (arith, e)) k
+  other-kind : (a : Answer) (o : List ℕ) (d : Addresses) (number : ℕ) → OtherAck (s .node) d number (take (lengthOf a) o) → Unreplied w request copy a o
+  other-kind a o d number k = other-ack a o d number (k .kind) (k .known) (k .other) (k .acks)
 
   -- of another channel: it would have the addresses of this one, or goes elsewhere
   other-written : (j : ℕ) → j < length t → (j ≡ i → ⊥) → indexFor w request ≡ j → (a : Answer) (o : List ℕ) (number : ℕ)
@@ -146,14 +145,11 @@ module _ {h s : End} {past : List Event} {x : Sender} {y : Receiver} {t : List C
       arrives-quiet (v .made .answer) (v .out)
       (⊎-elim (λ z. unwritten w request copy (v .made .answer) (v .out) z)
       (λ z. ⊎-elim
-      (λ k. control-written (v .made .answer) (v .out) (recordAt t j .addresses) (f .number) k)
-      (λ z. ⊎-elim
-      (λ k. beat-written (v .made .answer) (v .out) (recordAt t j .addresses) (f .number) k)
-      (λ k. other-written j there apart index (v .made .answer) (v .out) (f .number) (k .0) (k .1)) z) z)
+      (λ k. other-kind (v .made .answer) (v .out) (recordAt t j .addresses) (f .number) k)
+      (λ k. other-written j there apart index (v .made .answer) (v .out) (f .number) (k .0) (k .1)) z)
       (subst (λ (u : Worked Stepped).
       (take (lengthOf (u .made .answer)) (u .out) ≡ [])
-      ⊎ (Acks (s .node) (recordAt t j .addresses) packet-kind.ControlAck (f .number) (take (lengthOf (u .made .answer)) (u .out)))
-      ⊎ (Acks (s .node) (recordAt t j .addresses) packet-kind.HeartbeatAck (f .number) (take (lengthOf (u .made .answer)) (u .out)))
+      ⊎ (OtherAck (s .node) (recordAt t j .addresses) (f .number) (take (lengthOf (u .made .answer)) (u .out)))
       ⊎ ((recordAt t j .addresses .direction ≡ receives) × Acks (s .node) (recordAt t j .addresses) packet-kind.DataAck (f .number) (take (lengthOf (u .made .answer)) (u .out)))) e
       (arrival-wrote (s .node) packet buffer j (rankIn (choice look lines t .grade)) (recordAt t j) (ownMem t j mem) (ownLens t j lens) g)))
 
@@ -179,19 +175,18 @@ module _ {h s : End} {past : List Event} {x : Sender} {y : Receiver} {t : List C
     fits = own-fits c l (g .standing)
 
     -- a step with its reply, which is no Data Ack
-    replied : ackLength (c .addresses) ≤ length buffer → (of : Acked) → carried (ackKind of) ≡ true → (codeOf (ackKind of) ≡ codeOf packet-kind.DataAck → ⊥)
-        → (step : Stepped) → AsLong (c .addresses) (step .answer) → Moves c (step .channel) m l y → Made (replying (s .node) c of (f .number) step m l buffer)
-    replied room of known other step long moves =
-        let out : List ℕ = repliedBy (step .answer) (s .node) (c .addresses) of (f .number) buffer in
+    replied : (of : Acked) → outgoingLength (c .addresses) (carries of (c .limits)) ≤ length buffer → carried (ackKind of) ≡ true → (codeOf (ackKind of) ≡ codeOf packet-kind.DataAck → ⊥)
+        → (step : Stepped) → AsLong (outgoingLength (c .addresses) (carries of (c .limits))) (step .answer) → Moves c (step .channel) m l y
+        → Made (replying (s .node) c of (f .number) step m l buffer)
+    replied of room known other step long moves =
+        let out : List ℕ = repliedBy (step .answer) (s .node) (c .addresses) of (f .number) (carrying of (c .limits) (step .channel .window)) buffer in
         moves-next w request copy (step .answer) out refl refl
         (⊎-elim (λ e. unwritten w request copy (step .answer) out e) (λ e. other-ack (step .answer) out (c .addresses) (f .number) (ackKind of) known other e)
-        (reply-written (s .node) (c .addresses) (f .number) fits of buffer room (step .answer) long))
-        (acknowledging step .channel) (pulse-moves c (step .channel) m l y (acknowledging step .channel .pulse) moves)
+        (reply-written (s .node) (c .addresses) (f .number) fits of (c .limits) (step .channel .window) buffer room (step .answer) long))
+        (acknowledging (f .number) step .channel) (pulse-moves c (step .channel) m l y (acknowledging (f .number) step .channel .pulse) moves)
 
-    control : ackLength (c .addresses) ≤ length buffer → (opens : Bool) → Made (replying (s .node) c acked.Control (f .number) (controlStep c opens (f .number)) m l buffer)
-    control room opens =
-        replied room acked.Control refl (λ e. omega (arith, e)) (controlStep c opens (f .number)) (control-long c opens (f .number))
-        (control-receives c m l y (asked w) (receiving w) (w .now .means) opens (f .number))
+    control-moves : (opens : Bool) → Moves c (controlStep c opens (f .number) .channel) m l y
+    control-moves opens = control-receives c m l y (asked w) (receiving w) (w .now .means) opens (f .number)
 
     beat-ack : Made (works (heartbeatAckStep c (f .number)) m l buffer)
     beat-ack =
@@ -199,20 +194,28 @@ module _ {h s : End} {past : List Event} {x : Sender} {y : Receiver} {t : List C
         moves-next w request copy (step .answer) buffer refl refl (unwritten w request copy (step .answer) buffer (ap (λ (z : ℕ). take z buffer) (heartbeat-ack-silent c (f .number))))
         (step .channel) (still-moves c (step .channel) m l y (heartbeat-ack-receives c m l y (w .now .means) (f .number)))
 
+    flow-ack : Made (works (flowAckStep c (f .number)) m l buffer)
+    flow-ack =
+        let step = flowAckStep c (f .number) in
+        moves-next w request copy (step .answer) buffer refl refl (unwritten w request copy (step .answer) buffer (ap (λ (z : ℕ). take z buffer) (flow-ack-silent c (f .number))))
+        (step .channel) (still-moves c (step .channel) m l y (flow-ack-receives c m l y (w .now .means) (f .number)))
+
     as-kind : unfit c f count ≡ false → (kind : packets.Kind) → kindOf (f .kind) ≡ kind → replyLength c kind count ≤ length buffer
         → Made (arriveAs kind (s .node) f p c rank m l buffer)
     as-kind fit packet-kind.Data is room =
         let q = fair (binds-so s packet packet-kind.Data is refl for-us) in
         data-next w channel packet buffer copy toward for-us is (q .0) (q .1 is) room (told .flags) (short-payload fit is)
     as-kind fit packet-kind.DataAck is room = absurd (not-sending w (eqb-true _ _ (kind-finds (c .addresses) f count (prefixRead packet) packet-kind.DataAck (told .ours) is)))
-    as-kind fit packet-kind.Open is room = control room true
-    as-kind fit packet-kind.Close is room = control room false
+    as-kind fit packet-kind.Open is room =
+        replied acked.Open room refl (λ e. omega (arith, e)) (controlStep c true (f .number)) (control-long c true (f .number)) (control-moves true)
+    as-kind fit packet-kind.Close is room =
+        replied acked.Close room refl (λ e. omega (arith, e)) (controlStep c false (f .number)) (control-long c false (f .number)) (control-moves false)
     as-kind fit packet-kind.Heartbeat is room =
-        replied room acked.Heartbeat refl (λ e. omega (arith, e)) (heartbeatStep c) (heartbeat-long c)
+        replied acked.Heartbeat room refl (λ e. omega (arith, e)) (heartbeatStep c) (heartbeat-long c)
         (still-moves c (heartbeatStep c .channel) m l y (heartbeat-receives c m l y (w .now .means)))
     as-kind fit packet-kind.HeartbeatAck is room = beat-ack
     as-kind fit packet-kind.FlowControl is room =
-        arrives-quiet (Refused refusal.Strange) buffer (unwritten w request copy (Refused refusal.Strange) buffer refl)
+        subst Made (sym (chosen (eqb (c .addresses .direction) receives) _ _ (eq-eqb _ _ (receiving w)))) flow-ack
     as-kind fit packet-kind.ControlAck is room = absurd (not-sending w (eqb-true _ _ (kind-finds (c .addresses) f count (prefixRead packet) packet-kind.ControlAck (told .ours) is)))
     as-kind fit (packet-kind.Lacking code) is room =
         arrives-quiet (Refused refusal.Lacking) buffer (unwritten w request copy (Refused refusal.Lacking) buffer refl)

@@ -27,7 +27,7 @@ use Rattle.channel.specs.declared.answer.Refusal.the-variants as refusal
 use Rattle.channel.specs.declared.step.Stepped.{Stepped}
 use Rattle.channel.specs.Record as state
 use Rattle.channel.specs.Answers.{numberOf, lengthOf, refusalNumber}
-use Rattle.receiver.specs.Receiving.{ackLength}
+use Rattle.receiver.specs.Receiving.{ackLength, carrying}
 use Rattle.receiver_data.specs.Data.{dataStep, dataMem, dataLens}
 use Rattle.receiver_data.proofs.DataLaws.{data-state, state-mem, state-lens}
 use Rattle.table.specs.Serving.{recordAt, ownMem, ownLens}
@@ -133,7 +133,7 @@ module _ {h s : End} {past : List Event} {x : Sender} {y : Receiver} {t : List C
 
   -- what is known of the packet, and where its reply goes
   module _ (toward : Toward s (indexFor w request)) (named : names s packet ≡ true) (kind : kindOf (f .kind) ≡ Data) (handed : HandedOut h past copy packet) (late : NotLate (endWith s t mem lens lines n) copy)
-      (room : ackLength (c .addresses) ≤ length buffer) (few : f .flags < 4) (short : length p ≤ c .limits .payload) where
+      (room : ackLength c ≤ length buffer) (few : f .flags < 4) (short : length p ≤ c .limits .payload) where
     abbrev call : ReceiverCall
     call = ReceiverCall.arrival copy (f .number) (carried (f .flags) p)
 
@@ -148,7 +148,7 @@ module _ {h s : End} {past : List Event} {x : Sender} {y : Receiver} {t : List C
 
     -- the buffer afterwards
     abbrev outOf : Answer → List ℕ
-    outOf a = repliedBy a (s .node) (c .addresses) replied-to.Data (f .number) buffer
+    outOf a = repliedBy a (s .node) (c .addresses) replied-to.Data (f .number) (carrying replied-to.Data (c .limits) (dataStep c (f .number) (f .flags) .channel .window)) buffer
 
     -- ---- the Data Ack
 
@@ -171,7 +171,7 @@ module _ {h s : End} {past : List Event} {x : Sender} {y : Receiver} {t : List C
     ack-for-host q k =
         let d = addresses-are w in
         ap (λ (r : Read). namesBy r q (h .node) (channelOf h .addresses)) (k .read)
-        ∙ ack-names (s .node) (h .node) (c .addresses) (channelOf h .addresses) (f .number) 0 (prefixRead q)
+        ∙ ack-names (s .node) (h .node) (c .addresses) (channelOf h .addresses) (f .number) (k .count) (prefixRead q)
         (ap (λ (a : Addresses). a .remote) d ∙ w .alike .to-host) (sym (w .alike .protocol)) (w .alike .number ∙ sym (ap (λ (a : Addresses). a .channel) d))
         (w .alike .to-subscriber) (w .alike .sends) (from-us q k)
 
@@ -202,12 +202,12 @@ module _ {h s : End} {past : List Event} {x : Sender} {y : Receiver} {t : List C
     abbrev isReplied : ℕ → Bool
     isReplied k = eqb k 0 || eqb k 15
 
-    reply-by : (a : Answer) → AsLong (c .addresses) a → numberOf a ≡ said .number → Reply a
+    reply-by : (a : Answer) → AsLong (ackLength c) a → numberOf a ≡ said .number → Reply a
     reply-by (Done k u) e q =
-        acked (Done k u) (subst (λ (j : ℕ). Acks (s .node) (c .addresses) DataAck (f .number) (take j (outOf (Done k u)))) (sym e) (ack-written (s .node) (c .addresses) (f .number) fits replied-to.Data buffer room))
+        acked (Done k u) (subst (λ (j : ℕ). Acks (s .node) (c .addresses) DataAck (f .number) (take j (outOf (Done k u)))) (sym e) (ack-written (s .node) (c .addresses) (f .number) fits replied-to.Data (c .limits) (dataStep c (f .number) (f .flags) .channel .window) buffer room))
         (ap isReplied (sym q))
     reply-by (Repeated k) e q =
-        acked (Repeated k) (subst (λ (j : ℕ). Acks (s .node) (c .addresses) DataAck (f .number) (take j (outOf (Repeated k)))) (sym e) (ack-written (s .node) (c .addresses) (f .number) fits replied-to.Data buffer room))
+        acked (Repeated k) (subst (λ (j : ℕ). Acks (s .node) (c .addresses) DataAck (f .number) (take j (outOf (Repeated k)))) (sym e) (ack-written (s .node) (c .addresses) (f .number) fits replied-to.Data (c .limits) (dataStep c (f .number) (f .flags) .channel .window) buffer room))
         (ap isReplied (sym q))
     reply-by (Inactive why) e q = silent (Inactive why) refl (ap isReplied (sym q))
     reply-by (Refused why) e q = silent (Refused why) refl (ap isReplied (sym q) ∙ unreplied-number why)
@@ -219,7 +219,7 @@ module _ {h s : End} {past : List Event} {x : Sender} {y : Receiver} {t : List C
 
     -- once the Data Ack is written: the interval of the Heartbeat alone differs
     abbrev kept : Channel
-    kept = acknowledging made .channel
+    kept = acknowledging (f .number) made .channel
 
     data-open : rank (y .phase) ≡ 2 → Next w request copy (made .answer) (outOf (made .answer)) kept (dataMem c (f .number) p m) (dataLens c (f .number) p l)
     data-open now-open =
@@ -255,13 +255,13 @@ module _ {h s : End} {past : List Event} {x : Sender} {y : Receiver} {t : List C
 
     -- ---- in any state: out of OPEN it is refused
 
-    pub data-next : Left (Next w request copy) (works (acknowledging made) (dataMem c (f .number) p m) (dataLens c (f .number) p l) (outOf (made .answer)))
+    pub data-next : Left (Next w request copy) (works (acknowledging (f .number) made) (dataMem c (f .number) p m) (dataLens c (f .number) p l) (outOf (made .answer)))
     data-next = by (eqb (c .phase .state) state.opened) refl
       where
-        by : (b : Bool) → eqb (c .phase .state) state.opened ≡ b → Left (Next w request copy) (works (acknowledging made) (dataMem c (f .number) p m) (dataLens c (f .number) p l) (outOf (made .answer)))
+        by : (b : Bool) → eqb (c .phase .state) state.opened ≡ b → Left (Next w request copy) (works (acknowledging (f .number) made) (dataMem c (f .number) p m) (dataLens c (f .number) p l) (outOf (made .answer)))
         by true e = data-open (opened-rank (y .phase) (sym (w .now .means .state) ∙ eqb-true (c .phase .state) state.opened e))
         by false e =
             let other = eqb-false (c .phase .state) state.opened e in
-            subst₃ (λ (k : Stepped) (a b : List ℕ). Left (Next w request copy) (works (acknowledging k) a b (outOf (k .answer))))
+            subst₃ (λ (k : Stepped) (a b : List ℕ). Left (Next w request copy) (works (acknowledging (f .number) k) a b (repliedBy (k .answer) (s .node) (c .addresses) replied-to.Data (f .number) (carrying replied-to.Data (c .limits) (k .channel .window)) buffer)))
             (sym (data-state c (f .number) other (f .flags))) (sym (state-mem c (f .number) other p m)) (sym (state-lens c (f .number) other p l))
             (quiet w request copy (Refused refusal.State) buffer refl refl (unwritten w request copy (Refused refusal.State) buffer refl))

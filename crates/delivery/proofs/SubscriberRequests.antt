@@ -128,7 +128,7 @@ module _ {h s : End} {past : List Event} {x : Sender} {y : Receiver} {t : List C
       (seeking (Index channel)) reclaimFor buffer (shapes (seeking (Index channel)) reclaimFor buffer (reclaim-keeps (seeking (Index channel)) buffer)) refusal.State
       (λ g. reclaim-refused c (rankIn (choice (seeking (Index channel)) lines t .grade)) m l buffer (not-sending w))
 
-  -- a receiver hands out its Heartbeat alone, which is nothing to the protocol
+  -- a receiver hands out its Heartbeat and Flow Control alone, which are nothing to the protocol
   pub subscriber-hands : Shown hands
   subscriber-hands =
       own-cases (seeking Ready) (nextFor (s .node)) t mem lens lines buffer (shapes (seeking Ready) (nextFor (s .node)) buffer (next-keeps (s .node) buffer)) i (below w)

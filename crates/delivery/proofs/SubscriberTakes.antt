@@ -24,7 +24,8 @@ use Rattle.channel.specs.Record.{receives}
 use Rattle.channel.specs.Standing.{oldestOf}
 use Rattle.channel.specs.Steps.{refusing, doing}
 use Rattle.channel.specs.Answers.{numberOf}
-use Rattle.receiver_data.specs.Taking.{completeIn, unitAt, sizeAt, dropped, takeStep, takeOut}
+use Rattle.receiver_data.specs.Taking as spec
+use Rattle.receiver_data.specs.Taking.{completeIn, unitAt, sizeAt, takeStep, takeOut}
 use Rattle.receiver_data.proofs.TakeLaws.{take-nothing, take-small, take-done, out-nothing, out-small, out-done}
 use Rattle.table.specs.Waiting.{rankIn}
 use Rattle.table.specs.declared.looking.Sought.the-variants.{Index}
@@ -86,13 +87,13 @@ module _ {h s : End} {past : List Event} {x : Sender} {y : Receiver} {t : List C
   abbrev unit : List ℕ
   unit = octetsIn (slotOf c) (c .limits .payload) m l (c .limits .slots) (unitAt c) (oldestOf (c .limits .slots) (c .window))
 
-  takes-done : channel ≡ i → takeStep c l (length buffer) ≡ doing (dropped c (unitAt c)) (sizeAt c l) → sizeAt c l ≤ length buffer
-      → Next w request copy (Done (sizeAt c l) 0) (laid buffer 0 unit) (dropped c (unitAt c)) m l
+  takes-done : channel ≡ i → takeStep c l (length buffer) ≡ doing (spec.taken c (unitAt c)) (sizeAt c l) → sizeAt c l ≤ length buffer
+      → Next w request copy (Done (sizeAt c l) 0) (laid buffer 0 unit) (spec.taken c (unitAt c)) m l
   takes-done own e room =
       subscriber-next h s past x y (w .inv) (w .numbered) (small w) request copy n (indexFor w request) said (laid buffer 0 unit) ReceiverCall.takeUnit tt grows
       (no-reply h s past x y (w .inv) (w .numbered) (small w) request copy n (indexFor w request) said (laid buffer 0 unit) ReceiverCall.takeUnit (λ packet q. absurd (true≢false (sym q))) (λ j b. b))
-      c (dropped c (unitAt c)) m l related
-      (counted-next w z (dropped c (unitAt c)) m l related (λ q. omega (arith, q, phase-same)) (λ q. omega (arith, q, phase-same))
+      c (spec.taken c (unitAt c)) m l related
+      (counted-next w z (spec.taken c (unitAt c)) m l related (λ q. omega (arith, q, phase-same)) (λ q. omega (arith, q, phase-same))
       (omega (arith, start-same)) (omega (arith, start-same)) (λ q other. sym start-same))
       (λ q. same (waiting y) .0 ∙ w .now .waits q)
     where
@@ -111,7 +112,7 @@ module _ {h s : End} {past : List Event} {x : Sender} {y : Receiver} {t : List C
       took : (Receives (takeStep c l (length buffer) .channel) m l z) × (given .number ≡ 0) × (given .unit ≡ unit) × (sizeAt c l ≡ length (given .unit))
       took = take-receives c m l y (asked w) (receiving w) (w .now .means) (length buffer) (ap (λ (k : Stepped). numberOf (k .answer)) e)
 
-      related : Receives (dropped c (unitAt c)) m l z
+      related : Receives (spec.taken c (unitAt c)) m l z
       related = subst (λ (k : Stepped). Receives (k .channel) m l z) e (took .0)
 
       size : sizeAt c l ≡ length unit
@@ -154,7 +155,7 @@ module _ {h s : End} {past : List Event} {x : Sender} {y : Receiver} {t : List C
           (takes-refused (refusal.Small (sizeAt c l)) buffer)
       by false e false z =
           let done = take-done c l (length buffer) (eqb-false _ _ e) (ltb-false _ _ z) in
-          made (doing (dropped c (unitAt c)) (sizeAt c l)) (laid buffer 0 unit) done (out-done c l m buffer (eqb-false _ _ e) (ltb-false _ _ z))
+          made (doing (spec.taken c (unitAt c)) (sizeAt c l)) (laid buffer 0 unit) done (out-done c l m buffer (eqb-false _ _ e) (ltb-false _ _ z))
           (takes-done own done (ltb-false _ _ z))
 
   pub subscriber-takes : Seen (Next w request copy) i (calledBy takes (endWith s t mem lens lines n) request)

@@ -4,3 +4,4 @@ pub mod Script
 pub mod Parts
 pub mod Sample
 pub mod Unanswered
+pub mod Flowing

@@ -8,7 +8,8 @@ use Rattle.channel.specs.declared.record.Settings.{Settings}
 use Rattle.channel.specs.declared.record.Channel.{Channel}
 use Rattle.channel.specs.declared.record.Timers.{Timers}
 use Rattle.channel.specs.Prefixes.{noPrefix}
-use Rattle.channel.specs.Record.{opened, madeOf, noLone, noMarks, noTimers}
+use Rattle.channel.specs.Record.{opened, madeOf, noLone, noFlow, noMarks, noTimers}
+use Rattle.channel.specs.Flow.{lastIs}
 use Rattle.delivery.specs.Calls.{End, Kind, opens, transfers, asks, takes, reclaims, hands, arrives, ticks}
 use Rattle.delivery.specs.History.{host, subscriber, Event}
 use Rattle.delivery.specs.Delivery.{Run, begin}
@@ -17,7 +18,7 @@ use Rattle.delivery_sample.proofs.Deciding.{Move, does, brings, spoils}
 -- ---- two nodes with one channel: window 2, 5 slots, at most 2 octets in a segment and 2 segments in a unit; both make Heartbeats
 
 abbrev pub limits : Limits
-limits = record { window = 2; slots = 5; payload = 2; segments = 2; timeout = 3; closing = 3; retries = 1; interval = 7 }
+limits = record { window = 2; slots = 5; payload = 2; segments = 2; timeout = 3; closing = 3; retries = 1; interval = 7; flow = 0 }
 
 abbrev pub sending : Settings
 sending = record { addresses = record { channel = 7; remote = 65; direction = 0; prefix = noPrefix; own = noPrefix }; limits = limits }
@@ -149,7 +150,8 @@ silent i =
 abbrev pub ending : List Move
 ending = turned 255 ++ lost 257 ++ silent 258
 
--- ---- how the nodes stand once i units have gone through, i a multiple of 5: nothing is held, and the slots have the last five octets
+-- ---- how the nodes stand once i units have gone through, i a multiple of 5: nothing is held, and the slots have the last five octets. The last packet that
+-- the station sent is the Ack of the last of them; what the host sent besides Data is the Ack of the forged Heartbeat
 
 -- the first five of 128 are v
 abbrev pub fiveOf : ℕ → List ℕ
@@ -158,13 +160,13 @@ fiveOf v = replicate 5 v ++ replicate 123 0
 abbrev pub lastFive : ℕ → List ℕ
 lastFive i = (i - 5) ∷ 0 ∷ (i - 4) ∷ 0 ∷ (i - 3) ∷ 0 ∷ (i - 2) ∷ 0 ∷ (i - 1) ∷ 0 ∷ []
 
-abbrev pub standingAt : Settings → ℕ → ℕ → Timers → List ℕ → Channel
-standingAt s i accepted timers acked =
+abbrev pub standingAt : Settings → ℕ → ℕ → ℕ → Timers → List ℕ → Channel
+standingAt s i last accepted timers acked =
     record {
       addresses = s .addresses;
       limits = s .limits;
       phase = record { state = opened; reason = 0; kept = 0; accepted = accepted; control = noLone };
-      pulse = record { left = s .limits .interval; beat = noLone };
+      pulse = record { left = s .limits .interval; beat = noLone; flow = lastIs last noFlow };
       window = record { start = (i + 1) % 256; place = 0; behind = 0; ahead = 0; flight = 0; way = 0 };
       timers = timers;
       marks = noMarks;
@@ -175,7 +177,7 @@ abbrev pub hostAfter : ℕ → End
 hostAfter i =
     record {
       node = hostEnd .node;
-      table = standingAt sending i 0 (record { closing = 0; left = replicate 128 0; tries = fiveOf 1 }) (fiveOf 1) ∷ [];
+      table = standingAt sending i 9 0 (record { closing = 0; left = replicate 128 0; tries = fiveOf 1 }) (fiveOf 1) ∷ [];
       mem = lastFive i;
       lens = replicate 5 1;
       lines = replicate 51 0;
@@ -185,7 +187,7 @@ hostAfter i =
 
 abbrev pub stationAfter : ℕ → End
 stationAfter i =
-    record { node = stationEnd .node; table = standingAt receiving i 1 noTimers noMarks ∷ []; mem = lastFive i; lens = replicate 5 1; lines = replicate 51 0; index = 0; start = i }
+    record { node = stationEnd .node; table = standingAt receiving i i 1 noTimers noMarks ∷ []; mem = lastFive i; lens = replicate 5 1; lines = replicate 51 0; index = 0; start = i }
 
 abbrev pub from : Run
 from = begin hostEnd stationEnd

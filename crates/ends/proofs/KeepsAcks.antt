@@ -46,7 +46,7 @@ module _ (c : Channel) (lens : List ℕ) (h : Standing c lens) (s : c .addresses
       let same : backOf slots (placeAt c n) (w .behind + n) ≡ old =
       ap (λ (x : ℕ). backOf slots x (w .behind + n)) (sym (from-oldest slots w n (k .place) all)) ∙ forth-back slots old (w .behind + n) p all in
       stand (withMarks (withWindow c (onward w (placeAt c n) n (w .behind + n))) (c .marks)) lens (h .fit) (h .count)
-      (record { addresses = small .addresses; state = small .state; reason = small .reason; kept = small .kept; accepted = small .accepted; control = small .control; beat = small .beat })
+      (record { addresses = small .addresses; state = small .state; reason = small .reason; kept = small .kept; accepted = small .accepted; control = small .control; pulse = small .pulse })
       (record {
         place = round-lt slots (w .place + n) (omega (arith, k .place, k .held, k .flight));
         held = omega (arith, k .held, k .flight);
@@ -86,7 +86,7 @@ module _ (c : Channel) (lens : List ℕ) (h : Standing c lens) (s : c .addresses
       let new : backOf slots (placeAt c n) (n - done) ≡ next =
       ap (λ (x : ℕ). backOf slots x (n - done)) at ∙ forth-back slots next (n - done) (round-lt slots (old + gone) (omega arith)) (omega arith) in
       stand (withMarks (withWindow c (onward w (placeAt c n) n (n - done))) m) lens (h .fit) (h .count)
-      (record { addresses = small .addresses; state = small .state; reason = small .reason; kept = small .kept; accepted = small .accepted; control = small .control; beat = small .beat })
+      (record { addresses = small .addresses; state = small .state; reason = small .reason; kept = small .kept; accepted = small .accepted; control = small .control; pulse = small .pulse })
       (record {
         place = round-lt slots (w .place + n) (omega (arith, k .place, k .held, k .flight));
         held = omega (arith, k .held, k .flight);

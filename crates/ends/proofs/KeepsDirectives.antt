@@ -40,7 +40,7 @@ module _ (c : Channel) (lens : List ℕ) (h : Standing c lens) where
         fit = h .fit;
         count = h .count;
         named = is-named (withAcked (withTimers (withControl (withKept (withReason c reason) kept) control) timers) acked)
-            (record { addresses = n .addresses; state = n .state; reason = r; kept = k; accepted = n .accepted; control = l; beat = n .beat });
+            (record { addresses = n .addresses; state = n .state; reason = r; kept = k; accepted = n .accepted; control = l; pulse = n .pulse });
         ring = h .ring;
         flight = h .flight;
         sided = h .sided;
@@ -88,7 +88,7 @@ module _ (c : Channel) (lens : List ℕ) (h : Standing c lens) where
         let slots = c .limits .slots in
         let o = back-lt slots (c .window .place) (c .window .behind) (k .place) in
         stand (parked c state control) lens (h .fit) (h .count)
-        (record { addresses = n .addresses; state = small; reason = n .reason; kept = omega arith; accepted = n .accepted; control = lone; beat = omega arith })
+        (record { addresses = n .addresses; state = small; reason = n .reason; kept = omega arith; accepted = n .accepted; control = lone; pulse = record { beat = omega arith; flow = omega arith } })
         (record { place = o; held = omega (arith, k .held); flight = omega arith; window = omega arith; way = omega arith; unit = k .unit })
         (still-sided (c .addresses .direction) state (parkedWindow (c .limits) (c .window)) s z refl refl)
         (rests (c .addresses .direction) (withKept (withControl (withState c state) control) 0 .phase) (parkedWindow (c .limits) (c .window)) refl z asks)
@@ -103,7 +103,7 @@ module _ (c : Channel) (lens : List ℕ) (h : Standing c lens) where
         let k = counted-is (c .limits) (c .window) (h .ring) (h .flight) in
         let z = sided-way (c .addresses .direction) (c .phase .state) (c .window) s (h .sided) in
         stand (withControl (withState c opened) noLone) lens (h .fit) (h .count)
-        (record { addresses = n .addresses; state = omega arith; reason = n .reason; kept = n .kept; accepted = n .accepted; control = omega arith; beat = n .beat })
+        (record { addresses = n .addresses; state = omega arith; reason = n .reason; kept = n .kept; accepted = n .accepted; control = omega arith; pulse = n .pulse })
         k
         (open-sided (c .addresses .direction) opened (c .window) s z refl)
         (open-rests (c .addresses .direction) (withControl (withState c opened) noLone .phase) (c .window) refl)

@@ -1,4 +1,4 @@
--- A hand-out keeps the standing condition: of a Control packet or a Heartbeat, at either end, and of Data, which a sender alone has.
+-- A hand-out keeps the standing condition: of a Control packet, a Heartbeat or Flow Control, at either end, and of Data, which a sender alone has.
 -- Assumes nothing.
 use mathlib.Core.Path.{_≡_, refl, sym, _∙_}
 use mathlib.Core.Bool.{Bool, true, false}
@@ -13,10 +13,11 @@ use Rattle.channel.specs.declared.record.Lone.{Lone}
 use Rattle.channel.specs.declared.record.Channel.{Channel}
 use Rattle.channel.specs.declared.answer.Refusal.the-variants as refusal
 use Rattle.channel.specs.Record.{opened, loneNone, withControl, withTimers}
+use Rattle.channel.specs.Lone.{isReady}
 use Rattle.channel.specs.Standing.{Standing}
 use Rattle.channel.specs.Steps.{refusing, doing}
-use Rattle.channel.proofs.StandingLaws.{counted-is, named-is, open-rests}
-use Rattle.channel.proofs.PulseLaws.{sending-small}
+use Rattle.channel.proofs.StandingLaws.{Sane, counted-is, named-is, open-rests}
+use Rattle.channel.proofs.PulseLaws.{sending-sane}
 use Rattle.sender.proofs.AskedLaws.{ahead-sends}
 use Rattle.sender_packets.specs.Asked.{Ready}
 use Rattle.sender_packets.specs.HandingOut.{ready, oneMore, singleOut, againOut, newOut, nextOut, nextLength, handStep}
@@ -32,7 +33,10 @@ module _ (c : Channel) (lens : List ℕ) (h : Standing c lens) where
       let n = named-is c (h .named) in
       let in-open = eqb (c .phase .state) opened in
       let control = singleOut c .phase .control in
-      pulse-keeps (withControl c control) lens (singleOut c .pulse) (either (λ (l : Lone). l .state ≤ 3) in-open _ (c .pulse .beat) (omega arith) (n .beat))
+      let sane = n .pulse in
+      pulse-keeps (withControl c control) lens (singleOut c .pulse)
+      (either Sane in-open _ (c .pulse)
+      (either Sane (isReady (c .pulse .beat)) _ _ (record { beat = omega arith; flow = sane .flow }) (record { beat = sane .beat; flow = omega arith })) sane)
       (control-stands c lens h control (either (λ (l : Lone). l .state ≤ 3) in-open (c .phase .control) _ (n .control) (omega arith))
       (either (λ (l : Lone). (c .phase .control .state ≡ loneNone → ⊥) → l .state ≡ loneNone → ⊥) in-open (c .phase .control) _ (λ q. q) (λ q z. omega arith)))
 
@@ -43,7 +47,7 @@ module _ (c : Channel) (lens : List ℕ) (h : Standing c lens) where
       let n = named-is c (h .named) in
       let k = counted-is (c .limits) (c .window) (h .ring) (h .flight) in
       stand (newOut c) lens (h .fit) (h .count)
-      (record { addresses = n .addresses; state = n .state; reason = n .reason; kept = n .kept; accepted = n .accepted; control = n .control; beat = sending-small c (n .beat) })
+      (record { addresses = n .addresses; state = n .state; reason = n .reason; kept = n .kept; accepted = n .accepted; control = n .control; pulse = sending-sane c (n .pulse) })
       (record { place = k .place; held = k .held; flight = omega arith; window = omega arith; way = k .way; unit = k .unit })
       (open-sided (c .addresses .direction) (c .phase .state) (oneMore (c .window)) s (sided-way (c .addresses .direction) (c .phase .state) (c .window) s (h .sided)) o)
       (open-rests (c .addresses .direction) (c .phase) (oneMore (c .window)) o)

@@ -34,7 +34,7 @@ dropped-stands c lens h s shut n l =
     let old : backOf slots (w .place) (w .behind) ≡ w .place = ap (backOf slots (w .place)) (still .0) ∙ back-none slots (w .place) (k .place) in
     let new : backOf slots from (w .behind) ≡ from = ap (backOf slots from) (still .0) ∙ back-none slots from f in
     stand (dropped c n) lens (h .fit) (h .count)
-    (record { addresses = small .addresses; state = small .state; reason = small .reason; kept = small .kept; accepted = small .accepted; control = small .control; beat = small .beat })
+    (record { addresses = small .addresses; state = small .state; reason = small .reason; kept = small .kept; accepted = small .accepted; control = small .control; pulse = small .pulse })
     (record {
       place = f;
       held = omega (arith, k .held);

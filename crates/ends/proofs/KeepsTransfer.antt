@@ -105,7 +105,7 @@ module _ (c : Channel) (u lens : List ℕ) (h : Standing c lens) (s : c .address
       let on : (j : ℕ) → all + j < slots → roundOf slots (from + j) ≡ roundOf slots (old + (all + j)) = λ j l.
       ap (λ (x : ℕ). roundOf slots (x + j)) (sym free) ∙ round-add slots old all j (omega arith) in
       stand (filedUnit c (length u)) lengths (h .fit) (filed-lens-length (slotOf c) most slots u lens count 0 from ∙ h .count)
-      (record { addresses = n .addresses; state = n .state; reason = n .reason; kept = n .kept; accepted = n .accepted; control = n .control; beat = n .beat })
+      (record { addresses = n .addresses; state = n .state; reason = n .reason; kept = n .kept; accepted = n .accepted; control = n .control; pulse = n .pulse })
       (record { place = k .place; held = omega arith; flight = omega (arith, k .flight); window = k .window; way = k .way; unit = k .unit })
       (open-sided (c .addresses .direction) (c .phase .state) (longer w count) s z (t .0))
       (open-rests (c .addresses .direction) (c .phase) (longer w count) (t .0))

@@ -19,3 +19,4 @@ pub mod ReceiverRefusals
 pub mod Rings
 pub mod Starred
 pub mod Windows
+pub mod Stated

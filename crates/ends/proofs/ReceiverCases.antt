@@ -10,20 +10,23 @@ use lib.ListN.{length, set}
 use Rattle.laws.proofs.Choice.{either, by-test}
 use Rattle.slots.specs.Slots.{laid}
 use Rattle.channel.specs.Places.{slotOf}
+use Rattle.channel.specs.declared.record.Pulse.{Pulse}
 use Rattle.channel.specs.declared.record.Channel.{Channel}
 use Rattle.channel.specs.declared.step.Stepped.{Stepped}
 use Rattle.channel.specs.declared.step.Ticked.{Ticked}
 use Rattle.channel.specs.declared.answer.Refusal.the-variants as refusal
-use Rattle.channel.specs.Record.{closed, enabled, opened, closing, lateOpen, controlNumber, dataNumber, brokenFlags, unanswered, noLone, heldIn, withState, withPulse, withWindow, withTimers}
+use Rattle.channel.specs.Record.{closed, enabled, opened, closing, lateOpen, controlNumber, dataNumber, brokenFlags, retriesOut, unanswered, noLone, heldIn, withState, withPulse, withWindow, withTimers}
 use Rattle.channel.specs.Steps.{refusing, doing, repeating, failing, enabledOf}
+use Rattle.channel.specs.Lone.{fallen}
 use Rattle.channel.specs.Pulse.{startedPulse, beaten}
+use Rattle.channel.specs.Flow.{loweredFlow}
 use Rattle.receiver_data.specs.declared.sorting.Sort.{Sort}
 use Rattle.receiver_data.specs.declared.sorting.Sort.the-variants.{New, Held, Behind, Other}
 use Rattle.receiver_data.specs.Sorting.{placeAt}
 use Rattle.receiver_data.specs.Moving.{movedOf}
 use Rattle.receiver.specs.Receiving.{ackLength, leaving, shutFor, withClosing, openStep, openArrives, closeArrives, controlStep, tickStep}
 use Rattle.receiver_data.specs.Data.{marking, acceptStep, dataBy, awayOf, sortOf, dataStep, memBy, lensBy, dataMem, dataLens}
-use Rattle.receiver_data.specs.Taking.{completeIn, unitAt, sizeAt, dropped, takeStep}
+use Rattle.receiver_data.specs.Taking.{completeIn, unitAt, sizeAt, taken, takeStep}
 use Rattle.receiver_data.proofs.DataLaws.{new-full, full-mem, full-lens, new-accepted, new-mem, new-lens, data-state, state-mem, state-lens, data-by, mem-by, lens-by}
 
 -- ---- the Open directive, a Control packet, taking, and a tick
@@ -35,8 +38,8 @@ unfolding openStep
 open-cases c P state untaken done =
     either P (not (eqb (c .phase .state) closed)) _ _ state (either P (not (eqb (heldIn (c .window)) 0)) _ _ untaken done)
 
-module _ (c : Channel) (P : Stepped → Type 0) (refused : P (refusing c refusal.State)) (repeated : P (repeating c (ackLength (c .addresses)))) where
-  open-arrives-cases : P (doing (withPulse (withState c opened) (startedPulse (c .limits))) (ackLength (c .addresses)))
+module _ (c : Channel) (P : Stepped → Type 0) (refused : P (refusing c refusal.State)) (repeated : P (repeating c (ackLength c))) where
+  open-arrives-cases : P (doing (withPulse (withState c opened) (startedPulse (c .limits))) (ackLength c))
       → P (failing (shutFor c lateOpen) lateOpen)
       → P (openArrives c)
   unfolding openArrives
@@ -44,13 +47,13 @@ module _ (c : Channel) (P : Stepped → Type 0) (refused : P (refusing c refusal
       either P (eqb (c .phase .state) enabled) _ _ opens
       (either P (not (eqb (c .phase .state) opened)) _ _ refused (either P (eqb (c .phase .accepted) 0) _ _ repeated late))
 
-  close-arrives-cases : P (doing (leaving c closing (c .limits .closing)) (ackLength (c .addresses))) → P (closeArrives c)
+  close-arrives-cases : P (doing (leaving c closing (c .limits .closing)) (ackLength c)) → P (closeArrives c)
   unfolding closeArrives
   close-arrives-cases closes = either P (eqb (c .phase .state) opened) _ _ closes (either P (eqb (c .phase .state) closing) _ _ repeated refused)
 
   pub control-cases : (opens : Bool) (number : ℕ)
-      → P (doing (withPulse (withState c opened) (startedPulse (c .limits))) (ackLength (c .addresses)))
-      → P (doing (leaving c closing (c .limits .closing)) (ackLength (c .addresses)))
+      → P (doing (withPulse (withState c opened) (startedPulse (c .limits))) (ackLength c))
+      → P (doing (leaving c closing (c .limits .closing)) (ackLength c))
       → P (failing (shutFor c lateOpen) lateOpen)
       → P (failing (shutFor c controlNumber) controlNumber)
       → P (controlStep c opens number)
@@ -62,24 +65,32 @@ module _ (c : Channel) (P : Stepped → Type 0) (refused : P (refusing c refusal
 pub take-cases : (c : Channel) (lens : List ℕ) (n : ℕ) (P : Stepped → Type 0)
     → P (refusing c refusal.Nothing)
     → P (refusing c (refusal.Small (sizeAt c lens)))
-    → ((completeIn (c .window) ≡ 0 → ⊥) → P (doing (dropped c (unitAt c)) (sizeAt c lens)))
+    → ((completeIn (c .window) ≡ 0 → ⊥) → P (doing (taken c (unitAt c)) (sizeAt c lens)))
     → P (takeStep c lens n)
 unfolding takeStep
 take-cases c lens n P nothing small done =
     by-test P (eqb (completeIn (c .window)) 0) _ _ (λ e. nothing)
     (λ e. either P (ltb n (sizeAt c lens)) _ _ small (done (eqb-false _ _ e)))
 
+-- the pulse after a tick that closes nothing: Flow Control's timer, then the Heartbeat and the interval
+abbrev pub tickedPulse : Channel → Pulse
+tickedPulse c = beaten (c .limits) (loweredFlow (c .pulse) (fallen (c .pulse .flow .packet) .lone)) .pulse
+
 pub tick-cases : (c : Channel) (P : Channel → Type 0)
     → P c
     → P (withTimers c (withClosing (c .timers) (c .timers .closing - 1)))
     → (c .phase .state ≡ closing → P (withState (withTimers c (withClosing (c .timers) 0)) closed))
+    → (c .phase .state ≡ opened → P (shutFor c retriesOut))
     → (c .phase .state ≡ opened → P (shutFor c unanswered))
-    → (c .phase .state ≡ opened → P (withPulse c (beaten (c .limits) (c .pulse) .pulse)))
+    → (c .phase .state ≡ opened → P (withPulse c (tickedPulse c)))
     → P (tickStep c .channel)
-unfolding tickStep
-tick-cases c P idle falls ends unheard paces =
+unfolding tickStep leaving
+tick-cases c P idle falls ends spent unheard paces =
     by-test Ticks (eqb (c .phase .state) opened) _ _
-    (λ e. let o = eqb-true _ _ e in either Ticks (beaten (c .limits) (c .pulse) .spent) _ _ (unheard o) (paces o))
+    (λ e.
+    let o = eqb-true _ _ e in
+    let f = fallen (c .pulse .flow .packet) in
+    either Ticks (f .spent) _ _ (spent o) (either Ticks (beaten (c .limits) (loweredFlow (c .pulse) (f .lone)) .spent) _ _ (unheard o) (paces o)))
     (λ e.
     by-test Ticks (eqb (c .phase .state) closing) _ _ (λ q. either P (leb 2 (c .timers .closing)) _ _ falls (ends (eqb-true _ _ q))) (λ q. idle))
   where
@@ -90,7 +101,7 @@ tick-cases c P idle falls ends unheard paces =
 
 module _ (c : Channel) (number flags : ℕ) (p mem lens : List ℕ) (P : Stepped → List ℕ → List ℕ → Type 0)
     (refused : P (refusing c refusal.State) mem lens) (full : P (refusing c refusal.Full) mem lens)
-    (repeated : P (repeating c (ackLength (c .addresses))) mem lens) (failed : P (failing (shutFor c dataNumber) dataNumber) mem lens)
+    (repeated : P (repeating c (ackLength c)) mem lens) (failed : P (failing (shutFor c dataNumber) dataNumber) mem lens)
     (accepted : c .phase .state ≡ opened
     → c .window .behind + awayOf c number < c .limits .slots
     → P (acceptStep c (placeAt (c .limits) (c .window) (awayOf c number)) flags)
@@ -127,7 +138,7 @@ module _ (c : Channel) (number flags : ℕ) (p mem lens : List ℕ) (P : Stepped
 -- a segment accepted: at a break, or done
 pub accept-cases : (c : Channel) (place flags : ℕ) (P : Stepped → Type 0)
     → P (failing (shutFor (withWindow (marking c place flags) (movedOf (c .limits) (marking c place flags .marks) (c .window) .window)) brokenFlags) brokenFlags)
-    → P (doing (withWindow (marking c place flags) (movedOf (c .limits) (marking c place flags .marks) (c .window) .window)) (ackLength (c .addresses)))
+    → P (doing (withWindow (marking c place flags) (movedOf (c .limits) (marking c place flags .marks) (c .window) .window)) (ackLength c))
     → P (acceptStep c place flags)
 unfolding acceptStep
 accept-cases c place flags P broken done = either P (movedOf (c .limits) (marking c place flags .marks) (c .window) .broken) _ _ broken done

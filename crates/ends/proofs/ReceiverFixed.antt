@@ -6,7 +6,7 @@ use mathlib.Core.List.{List, []}
 use Prim.Native.Nat.{ℕ}
 use Rattle.channel.specs.declared.record.Channel.{Channel}
 use Rattle.channel.specs.declared.step.Stepped.{Stepped}
-use Rattle.channel.specs.Record.{receives, unanswered, withWindow}
+use Rattle.channel.specs.Record.{receives, retriesOut, unanswered, withWindow}
 use Rattle.channel.specs.Asked.{Asked}
 use Rattle.channel.proofs.FixedLaws.{SameSettings, asked-again}
 use Rattle.receiver.specs.Asked.{DataAsked}
@@ -50,7 +50,7 @@ pub take-fixed : (c : Channel) (lens : List ℕ) (n : ℕ) → SameSettings c (t
 take-fixed c lens n = take-cases c lens n (λ (s : Stepped). SameSettings c (s .channel)) (refl, refl) (refl, refl) (λ some. (refl, refl))
 
 pub tick-fixed : (c : Channel) → SameSettings c (tickStep c .channel)
-tick-fixed c = tick-cases c (SameSettings c) (refl, refl) (refl, refl) (λ e. (refl, refl)) (λ o. shut-fixed c unanswered) (λ o. (refl, refl))
+tick-fixed c = tick-cases c (SameSettings c) (refl, refl) (refl, refl) (λ e. (refl, refl)) (λ o. shut-fixed c retriesOut) (λ o. shut-fixed c unanswered) (λ o. (refl, refl))
 
 -- Data that arrives keeps what is asked, with the memory and the lengths that it leaves
 pub data-asked : (c : Channel) (number flags : ℕ) (p mem lens : List ℕ)

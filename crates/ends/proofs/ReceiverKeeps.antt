@@ -27,11 +27,11 @@ use Rattle.channel.specs.declared.record.Window.{Window}
 use Rattle.channel.specs.declared.record.Timers.{Timers}
 use Rattle.channel.specs.declared.record.Channel.{Channel}
 use Rattle.channel.specs.declared.step.Stepped.{Stepped}
-use Rattle.channel.specs.Record.{receives, enabled, opened, unanswered, freshPhase, noLone, withState, withWindow, withTimers}
+use Rattle.channel.specs.Record.{receives, enabled, opened, retriesOut, unanswered, freshPhase, noLone, withState, withWindow, withTimers}
 use Rattle.channel.specs.Pulse.{startedPulse}
 use Rattle.channel.specs.Standing.{rested, slotFit, Standing, oldestOf}
 use Rattle.channel.proofs.SettingsLaws.{fit-is}
-use Rattle.channel.proofs.StandingLaws.{asking-receives, open-rests, rests, rested-is, rested-on}
+use Rattle.channel.proofs.StandingLaws.{named-is, asking-receives, open-rests, rests, rested-is, rested-on}
 use Rattle.channel.proofs.MadeLaws.{free-fits, enabled-stands}
 use Rattle.receiver_data.specs.Sorting.{placeAt}
 use Rattle.receiver_data.specs.Moving.{fitting, wayAfter, passed, movedOf}
@@ -40,10 +40,12 @@ use Rattle.receiver_data.specs.Data.{marking, acceptStep, awayOf, placeOf, data
 use Rattle.receiver_data.specs.Taking.{completeIn, unitAt, dropped, takeStep}
 use Rattle.receiver_data.proofs.MoveLaws.{move-keeps, way-le}
 use Rattle.receiver_data.proofs.TakeLaws.{unit-behind}
-use Rattle.ends.proofs.KeepsPulse.{pulse-keeps, beaten-keeps}
+use Rattle.ends.proofs.KeepsPulse.{pulse-keeps}
+use Rattle.channel.proofs.PulseLaws.{fallen-small, beaten-sane}
+use Rattle.channel.proofs.FlowLaws.{telling-sane}
 use Rattle.ends.proofs.Rings.{back-back, back-next, back-on, back-then, set-some}
 use Rattle.ends.proofs.Receivers.{Kept, Marked, Fitting, Receives, receives-is, receives-stands}
-use Rattle.ends.proofs.ReceiverCases.{open-cases, control-cases, take-cases, tick-cases, data-cases, accept-cases}
+use Rattle.ends.proofs.ReceiverCases.{open-cases, control-cases, take-cases, tickedPulse, tick-cases, data-cases, accept-cases}
 
 -- ---- slots: one with few octets fits
 
@@ -100,7 +102,7 @@ leaving-receives c lens state ticks small r =
       fit = r .fit;
       count = r .count;
       direction = r .direction;
-      small = record { addresses = r .small .addresses; state = small; reason = r .small .reason; kept = r .small .kept; accepted = r .small .accepted; control = r .small .control; beat = omega arith };
+      small = record { addresses = r .small .addresses; state = small; reason = r .small .reason; kept = r .small .kept; accepted = r .small .accepted; control = r .small .control; pulse = record { beat = omega arith; flow = omega arith } };
       window = record { place = on; behind = omega arith; ahead = k .ahead; flight = k .flight; way = omega arith; unit = omega arith };
       rested = rests (c .addresses .direction) (leaving c state ticks .phase) (leaving c state ticks .window) refl refl (asking-receives (c .addresses .direction) (leaving c state ticks .phase) (r .direction));
       held = λ i less e.
@@ -122,7 +124,7 @@ shut-receives c lens why small r =
       fit = q .fit;
       count = q .count;
       direction = q .direction;
-      small = record { addresses = s .addresses; state = s .state; reason = small; kept = s .kept; accepted = s .accepted; control = s .control; beat = s .beat };
+      small = record { addresses = s .addresses; state = s .state; reason = small; kept = s .kept; accepted = s .accepted; control = s .control; pulse = s .pulse };
       window = q .window;
       rested = rested-on (leaving c 0 0 .addresses .direction) (leaving c 0 0 .phase) (shutFor c why .phase) refl (λ x. x) (leaving c 0 0 .window) (leaving c 0 0 .window) refl refl (q .rested);
       held = q .held;
@@ -137,7 +139,7 @@ state-receives c lens state small rest r =
       fit = r .fit;
       count = r .count;
       direction = r .direction;
-      small = record { addresses = s .addresses; state = small; reason = s .reason; kept = s .kept; accepted = s .accepted; control = s .control; beat = s .beat };
+      small = record { addresses = s .addresses; state = small; reason = s .reason; kept = s .kept; accepted = s .accepted; control = s .control; pulse = s .pulse };
       window = r .window;
       rested = rest;
       held = r .held;
@@ -200,7 +202,7 @@ marking-receives c lens place flags n on few short r =
       fit = r .fit;
       count = length-set lens (slotOf c place) n ∙ r .count;
       direction = r .direction;
-      small = record { addresses = s .addresses; state = s .state; reason = s .reason; kept = s .kept; accepted = omega arith; control = s .control; beat = s .beat };
+      small = record { addresses = s .addresses; state = s .state; reason = s .reason; kept = s .kept; accepted = omega arith; control = s .control; pulse = s .pulse };
       window = r .window;
       rested = rested-on (c .addresses .direction) (c .phase) (marking c place flags .phase) refl (λ x. x) (c .window) (c .window) refl refl (r .rested);
       held = λ i less. set-some (c .marks) place (roundOf (c .limits .slots) (backOf (c .limits .slots) (c .window .place) (c .window .behind) + i)) (flags + 1) (r .held i less) (λ z. omega arith);
@@ -215,7 +217,7 @@ moving-receives c lens o r =
       fit = r .fit;
       count = r .count;
       direction = r .direction;
-      small = record { addresses = r .small .addresses; state = r .small .state; reason = r .small .reason; kept = r .small .kept; accepted = r .small .accepted; control = r .small .control; beat = r .small .beat };
+      small = record { addresses = r .small .addresses; state = r .small .state; reason = r .small .reason; kept = r .small .kept; accepted = r .small .accepted; control = r .small .control; pulse = r .small .pulse };
       window = m .0;
       rested = open-rests (c .addresses .direction) (c .phase) (movedOf (c .limits) (c .marks) (c .window) .window) o;
       held = m .1;
@@ -235,7 +237,7 @@ dropped-receives c lens n some few r =
       fit = r .fit;
       count = r .count;
       direction = r .direction;
-      small = record { addresses = r .small .addresses; state = r .small .state; reason = r .small .reason; kept = r .small .kept; accepted = r .small .accepted; control = r .small .control; beat = r .small .beat };
+      small = record { addresses = r .small .addresses; state = r .small .state; reason = r .small .reason; kept = r .small .kept; accepted = r .small .accepted; control = r .small .control; pulse = r .small .pulse };
       window = record { place = k .place; behind = omega arith; ahead = k .ahead; flight = k .flight; way = omega arith; unit = k .unit };
       rested = rested-on (c .addresses .direction) (c .phase) (c .phase) refl (λ x. x) w (dropped c n .window) refl refl (r .rested);
       held = λ i less e.
@@ -256,7 +258,7 @@ timers-receives c lens t r =
       fit = r .fit;
       count = r .count;
       direction = r .direction;
-      small = record { addresses = s .addresses; state = s .state; reason = s .reason; kept = s .kept; accepted = s .accepted; control = s .control; beat = s .beat };
+      small = record { addresses = s .addresses; state = s .state; reason = s .reason; kept = s .kept; accepted = s .accepted; control = s .control; pulse = s .pulse };
       window = r .window;
       rested = r .rested;
       held = r .held;
@@ -335,8 +337,9 @@ module _ (c : Channel) (lens : List ℕ) (d : c .addresses .direction ≡ receiv
       take-cases c lens n (λ (s : Stepped). Standing (s .channel) lens) h h
       (λ some.
       let low : 1 ≤ completeIn (c .window) = pos-of-ne-zero some in
-      receives-stands (dropped c (unitAt c)) lens
-      (dropped-receives c lens (unitAt c) (unit-some (c .marks) (c .limits .slots) (completeIn (c .window)) (oldestOf (c .limits .slots) (c .window)) low) (unit-behind c) is))
+      pulse-keeps (dropped c (unitAt c)) lens _ (telling-sane (c .phase .state) (c .limits) (c .window) (dropped c (unitAt c) .window) (c .pulse) (named-is c (h .named) .pulse))
+      (receives-stands (dropped c (unitAt c)) lens
+      (dropped-receives c lens (unitAt c) (unit-some (c .marks) (c .limits .slots) (completeIn (c .window)) (oldestOf (c .limits .slots) (c .window)) low) (unit-behind c) is)))
 
   -- a tick
   pub tick-stands : Standing (tickStep c .channel) lens
@@ -350,5 +353,9 @@ module _ (c : Channel) (lens : List ℕ) (d : c .addresses .direction ≡ receiv
       (state-receives (withTimers c (withClosing (c .timers) 0)) lens 0 (omega arith)
       (rests (c .addresses .direction) (withState c 0 .phase) (c .window) (n .0) (n .1) (asking-receives (c .addresses .direction) (withState c 0 .phase) d))
       (timers-receives c lens (withClosing (c .timers) 0) is)))
+      (λ o. shut-stands retriesOut (omega arith))
       (λ o. shut-stands unanswered (omega arith))
-      (λ o. beaten-keeps c lens h (c .limits))
+      (λ o.
+      let n = named-is c (h .named) .pulse in
+      pulse-keeps c lens (tickedPulse c)
+      (beaten-sane (c .limits) _ (record { beat = n .beat; flow = fallen-small (c .pulse .flow .packet) (n .flow) })) h)

@@ -12,12 +12,13 @@ use Rattle.channel.specs.declared.record.Channel.{Channel}
 use Rattle.channel.specs.declared.step.Stepped.{Stepped}
 use Rattle.channel.specs.Answers.{numberOf}
 use Rattle.channel.specs.Pulse.{heartbeatStep, heartbeatAckStep}
+use Rattle.channel.specs.Flow.{flowStep, flowAckStep}
 use Rattle.receiver_data.specs.Sorting.{placeAt}
 use Rattle.receiver.specs.Receiving.{openStep, closeStep, controlStep}
 use Rattle.receiver_data.specs.Data.{awayOf, dataStep, dataMem, dataLens}
 use Rattle.receiver_data.specs.Taking.{completeIn, sizeAt, takeStep, takeOut}
 use Rattle.receiver_data.proofs.TakeLaws.{take-nothing, take-small, take-done, out-nothing, out-small}
-use Rattle.ends.proofs.PulseCases.{heartbeat-cases, heartbeat-ack-cases}
+use Rattle.ends.proofs.PulseCases.{heartbeat-cases, heartbeat-ack-cases, flow-cases, flow-ack-cases}
 use Rattle.ends.proofs.ReceiverCases.{open-cases, control-cases, data-cases, accept-cases}
 
 -- the answer says that something may have changed
@@ -60,6 +61,16 @@ pub heartbeat-ack-refusals-change-nothing : (c : Channel) (number : ℕ)
     → heartbeatAckStep c number .channel ≡ c
 heartbeat-ack-refusals-change-nothing c number =
     heartbeat-ack-cases c (λ (s : Stepped). (Changing s → ⊥) → s .channel ≡ c) (λ n. refl) number (λ n. refl) (λ e n. absurd (n (inl refl)))
+
+-- the Ack of Flow Control
+pub flow-ack-refusals-change-nothing : (c : Channel) (number : ℕ) → (Changing (flowAckStep c number) → ⊥) → flowAckStep c number .channel ≡ c
+flow-ack-refusals-change-nothing c number =
+    flow-ack-cases c (λ (s : Stepped). (Changing s → ⊥) → s .channel ≡ c) (λ n. refl) number (λ n. refl) (λ e n. absurd (n (inl refl)))
+
+-- Flow Control
+pub flow-refusals-change-nothing : (c : Channel) (number : ℕ) → (Changing (flowStep c number) → ⊥) → flowStep c number .channel ≡ c
+flow-refusals-change-nothing c number =
+    flow-cases c (λ (s : Stepped). (Changing s → ⊥) → s .channel ≡ c) (λ n. refl) number (λ e n. absurd (n (inl refl)))
 
 -- directives
 pub opening-refusals-change-nothing : (c : Channel) → (Changing (openStep c) → ⊥) → openStep c .channel ≡ c

@@ -37,6 +37,7 @@ fn settings_for(channel: u16, remote: u8, direction: u8) -> Settings
             closing: 4,
             retries: 2,
             interval: 0,
+            flow: 0,
         },
     }
 }

@@ -36,7 +36,8 @@ use Rattle.packet.specs.Layout.{least, prefixFrom}
 use Rattle.packet.specs.Reading.{readOf}
 use Rattle.sender_packets.proofs.HandLaws.{control-other}
 use Rattle.channel.specs.declared.step.Stepped.{Stepped}
-use Rattle.sender_packets.specs.HandingOut.{againAt, nextInWindow, readyControl, readyBeat, readySingle, readyAgain, readyNew, ready}
+use Rattle.channel.specs.Flow.{mayFollow}
+use Rattle.sender_packets.specs.HandingOut.{againAt, nextInWindow, readyControl, readyBeside, readyOpen, readySingle, readyAgain, readyNew, ready}
 use Rattle.table.specs.declared.looking.Look.{Look}
 use Rattle.table.specs.declared.looking.Sought.{Sought}
 use Rattle.table.specs.declared.looking.Sought.the-variants.{Index, Question, Packet, Ready, Nobody}
@@ -279,12 +280,12 @@ closed-waits c e =
     let is = eqb (c .addresses .direction) sends in
     let not : eqb (c .phase .state) opened ≡ false = ne-eqb (c .phase .state) opened (λ p. omega (arith, p, e)) in
     of-three (λ (q : ℕ). waits q c ≡ false)
-    (either IsFalse is (readySingle c) (readyBeat c)
-    (passed-by (eqb (c .phase .state) opened) (isReady (c .pulse .beat)) (readyControl c) not
+    (either IsFalse is (readySingle c) (readyOpen c)
+    (passed-by (eqb (c .phase .state) opened) (readyBeside c) (readyControl c) not
     ∙ control-other (c .phase .state) (isReady (c .phase .control)) (λ p. omega (arith, p, e)) (λ p. omega (arith, p, e)))
-    (first-not (eqb (c .phase .state) opened) (isReady (c .pulse .beat)) not))
+    (first-not (eqb (c .phase .state) opened) (readyBeside c) not))
     (either IsFalse is (readyAgain c) false (first-not (eqb (c .phase .state) opened) (ltb (againAt c) (c .window .flight)) not) refl)
-    (either IsFalse is (readyNew c) false (first-not (eqb (c .phase .state) opened) (nextInWindow (c .limits) (c .window)) not) refl)
+    (either IsFalse is (readyNew c) false (first-not (eqb (c .phase .state) opened) (nextInWindow (c .limits) (c .window) && mayFollow (c .limits) (c .window) (c .pulse .flow .recorded)) not) refl)
   where
     IsFalse : Bool → Type 0
     IsFalse b = b ≡ false

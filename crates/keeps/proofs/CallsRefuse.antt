@@ -10,6 +10,7 @@ use lib.Dec.{eqb, ltb}
 use lib.ListN.{length, set}
 use lib.Seq.{set-getD}
 use Rattle.laws.specs.Choice.{if_then_else_}
+use Rattle.laws.proofs.Choice.{either}
 use Rattle.slots.specs.Slots.{laid}
 use Rattle.packet.specs.declared.fields.Fields.{Fields}
 use Rattle.packet.specs.Layout.{fieldsAt, lengthAt}
@@ -34,6 +35,9 @@ use Rattle.sender_packets.specs.HandingOut.{nextOut, nextLength, handStep}
 use Rattle.sender_acks.specs.Acks.{controlAckStep, dataAckStep}
 use Rattle.ends.proofs.SenderRefusals as sent
 use Rattle.channel.specs.Pulse.{heartbeatStep, heartbeatAckStep}
+use Rattle.channel.specs.Flow.{flowStep, flowAckStep}
+use Rattle.sender_acks.specs.Stated.{dataAckStated, controlAckStated}
+use Rattle.ends.proofs.Stated.{data-unstated, control-unstated, data-stated-answer, control-stated-answer}
 use Rattle.receiver.specs.declared.acks.Acked.{Acked}
 use Rattle.receiver.specs.declared.acks.Acked.the-variants as acked
 use Rattle.receiver.specs.Receiving as receiver
@@ -55,7 +59,7 @@ use Rattle.arrivals.specs.Finding.{lookOf}
 use Rattle.arrivals.specs.Data.{replyLength, unfit, dataFor}
 use Rattle.arrivals.specs.Replying.{repliedBy, replies, acknowledging, replying}
 use Rattle.arrivals.proofs.ReplyLaws.{acks-none}
-use Rattle.arrivals.specs.Arriving.{arriveAs, arriveBy, arrivalFor}
+use Rattle.arrivals.specs.Arriving.{statedIn, arriveAs, arriveBy, arrivalFor}
 use Rattle.packet.specs.Layout.{payloadIn}
 use Rattle.table.proofs.Parts.{laid-own}
 use Rattle.ticks.specs.Ticks.{tickOf, anyInactive, firstInactive, ticked, relistedFrom}
@@ -202,16 +206,16 @@ module _ (c : Channel) (rank : ℕ) (mem lens out : List ℕ) where
 
 -- ---- an arrival
 
-replied-still : (r : Answer) (node : Node) (a : Addresses) (of : Acked) (number : ℕ) (out : List ℕ) → (MayChange r → ⊥)
-    → repliedBy r node a of number out ≡ out
-replied-still (Done n u) node a of number out quiet = absurd (quiet (inl refl))
-replied-still (Repeated n) node a of number out quiet = absurd (quiet (inr (inr refl)))
-replied-still (Inactive why) node a of number out quiet = refl
-replied-still (Refused why) node a of number out quiet = refl
+replied-still : (r : Answer) (node : Node) (a : Addresses) (of : Acked) (number : ℕ) (p out : List ℕ) → (MayChange r → ⊥)
+    → repliedBy r node a of number p out ≡ out
+replied-still (Done n u) node a of number p out quiet = absurd (quiet (inl refl))
+replied-still (Repeated n) node a of number p out quiet = absurd (quiet (inr (inr refl)))
+replied-still (Inactive why) node a of number p out quiet = refl
+replied-still (Refused why) node a of number p out quiet = refl
 
 -- nor does the channel then change
-acks-still : (s : Stepped) → (MayChange (s .answer) → ⊥) → acknowledging s ≡ s
-acks-still s quiet = acks-none s (go (s .answer) quiet)
+acks-still : (number : ℕ) (s : Stepped) → (MayChange (s .answer) → ⊥) → acknowledging number s ≡ s
+acks-still number s quiet = acks-none number s (go (s .answer) quiet)
   where
     go : (r : Answer) → (MayChange r → ⊥) → replies r ≡ false
     go (Done n u) quiet = absurd (quiet (inl refl))
@@ -219,25 +223,27 @@ acks-still s quiet = acks-none s (go (s .answer) quiet)
     go (Inactive why) quiet = refl
     go (Refused why) quiet = refl
 
-replied-silent : (r : Answer) (node : Node) (a : Addresses) (of : Acked) (number : ℕ) (out : List ℕ) → numberOf r ≡ 9
-    → repliedBy r node a of number out ≡ out
-replied-silent (Done n u) node a of number out e = absurd (omega (arith, e))
-replied-silent (Repeated n) node a of number out e = absurd (omega (arith, e))
-replied-silent (Inactive why) node a of number out e = refl
-replied-silent (Refused why) node a of number out e = refl
+replied-silent : (r : Answer) (node : Node) (a : Addresses) (of : Acked) (number : ℕ) (p out : List ℕ) → numberOf r ≡ 9
+    → repliedBy r node a of number p out ≡ out
+replied-silent (Done n u) node a of number p out e = absurd (omega (arith, e))
+replied-silent (Repeated n) node a of number p out e = absurd (omega (arith, e))
+replied-silent (Inactive why) node a of number p out e = refl
+replied-silent (Refused why) node a of number p out e = refl
 
 -- what holds for each type of packet holds of the arrival
 module _ (node : Node) (f : Fields) (x : ℕ) (p : List ℕ) (c : Channel) (rank : ℕ) (mem lens out : List ℕ) (P : Worked Stepped → Type 0) where
   pub arrive-cases : ((why : Refusal) → P (works (refusing c why) mem lens out))
       → P (dataFor node f p c rank mem lens out)
-      → P (works (dataAckStep c (f .number)) mem lens out)
-      → P (works (controlAckStep c (f .number)) mem lens out)
-      → ((opens : Bool) → P (replying node c acked.Control (f .number) (receiver.controlStep c opens (f .number)) mem lens out))
+      → P (works (dataAckStated c (f .number) (statedIn p)) mem lens out)
+      → P (works (controlAckStated c (f .number) (statedIn p)) mem lens out)
+      → ((of : Acked) (opens : Bool) → P (replying node c of (f .number) (receiver.controlStep c opens (f .number)) mem lens out))
       → P (replying node c acked.Heartbeat (f .number) (heartbeatStep c) mem lens out)
       → P (works (heartbeatAckStep c (f .number)) mem lens out)
+      → P (replying node c acked.Flow (f .number) (flowStep c (statedIn p)) mem lens out)
+      → P (works (flowAckStep c (f .number)) mem lens out)
       → P (arriveBy node f x p c rank mem lens out)
   unfolding arriveBy
-  arrive-cases refuses filed data-ack control-ack control beat beat-ack = go (ltb (length out) (replyLength c (kindOf (f .kind)) x)) (unfit c f x) (kindOf (f .kind))
+  arrive-cases refuses filed data-ack control-ack control beat beat-ack flow flow-ack = go (ltb (length out) (replyLength c (kindOf (f .kind)) x)) (unfit c f x) (kindOf (f .kind))
     where
       go : (small over : Bool) (k : Kind)
           → P
@@ -248,11 +254,11 @@ module _ (node : Node) (f : Fields) (x : ℕ) (p : List ℕ) (c : Channel) (rank
       go false true k = refuses refusal.Strange
       go false false Data = filed
       go false false DataAck = data-ack
-      go false false Open = control true
-      go false false Close = control false
+      go false false Open = control acked.Open true
+      go false false Close = control acked.Close false
       go false false Heartbeat = beat
       go false false HeartbeatAck = beat-ack
-      go false false FlowControl = refuses refusal.Strange
+      go false false FlowControl = either P (eqb (c .addresses .direction) receives) _ _ flow-ack flow
       go false false ControlAck = control-ack
       go false false (Lacking code) = refuses refusal.Lacking
 
@@ -260,7 +266,7 @@ module _ (node : Node) (packet : List ℕ) (c : Channel) (rank : ℕ) (mem lens 
   replies-still : (of : Acked) (s : Stepped) → ((MayChange (s .answer) → ⊥) → s .channel ≡ c)
       → Still c mem lens out (replying node c of (fieldsAt packet .number) s mem lens out)
   replies-still of s same quiet =
-      (ap (λ (r : Stepped). r .channel) (acks-still s quiet) ∙ same quiet, refl, refl, replied-still (s .answer) node (c .addresses) of (fieldsAt packet .number) out quiet)
+      (ap (λ (r : Stepped). r .channel) (acks-still (fieldsAt packet .number) s quiet) ∙ same quiet, refl, refl, replied-still (s .answer) node (c .addresses) of (fieldsAt packet .number) _ out quiet)
 
   arrival-still : Still c mem lens out (arrivalFor node packet c rank mem lens out)
   unfolding arrivalFor
@@ -272,12 +278,18 @@ module _ (node : Node) (packet : List ℕ) (c : Channel) (rank : ℕ) (mem lens 
       arrive-cases node f (lengthAt packet) p c rank mem lens out (Still c mem lens out)
       (λ why quiet. (refl, refl, refl, refl))
       (λ quiet. let u = received.refusals-change-nothing c n (f .flags) p mem lens quiet in
-      (ap (λ (r : Stepped). r .channel) (acks-still s quiet) ∙ u .0, u .1, u .2, replied-still (s .answer) node (c .addresses) acked.Data n out quiet))
-      (λ quiet. (sent.data-ack-unchanged c n (λ e. quiet (inl e)), refl, refl, refl))
-      (λ quiet. (sent.control-ack-unchanged c n (λ e. quiet (inl e)), refl, refl, refl))
-      (λ opens. replies-still acked.Control (receiver.controlStep c opens n) (received.control-refusals-change-nothing c opens n))
+      (ap (λ (r : Stepped). r .channel) (acks-still n s quiet) ∙ u .0, u .1, u .2, replied-still (s .answer) node (c .addresses) acked.Data n _ out quiet))
+      (λ quiet.
+      let not : numberOf (dataAckStep c n .answer) ≡ 0 → ⊥ = λ e. quiet (inl (ap numberOf (data-stated-answer c n (statedIn p)) ∙ e)) in
+      (ap (λ (r : Stepped). r .channel) (data-unstated c n (statedIn p) not) ∙ sent.data-ack-unchanged c n not, refl, refl, refl))
+      (λ quiet.
+      let not : numberOf (controlAckStep c n .answer) ≡ 0 → ⊥ = λ e. quiet (inl (ap numberOf (control-stated-answer c n (statedIn p)) ∙ e)) in
+      (ap (λ (r : Stepped). r .channel) (control-unstated c n (statedIn p) not) ∙ sent.control-ack-unchanged c n not, refl, refl, refl))
+      (λ of opens. replies-still of (receiver.controlStep c opens n) (received.control-refusals-change-nothing c opens n))
       (replies-still acked.Heartbeat (heartbeatStep c) (received.heartbeat-refusals-change-nothing c))
       (λ quiet. (received.heartbeat-ack-refusals-change-nothing c n quiet, refl, refl, refl))
+      (replies-still acked.Flow (flowStep c (statedIn p)) (received.flow-refusals-change-nothing c (statedIn p)))
+      (λ quiet. (received.flow-ack-refusals-change-nothing c n quiet, refl, refl, refl))
 
   arrival-silent : Silent out (arrivalFor node packet c rank mem lens out)
   unfolding arrivalFor
@@ -285,11 +297,13 @@ module _ (node : Node) (packet : List ℕ) (c : Channel) (rank : ℕ) (mem lens 
       let f = fieldsAt packet in
       let n = f .number in
       arrive-cases node f (lengthAt packet) (payloadIn packet) c rank mem lens out (Silent out) (λ why e. refl)
-      (λ e. replied-silent (dataStep c n (f .flags) .answer) node (c .addresses) acked.Data n out e)
+      (λ e. replied-silent (dataStep c n (f .flags) .answer) node (c .addresses) acked.Data n _ out e)
       (λ e. refl)
       (λ e. refl)
-      (λ opens e. replied-silent (receiver.controlStep c opens n .answer) node (c .addresses) acked.Control n out e)
-      (λ e. replied-silent (heartbeatStep c .answer) node (c .addresses) acked.Heartbeat n out e)
+      (λ of opens e. replied-silent (receiver.controlStep c opens n .answer) node (c .addresses) of n _ out e)
+      (λ e. replied-silent (heartbeatStep c .answer) node (c .addresses) acked.Heartbeat n _ out e)
+      (λ e. refl)
+      (λ e. replied-silent (flowStep c (statedIn (payloadIn packet)) .answer) node (c .addresses) acked.Flow n _ out e)
       (λ e. refl)
 
 -- ---- each call: every answer but 0, 9 and 15 changes nothing

@@ -38,7 +38,10 @@ use Rattle.receiver_data.specs.Sorting.{placeAt}
 use Rattle.receiver_data.specs.Data as received
 use Rattle.receiver_data.specs.Taking as taking
 use Rattle.channel.specs.Pulse.{heartbeatStep, heartbeatAckStep}
-use Rattle.ends.proofs.PulseCases.{heartbeat-cases, heartbeat-ack-cases}
+use Rattle.channel.specs.Flow.{flowStep, flowAckStep}
+use Rattle.sender_acks.specs.Stated.{dataAckStated, controlAckStated}
+use Rattle.ends.proofs.Stated.{data-stated, control-stated}
+use Rattle.ends.proofs.PulseCases.{heartbeat-cases, heartbeat-ack-cases, flow-cases, flow-ack-cases}
 use Rattle.ends.proofs.SenderCases as sent
 use Rattle.ends.proofs.ReceiverCases.{open-cases, control-cases, take-cases, tick-cases, data-cases, accept-cases}
 use Rattle.table.specs.declared.looking.Look.{Look}
@@ -53,7 +56,7 @@ use Rattle.requests.specs.Handing.{nextFor}
 use Rattle.channel.specs.declared.step.Ticked.{Ticked as OneTick}
 use Rattle.ticks.specs.Ticking.{tickedBy}
 use Rattle.arrivals.specs.Finding.{lookOf}
-use Rattle.arrivals.specs.Arriving.{arrivalFor}
+use Rattle.arrivals.specs.Arriving.{statedIn, arrivalFor}
 use Rattle.packet.specs.Layout.{payloadIn}
 use Rattle.ticks.specs.Ticks.{tickOf, tickAnswer, ticked, relistedFrom}
 use Rattle.node.specs.Calls.{openCall, closeCall, transferCall, takeCall, reclaimCall, nextPacketCall, arrivalCall}
@@ -133,6 +136,19 @@ module _ (c : Channel) (w : Full c) where
   heartbeat-ack-full : (number : ℕ) → Fills (heartbeatAckStep c number)
   heartbeat-ack-full number = heartbeat-ack-cases c Fills w number w (λ e. w)
 
+  flow-full : (number : ℕ) → Fills (flowStep c number)
+  flow-full number = flow-cases c Fills w number (λ e. w)
+
+  flow-ack-full : (number : ℕ) → Fills (flowAckStep c number)
+  flow-ack-full number = flow-ack-cases c Fills w number w (λ e. w)
+
+  -- what an Ack states
+  data-stated-full : (number stated : ℕ) → Fills (dataAckStated c number stated)
+  data-stated-full number stated = subst Fills (sym (data-stated c number stated)) (data-ack-full c w number)
+
+  control-stated-full : (number stated : ℕ) → Fills (controlAckStated c number stated)
+  control-stated-full number stated = subst Fills (sym (control-stated c number stated)) (control-ack-full c w number)
+
 -- ---- each step of a receiver
 
 leaving-full : (c : Channel) → Full c → (state ticks : ℕ) → Full (receiver.leaving c state ticks)
@@ -162,7 +178,7 @@ module _ (c : Channel) (w : Full c) where
   tick-full : Full (tickOf c)
   unfolding tickedBy
   tick-full =
-      either (λ (x : OneTick). Full (x .channel)) (eqb (c .addresses .direction) sends) _ _ (sender-tick-full c w) (tick-cases c Full w w (λ e. w) (λ e. leaving-full c w closedState 0) (λ e. w))
+      either (λ (x : OneTick). Full (x .channel)) (eqb (c .addresses .direction) sends) _ _ (sender-tick-full c w) (tick-cases c Full w w (λ e. w) (λ e. leaving-full c w closedState 0) (λ e. leaving-full c w closedState 0) (λ e. w))
 
 -- ---- each call
 
@@ -208,11 +224,13 @@ arrival-marking node packet out c rank mem lens w =
     let f = fieldsAt packet in
     let n = f .number in
     arrive-cases node f (lengthAt packet) (payloadIn packet) c rank mem lens out (λ (x : Worked Stepped). Fills (x .made)) (λ why. w) (data-full c w n (f .flags))
-    (data-ack-full c w n)
-    (control-ack-full c w n)
-    (λ opens. control-full c w opens n)
+    (data-stated-full c w n (statedIn (payloadIn packet)))
+    (control-stated-full c w n (statedIn (payloadIn packet)))
+    (λ of opens. control-full c w opens n)
     (heartbeat-full c w)
     (heartbeat-ack-full c w n)
+    (flow-full c w (statedIn (payloadIn packet)))
+    (flow-ack-full c w n)
 
 module _ (t : List Channel) (mem lens lines : List ℕ) (wide : Wide t) where
   pub arrival-wide : (node : Node) (packet reply : List ℕ) → Wide (arrivalCall t mem lens lines node packet reply .table)

@@ -1,7 +1,7 @@
 -- Out of OPEN an end has no Heartbeat, and no interval runs (document 02, A2): settings make it so, and every call keeps it.
 -- Assumes nothing.
 use mathlib.Core.Path.{_≡_, refl, sym, ap, _∙_}
-use mathlib.Core.Bool.{Bool, true, false}
+use mathlib.Core.Bool.{Bool, true, false, _&&_}
 use mathlib.Core.List.{List, [], _∷_}
 use Prim.Native.Nat.{ℕ, _<_}
 use native.Mathlib.Omega.{arith}
@@ -9,7 +9,7 @@ use borrow.Author.Tests.{ne-eqb}
 use lib.Dec.{eqb, ltb}
 use lib.ListN.{length}
 use Rattle.laws.specs.Choice.{if_then_else_}
-use Rattle.laws.proofs.Choice.{either, either-way, chosen, passed-by}
+use Rattle.laws.proofs.Choice.{either, either-way, chosen, passed-by, first-not}
 use Rattle.packet.specs.Layout.{fieldsAt, lengthAt, payloadIn}
 use Rattle.walks.specs.Serving.{Worked}
 use Rattle.channel.specs.declared.record.Node.{Node}
@@ -20,10 +20,12 @@ use Rattle.channel.specs.declared.record.Channel.{Channel}
 use Rattle.channel.specs.declared.step.Stepped.{Stepped}
 use Rattle.channel.specs.declared.step.Ticked.{Ticked}
 use Rattle.channel.specs.declared.answer.Refusal.the-variants as refusal
-use Rattle.channel.specs.Record.{sends, receives, opened, closed as closedState, closing, lateOpen, controlNumber, dataNumber, unanswered, noLone, noPulse, madeOf}
+use Rattle.channel.specs.Record.{sends, receives, opened, closed as closedState, closing, lateOpen, controlNumber, dataNumber, retriesOut, unanswered, noLone, noPulse, madeOf}
 use Rattle.channel.specs.Lone.{readyLone}
 use Rattle.channel.specs.Steps.{refusing}
-use Rattle.channel.specs.Pulse.{sentIn, afterSending, heartbeatStep, heartbeatAckStep}
+use Rattle.channel.specs.Pulse.{sentIn, heartbeatStep, heartbeatAckStep}
+use Rattle.channel.specs.Flow.{flows, repliedIn, flowStep, flowAckStep}
+use Rattle.sender_acks.specs.Stated.{isTaken, heeding, heedingFirst, dataAckStated, controlAckStated}
 use Rattle.sender.specs.Directives as sender
 use Rattle.sender.specs.Ticking.{dataFallen, tickStep as senderTick}
 use Rattle.sender_units.specs.Transfer.{isAccepted, transferStep}
@@ -34,7 +36,7 @@ use Rattle.receiver.specs.Receiving as receiver
 use Rattle.receiver_data.specs.Sorting.{placeAt}
 use Rattle.receiver_data.specs.Data as received
 use Rattle.receiver_data.specs.Taking as taking
-use Rattle.ends.proofs.PulseCases.{heartbeat-cases, heartbeat-ack-cases}
+use Rattle.ends.proofs.PulseCases.{heartbeat-cases, heartbeat-ack-cases, flow-cases, flow-ack-cases}
 use Rattle.ends.proofs.SenderCases as sent
 use Rattle.ends.proofs.ReceiverCases.{open-cases, control-cases, take-cases, tick-cases, data-cases, accept-cases}
 use Rattle.table.specs.declared.looking.Sought.the-variants.{Index, Question, Ready, Nobody}
@@ -44,7 +46,7 @@ use Rattle.requests.specs.Requests.{openedBy, closedBy, transferFor, askedBy, t
 use Rattle.requests.specs.Handing.{nextFor}
 use Rattle.arrivals.specs.Finding.{lookOf}
 use Rattle.arrivals.specs.Replying.{replies, acknowledging}
-use Rattle.arrivals.specs.Arriving.{arrivalFor}
+use Rattle.arrivals.specs.Arriving.{statedIn, arrivalFor}
 use Rattle.ticks.specs.Ticking.{tickedBy}
 use Rattle.ticks.specs.Ticks.{tickOf, ticked}
 use Rattle.node.specs.declared.request.Request.{Request}
@@ -63,12 +65,22 @@ made-rests s shut = refl
 
 -- ---- what starts the interval anew does so in OPEN alone
 
-sent-still : (c : Channel) → (c .phase .state ≡ opened → ⊥) → afterSending c .pulse ≡ c .pulse
-sent-still c shut = passed-by (eqb (c .phase .state) opened) _ _ (ne-eqb _ _ shut)
+replied-still : (number : ℕ) (c : Channel) → (c .phase .state ≡ opened → ⊥) → repliedIn (c .phase .state) (c .limits) number (c .pulse) ≡ c .pulse
+replied-still number c shut = passed-by (eqb (c .phase .state) opened) _ _ (ne-eqb _ _ shut)
 
-acks-rest : (s : Stepped) → RestsAfter s → RestsAfter (acknowledging s)
-acks-rest s w shut =
-    either (λ (p : Pulse). p ≡ noPulse) (replies (s .answer)) (afterSending (s .channel) .pulse) (s .channel .pulse) (sent-still (s .channel) shut ∙ w shut) (w shut)
+acks-rest : (number : ℕ) (s : Stepped) → RestsAfter s → RestsAfter (acknowledging number s)
+acks-rest number s w shut =
+    either (λ (p : Pulse). p ≡ noPulse) (replies (s .answer)) _ (s .channel .pulse) (replied-still number (s .channel) shut ∙ w shut) (w shut)
+
+-- ---- nor is a number recorded elsewhere
+
+second-not : (a b : Bool) → b ≡ false → (a && b) ≡ false
+second-not true b e = e
+second-not false b e = refl
+
+first-rests : (stated : ℕ) (s : Stepped) → RestsAfter s → RestsAfter (heedingFirst stated s)
+first-rests stated s w shut =
+    passed-by (isTaken (s .answer) && eqb (s .channel .phase .state) opened) _ _ (second-not (isTaken (s .answer)) _ (ne-eqb _ _ shut)) ∙ w shut
 
 -- ---- each step of a sender
 
@@ -100,7 +112,7 @@ module _ (c : Channel) (w : Rests c) where
 
   single-rests : Rests (singleOut c)
   single-rests shut =
-      ap (λ (l : Lone). record { left = c .pulse .left; beat = l }) (passed-by (eqb (c .phase .state) opened) _ (c .pulse .beat) (ne-eqb _ _ shut)) ∙ w shut
+      passed-by (eqb (c .phase .state) opened) _ (c .pulse) (ne-eqb _ _ shut) ∙ w shut
 
   again-rests : Rests (againOut c)
   again-rests shut = passed-by (eqb (c .phase .state) opened) _ (c .pulse) (ne-eqb _ _ shut) ∙ w shut
@@ -118,9 +130,13 @@ module _ (c : Channel) (w : Rests c) where
   control-ack-rests number =
       sent.control-ack-cases c RestsAfter number w w (λ e. parked-rests closedState noLone) (λ e shut. absurd (shut refl)) (λ e. parked-rests closing readyLone)
 
-  data-ack-rests : (number : ℕ) → RestsAfter (dataAckStep c number)
-  unfolding advanced
-  data-ack-rests number = sent.data-ack-cases c RestsAfter number w w (λ e. w)
+  control-stated-rests : (number stated : ℕ) → RestsAfter (controlAckStated c number stated)
+  unfolding controlAckStated
+  control-stated-rests number stated = first-rests stated (controlAckStep c number) (control-ack-rests number)
+
+  data-stated-rests : (number stated : ℕ) → RestsAfter (dataAckStated c number stated)
+  unfolding dataAckStated advanced
+  data-stated-rests number stated = sent.data-ack-cases c (λ (s : Stepped). RestsAfter (heeding c stated s)) number w w (λ e shut. absurd (shut e))
 
   sender-tick-rests : Rests (senderTick c .channel)
   sender-tick-rests =
@@ -133,6 +149,14 @@ module _ (c : Channel) (w : Rests c) where
 
   heartbeat-ack-rests : (number : ℕ) → RestsAfter (heartbeatAckStep c number)
   heartbeat-ack-rests number = heartbeat-ack-cases c RestsAfter w number w (λ e shut. absurd (shut e))
+
+  -- ---- Flow Control at a sender, its Ack at a receiver
+
+  flow-rests : (number : ℕ) → RestsAfter (flowStep c number)
+  flow-rests number = flow-cases c RestsAfter w number (λ e shut. absurd (shut e))
+
+  flow-ack-rests : (number : ℕ) → RestsAfter (flowAckStep c number)
+  flow-ack-rests number = flow-ack-cases c RestsAfter w number w (λ e shut. absurd (shut e))
 
 -- ---- each step of a receiver
 
@@ -159,11 +183,12 @@ module _ (c : Channel) (w : Rests c) where
       (λ o room. accepted-rests (placeAt (c .limits) (c .window) (received.awayOf c number)) flags)
 
   take-rests : (lens : List ℕ) (n : ℕ) → RestsAfter (taking.takeStep c lens n)
-  take-rests lens n = take-cases c lens n RestsAfter w w (λ some. w)
+  take-rests lens n =
+      take-cases c lens n RestsAfter w w (λ some shut. passed-by (eqb (c .phase .state) opened && flows (c .limits)) _ (c .pulse) (first-not _ (flows (c .limits)) (ne-eqb _ _ shut)) ∙ w shut)
 
   receiver-tick-rests : Rests (receiver.tickStep c .channel)
   receiver-tick-rests =
-      tick-cases c Rests w w (λ e shut. w (λ o. omega (arith, e, o))) (λ e. left-rests c unanswered) (λ e shut. absurd (shut e))
+      tick-cases c Rests w w (λ e shut. w (λ o. omega (arith, e, o))) (λ e. left-rests c retriesOut) (λ e. left-rests c unanswered) (λ e shut. absurd (shut e))
 
 tick-rests : (c : Channel) → Rests c → Rests (tickOf c)
 unfolding tickedBy
@@ -182,12 +207,14 @@ arrival-rests node packet out c rank mem lens w =
     let f = fieldsAt packet in
     let n = f .number in
     arrive-cases node f (lengthAt packet) (payloadIn packet) c rank mem lens out (λ (x : Worked Stepped). RestsAfter (x .made)) (λ why. w)
-    (acks-rest (received.dataStep c n (f .flags)) (data-rests c w n (f .flags)))
-    (data-ack-rests c w n)
-    (control-ack-rests c w n)
-    (λ opens. acks-rest (receiver.controlStep c opens n) (control-rests c w opens n))
-    (acks-rest (heartbeatStep c) (heartbeat-rests c w))
+    (acks-rest n (received.dataStep c n (f .flags)) (data-rests c w n (f .flags)))
+    (data-stated-rests c w n (statedIn (payloadIn packet)))
+    (control-stated-rests c w n (statedIn (payloadIn packet)))
+    (λ of opens. acks-rest n (receiver.controlStep c opens n) (control-rests c w opens n))
+    (acks-rest n (heartbeatStep c) (heartbeat-rests c w))
     (heartbeat-ack-rests c w n)
+    (acks-rest n (flowStep c (statedIn (payloadIn packet))) (flow-rests c w (statedIn (payloadIn packet))))
+    (flow-ack-rests c w n)
 
 module _ (t : List Channel) (mem lens lines : List ℕ) (rests : Resting t) where
   pub served-rests : (n : Request) (x out : List ℕ) → Resting (served t mem lens lines n x out .table)

@@ -26,11 +26,11 @@ use Rattle.channel.specs.Record.{sends, receives}
 use Rattle.channel.specs.Standing.{Standing}
 use Rattle.channel.specs.Steps.{refusing}
 use Rattle.channel.proofs.FixedLaws.{SameSettings}
-use Rattle.channel.proofs.StandingLaws.{named-is}
+use Rattle.channel.proofs.StandingLaws.{Sane, named-is}
 use Rattle.sender.specs.Directives as sender
 use Rattle.sender_units.specs.Reclaiming.{reclaimStep, reclaimOut}
 use Rattle.sender_packets.specs.HandingOut.{handStep, handOut}
-use Rattle.sender_acks.specs.Acks.{controlAckStep, dataAckStep}
+use Rattle.sender_acks.specs.Stated.{controlAckStated, dataAckStated}
 use Rattle.ends.proofs.KeepsDirectives.{open-stands, close-stands, control-ack-stands, tick-stands}
 use Rattle.ends.proofs.KeepsHandingOut.{hand-stands}
 use Rattle.ends.proofs.KeepsReclaiming.{reclaim-stands}
@@ -38,6 +38,7 @@ use Rattle.ends.proofs.KeepsAcks.{data-ack-stands}
 use Rattle.ends.proofs.KeepsTransfer.{transfer-stands, transfer-sized}
 use Rattle.ends.proofs.SenderFixed as sent
 use Rattle.receiver.specs.Receiving as receiver
+use Rattle.receiver.specs.Receiving.{carrying}
 use Rattle.receiver_data.specs.Data.{dataStep}
 use Rattle.receiver_data.specs.Taking.{takeStep, takeOut}
 use Rattle.ends.proofs.ReceiverKeeps as received
@@ -52,9 +53,11 @@ use Rattle.table.specs.Serving.{alone}
 use Rattle.channel.specs.declared.step.Ticked.{Ticked}
 use Rattle.channel.specs.declared.record.Pulse.{Pulse}
 use Rattle.channel.specs.Pulse.{heartbeatStep, heartbeatAckStep}
-use Rattle.channel.proofs.PulseLaws.{sending-small}
-use Rattle.ends.proofs.KeepsPulse.{pulse-keeps, heartbeat-keeps, heartbeat-ack-keeps}
-use Rattle.ends.proofs.PulseFixed.{heartbeat-fixed, heartbeat-ack-fixed}
+use Rattle.channel.specs.Flow.{flowStep, flowAckStep}
+use Rattle.channel.proofs.FlowLaws.{replied-sane}
+use Rattle.ends.proofs.KeepsPulse.{pulse-keeps, heartbeat-keeps, heartbeat-ack-keeps, flow-keeps, flow-ack-keeps}
+use Rattle.ends.proofs.PulseFixed.{heartbeat-fixed, heartbeat-ack-fixed, flow-fixed, flow-ack-fixed}
+use Rattle.ends.proofs.Stated.{data-stated-fixed, control-stated-fixed, data-stated-stands, control-stated-stands}
 use Rattle.receiver.specs.declared.acks.Acked.{Acked}
 use Rattle.receiver.specs.declared.acks.Acked.the-variants as acked
 use Rattle.requests.specs.Requests.{openedBy, closedBy, transferFor, takeFor, reclaimFor}
@@ -62,7 +65,7 @@ use Rattle.requests.specs.Handing.{nextFor}
 use Rattle.arrivals.specs.Finding.{lookOf, prefixRead}
 use Rattle.arrivals.specs.Data.{replyLength, unfit}
 use Rattle.arrivals.specs.Replying.{repliedBy, replies, acknowledging, replying}
-use Rattle.arrivals.specs.Arriving.{arriveAs, arriveBy, arrivalFor, Framed}
+use Rattle.arrivals.specs.Arriving.{statedIn, arriveAs, arriveBy, arrivalFor, Framed}
 use Rattle.table.proofs.OneLaws.{kind-finds}
 use Rattle.requests.proofs.HandLaws.{turn-waits, ready-is}
 use Rattle.ticks.proofs.TickLaws.{tick-sends, tick-receives}
@@ -95,11 +98,11 @@ module _ (c : Channel) (mem lens out : List ℕ) (sized : Sized (c .limits .slot
   refused-kept why h = quiet-kept (refusing c why) (refl, refl) h
 
 -- a step and the reply to it, at either end
-pub acks-stand : (s : Stepped) (lens : List ℕ) → Standing (s .channel) lens → Standing (acknowledging s .channel) lens
-acks-stand s lens h =
+pub acks-stand : (number : ℕ) (s : Stepped) (lens : List ℕ) → Standing (s .channel) lens → Standing (acknowledging number s .channel) lens
+acks-stand number s lens h =
     let c = s .channel in
-    let small = named-is c (h .named) .beat in
-    pulse-keeps c lens _ (either (λ (p : Pulse). p .beat .state ≤ 3) (replies (s .answer)) _ (c .pulse) (sending-small c small) small) h
+    let sane = named-is c (h .named) .pulse in
+    pulse-keeps c lens _ (either Sane (replies (s .answer)) _ (c .pulse) (replied-sane (c .phase .state) (c .limits) number (c .pulse) sane) sane) h
 
 -- ---- directives
 
@@ -212,12 +215,15 @@ arrival-keeps node packet out at rank c mem lens g = either-way (ltb (length out
     n : ℕ
     n = f .number
 
+    m : ℕ
+    m = statedIn p
+
     Wanted : Type 0
     Wanted = Kept c (arriveBy node f x p c rank mem lens out)
 
     replied : (of : Acked) (s : Stepped) → SameSettings c (s .channel) → Standing (s .channel) lens → Kept c (replying node c of n s mem lens out)
     replied of s same h =
-        quiet-kept c mem lens (repliedBy (s .answer) node (c .addresses) of n out) (g .sized) (acknowledging s) same (acks-stand s lens h)
+        quiet-kept c mem lens (repliedBy (s .answer) node (c .addresses) of n (carrying of (c .limits) (s .channel .window)) out) (g .sized) (acknowledging n s) same (acks-stand n s lens h)
 
     receiving : eqb (c .addresses .direction) receives ≡ true → c .addresses .direction ≡ receives
     receiving e = eqb-true _ _ e
@@ -225,10 +231,10 @@ arrival-keeps node packet out at rank c mem lens g = either-way (ltb (length out
     sending : eqb (c .addresses .direction) sends ≡ true → c .addresses .direction ≡ sends
     sending e = eqb-true _ _ e
 
-    control : c .addresses .direction ≡ receives → (opens : Bool)
-        → Kept c (replying node c acked.Control n (receiver.controlStep c opens n) mem lens out)
-    control dir opens =
-        replied acked.Control (receiver.controlStep c opens n) (fixed.control-fixed c opens n) (received.control-stands c lens dir (g .standing) opens n)
+    control : c .addresses .direction ≡ receives → (of : Acked) (opens : Bool)
+        → Kept c (replying node c of n (receiver.controlStep c opens n) mem lens out)
+    control dir of opens =
+        replied of (receiver.controlStep c opens n) (fixed.control-fixed c opens n) (received.control-stands c lens dir (g .standing) opens n)
 
     as-kind : unfit c f x ≡ false → (k : Kind) → kindOf (f .kind) ≡ k → looksFor k x (c .addresses .direction) ≡ true → Kept c (arriveAs k node f p c rank mem lens out)
     as-kind fit Data is dir =
@@ -236,19 +242,22 @@ arrival-keeps node packet out at rank c mem lens g = either-way (ltb (length out
         record {
           addresses = fixed.data-fixed c n (f .flags) .0;
           limits = fixed.data-fixed c n (f .flags) .1;
-          standing = acks-stand (dataStep c n (f .flags)) _ (received.data-stands c lens (receiving dir) (g .standing) n p mem short (f .flags) (told .flags));
+          standing = acks-stand n (dataStep c n (f .flags)) _ (received.data-stands c lens (receiving dir) (g .standing) n p mem short (f .flags) (told .flags));
           sized = received.data-sized c lens (receiving dir) (g .standing) n p mem short (g .sized);
         }
     as-kind fit DataAck is dir =
-        quiet-kept c mem lens out (g .sized) (dataAckStep c n) (sent.data-ack-fixed c n) (data-ack-stands c lens n (g .standing) (sending dir))
-    as-kind fit Open is dir = control (receiving dir) true
-    as-kind fit Close is dir = control (receiving dir) false
+        quiet-kept c mem lens out (g .sized) (dataAckStated c n m) (data-stated-fixed c n m (sent.data-ack-fixed c n)) (data-stated-stands c n m lens (data-ack-stands c lens n (g .standing) (sending dir)))
+    as-kind fit Open is dir = control (receiving dir) acked.Open true
+    as-kind fit Close is dir = control (receiving dir) acked.Close false
     as-kind fit Heartbeat is dir = replied acked.Heartbeat (heartbeatStep c) (heartbeat-fixed c) (heartbeat-keeps c lens (g .standing))
     as-kind fit HeartbeatAck is dir =
         quiet-kept c mem lens out (g .sized) (heartbeatAckStep c n) (heartbeat-ack-fixed c n) (heartbeat-ack-keeps c lens (g .standing) n)
-    as-kind fit FlowControl is dir = refused-kept c mem lens out (g .sized) refusal.Strange (g .standing)
+    as-kind fit FlowControl is dir =
+        either (Kept c) (eqb (c .addresses .direction) receives) _ _
+        (quiet-kept c mem lens out (g .sized) (flowAckStep c n) (flow-ack-fixed c n) (flow-ack-keeps c lens (g .standing) n))
+        (replied acked.Flow (flowStep c m) (flow-fixed c m) (flow-keeps c lens (g .standing) m))
     as-kind fit ControlAck is dir =
-        quiet-kept c mem lens out (g .sized) (controlAckStep c n) (sent.control-ack-fixed c n) (control-ack-stands c lens n (g .standing) (sending dir))
+        quiet-kept c mem lens out (g .sized) (controlAckStated c n m) (control-stated-fixed c n m (sent.control-ack-fixed c n)) (control-stated-stands c n m lens (control-ack-stands c lens n (g .standing) (sending dir)))
     as-kind fit (Lacking code) is dir = refused-kept c mem lens out (g .sized) refusal.Lacking (g .standing)
 
     small : ltb (length out) (replyLength c (kindOf (f .kind)) x) ≡ true → Wanted

@@ -1,5 +1,5 @@
--- An end's Heartbeat is nothing to the protocol: the meaning of a record does not look at its pulse. So all that moves the pulse alone leaves the protocol's
--- end as it is, at either end: the interval's new start, a Heartbeat that arrives, and the Ack of one.
+-- An end's Heartbeat and Flow Control are nothing to the protocol: the meaning of a record does not look at its pulse. So all that moves the pulse alone leaves
+-- the protocol's end as it is: the interval's new start, a Heartbeat that arrives and the Ack of one, Flow Control and the Ack of that.
 -- Assumes nothing.
 use mathlib.Core.List.{List}
 use Prim.Native.Nat.{ℕ}
@@ -8,9 +8,10 @@ use Rattle.channel.specs.declared.record.Pulse.{Pulse}
 use Rattle.channel.specs.declared.record.Channel.{Channel}
 use Rattle.channel.specs.declared.step.Stepped.{Stepped}
 use Rattle.channel.specs.Record.{noLone, withControl, withPulse}
-use Rattle.channel.specs.Pulse.{afterSending, heartbeatStep, heartbeatAckStep}
+use Rattle.channel.specs.Pulse.{afterSending, withBeat, heartbeatStep, heartbeatAckStep}
+use Rattle.channel.specs.Flow.{stated, withFlow, answeredBy, flowAckStep, recording, flowStep}
 use Rattle.sender_packets.specs.HandingOut.{singleOut, nextOut}
-use Rattle.ends.proofs.PulseCases.{heartbeat-cases, heartbeat-ack-cases}
+use Rattle.ends.proofs.PulseCases.{heartbeat-cases, heartbeat-ack-cases, flow-cases, flow-ack-cases}
 use Rattle.protocol.specs.Sending.{Sender}
 use Rattle.protocol.specs.Receiving.{Receiver}
 use Rattle.means.specs.Meaning.{lying}
@@ -44,7 +45,11 @@ module _ (c : Channel) (mem lens : List ℕ) (s : Sender) (r : Sends c mem lens 
   pub heartbeat-ack-sends : (number : ℕ) → Sends (heartbeatAckStep c number .channel) mem lens s
   heartbeat-ack-sends number =
       heartbeat-ack-cases c (λ (x : Stepped). Sends (x .channel) mem lens s) r number r
-      (λ e. pulse-sends c mem lens s (record { left = c .pulse .left; beat = noLone }) r)
+      (λ e. pulse-sends c mem lens s (withBeat (c .pulse) noLone) r)
+
+  pub flow-sends : (number : ℕ) → Sends (flowStep c number .channel) mem lens s
+  flow-sends number =
+      flow-cases c (λ (x : Stepped). Sends (x .channel) mem lens s) r number (λ e. pulse-sends c mem lens s (recording (c .limits) (c .window) number (c .pulse)) r)
 
 -- ---- a receiver
 
@@ -79,7 +84,7 @@ module _ (c : Channel) (mem lens : List ℕ) (r : Receiver) (t : Receives c mem 
   pub sending-receives : Receives (afterSending c) mem lens r
   sending-receives = pulse-receives c mem lens r (afterSending c .pulse) t
 
-  -- its Heartbeat is handed out
+  -- its Heartbeat or Flow Control is handed out
   pub single-out-receives : Receives (nextOut c 0) mem lens r
   unfolding nextOut
   single-out-receives = lone-receives c mem lens r (singleOut c .phase .control) (singleOut c .pulse) t
@@ -90,4 +95,9 @@ module _ (c : Channel) (mem lens : List ℕ) (r : Receiver) (t : Receives c mem 
   pub heartbeat-ack-receives : (number : ℕ) → Receives (heartbeatAckStep c number .channel) mem lens r
   heartbeat-ack-receives number =
       heartbeat-ack-cases c (λ (x : Stepped). Receives (x .channel) mem lens r) t number t
-      (λ e. pulse-receives c mem lens r (record { left = c .pulse .left; beat = noLone }) t)
+      (λ e. pulse-receives c mem lens r (withBeat (c .pulse) noLone) t)
+
+  pub flow-ack-receives : (number : ℕ) → Receives (flowAckStep c number .channel) mem lens r
+  flow-ack-receives number =
+      flow-ack-cases c (λ (x : Stepped). Receives (x .channel) mem lens r) t number t
+      (λ e. pulse-receives c mem lens r (withFlow (c .pulse) (answeredBy (stated (c .limits) (c .window)) (c .pulse .flow))) t)

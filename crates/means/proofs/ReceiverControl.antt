@@ -14,17 +14,20 @@ use Rattle.slots.specs.Ring.{roundOf}
 use Rattle.channel.specs.declared.record.Channel.{Channel}
 use Rattle.channel.specs.declared.record.Timers.{Timers}
 use Rattle.channel.specs.declared.record.Pulse.{Pulse}
+use Rattle.channel.specs.declared.lone.Fallen.{Fallen}
 use Rattle.channel.specs.declared.pulse.Beaten.{Beaten}
 use Rattle.channel.specs.declared.step.Stepped.{Stepped}
 use Rattle.channel.specs.declared.step.Ticked.{Ticked}
 use Rattle.channel.specs.Record as record-of
-use Rattle.channel.specs.Record.{receives, heldIn, noLone, withState, withPulse, withTimers, lateOpen, controlNumber, unanswered}
+use Rattle.channel.specs.Record.{receives, heldIn, noLone, withState, withPulse, withTimers, lateOpen, controlNumber, retriesOut, unanswered}
+use Rattle.channel.specs.Lone.{fallen}
 use Rattle.channel.specs.Pulse.{startedPulse, beaten}
+use Rattle.channel.specs.Flow.{loweredFlow}
 use Rattle.channel.specs.Steps.{enabledOf}
 use Rattle.channel.specs.Standing.{oldestOf}
 use Rattle.channel.specs.Answers.{numberOf}
 use Rattle.channel.specs.Asked.{Asked}
-use Rattle.receiver.specs.Receiving.{leaving, shutFor, withClosing, openStep, controlStep, closeTick, beatTick, tickStep}
+use Rattle.receiver.specs.Receiving.{leaving, shutFor, withClosing, openStep, controlStep, closeTick, beatTick, flowTick, tickStep}
 use Rattle.receiver.proofs.StepLaws as law
 use Rattle.ends.proofs.Receivers.{receives-is}
 use Rattle.protocol.specs.Numbers.{numberAt}
@@ -260,19 +263,30 @@ module _ (c : Channel) (mem lens : List ℕ) (r : Receiver) (asked : Asked c mem
         waits = λ z. z;
       }
 
-  -- in OPEN the Heartbeat: that it got no answer makes the channel inactive
+  -- in OPEN Flow Control and the Heartbeat: that either got no answer makes the channel inactive
   tick-opened : r .phase ≡ opened → To (tickStep c)
-  tick-opened e = subst To (sym (law.tick-open c (t .state ∙ ap stateOf e))) (by (b .spent) refl)
+  unfolding leaving
+  tick-opened e = subst To (sym (law.tick-open c (t .state ∙ ap stateOf e))) (flows (f .spent) refl)
     where
+      f : Fallen
+      f = fallen (c .pulse .flow .packet)
+
+      p : Pulse
+      p = loweredFlow (c .pulse) (f .lone)
+
       b : Beaten
-      b = beaten (c .limits) (c .pulse)
+      b = beaten (c .limits) p
 
       was : rank (r .phase) ≡ 2
       was = ap rank e
 
-      by : (u : Bool) → b .spent ≡ u → To (beatTick c b)
-      by true z = subst To (sym (law.beat-spent c b z)) (shuts unanswered (omega (arith, was)) (omega (arith, was)))
-      by false z = subst To (sym (law.beat-falls c b z)) (paces (b .pulse))
+      by : (u : Bool) → b .spent ≡ u → To (beatTick (withPulse c p) b)
+      by true z = subst To (sym (law.beat-spent (withPulse c p) b z)) (shuts unanswered (omega (arith, was)) (omega (arith, was)))
+      by false z = subst To (sym (law.beat-falls (withPulse c p) b z)) (paces (b .pulse))
+
+      flows : (u : Bool) → f .spent ≡ u → To (flowTick c f)
+      flows true z = subst To (sym (law.flow-spent c f z)) (shuts retriesOut (omega (arith, was)) (omega (arith, was)))
+      flows false z = subst To (sym (law.flow-falls c f z)) (by (b .spent) refl)
 
   -- elsewhere, but in CLOSING, nothing
   tick-still : (p : Phase) → r .phase ≡ p → (stateOf p ≡ record-of.opened → ⊥) → (stateOf p ≡ record-of.closing → ⊥) → To (tickStep c)

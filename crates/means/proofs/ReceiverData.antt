@@ -141,7 +141,7 @@ module _ (c : Channel) (mem lens : List ℕ) (r : Receiver) (asked : Asked c mem
       unfolding leaving
       settles true e =
           subst (λ (s : Stepped). Result s mem₁ lens₁ (receiver.movedAnswer true r f (x .0)))
-          (sym (accept-done c place flags k m refl refl (ackLength (c .addresses)) (ended .same ∙ ap not e) refl)) (
+          (sym (accept-done c place flags k m refl refl (ackLength c) (ended .same ∙ ap not e) refl)) (
             record {
               state = t .state;
               before = λ z. absurd (omega (arith, phase-is));

@@ -13,6 +13,7 @@ use Rattle.slots.specs.Ring.{roundOf}
 use Rattle.slots.proofs.RingLaws.{back-lt}
 use Rattle.channel.specs.declared.record.Lone.{Lone}
 use Rattle.channel.specs.declared.record.Timers.{Timers}
+use Rattle.channel.specs.declared.record.Pulse.{Pulse}
 use Rattle.channel.specs.declared.record.Channel.{Channel}
 use Rattle.channel.specs.declared.step.Stepped.{Stepped}
 use Rattle.channel.specs.Answers.{numberOf}
@@ -238,3 +239,7 @@ module _ (c : Channel) (mem lens : List ℕ) (s : Sender) (a : Asked c mem lens)
     where
       still : Opens c c mem lens s
       still = record { phase = s .phase; related = same-phase c mem lens s r }
+
+-- what an Ack states moves the pulse besides, which the meaning does not look at
+pub pulse-sender-moves : (c k : Channel) (mem lens : List ℕ) (s : Sender) (p : Pulse) → Moves c k mem lens s → Moves c (withPulse k p) mem lens s
+pulse-sender-moves c k mem lens s p m = record { phase = m .phase; related = pulse-sends k mem lens _ p (m .related); waits = m .waits }

@@ -22,6 +22,7 @@ use Rattle.channel.specs.Record.{receives}
 use Rattle.channel.specs.Standing.{oldestOf}
 use Rattle.channel.specs.Answers.{numberOf}
 use Rattle.channel.specs.Asked.{Asked}
+use Rattle.receiver_data.specs.Taking as spec
 use Rattle.receiver_data.specs.Taking.{completeIn, unitAt, sizeAt, dropped, takeStep}
 use Rattle.receiver_data.proofs.TakeLaws.{each-fits, take-nothing, take-small, take-done, unit-behind}
 use Rattle.ends.proofs.Rings.{back-on}
@@ -34,6 +35,7 @@ use Rattle.means.proofs.Runs.{Lies, First, run-first}
 use Rattle.means.proofs.Wholes.{whole-fits, whole-units, whole-first, whole-some}
 use Rattle.means.proofs.Lying.{lying-none, lying-same}
 use Rattle.means.proofs.Receives.{Within, Whole, After, Receives, lyingAt}
+use Rattle.means.proofs.Pulses.{pulse-receives}
 use Rattle.means.proofs.Leaving.{Turned, receives-whole}
 use Rattle.means.proofs.ReceiverControl.{turned}
 
@@ -234,4 +236,4 @@ module _ (c : Channel) (mem lens : List ℕ) (r : Receiver) (asked : Asked c mem
       by false e true z = absurd (omega (arith, answer-is _ (take-small c lens n (eqb-false _ _ e) (ltb-true _ _ z))))
       by false e false z =
           subst (λ (s : Stepped). Took (s .channel) (receiver.taking (waiting r) r)) (sym (take-done c lens n (eqb-false _ _ e) (ltb-false _ _ z)))
-          (took (eqb-false _ _ e) (waiting r) refl)
+          (let w = took (eqb-false _ _ e) (waiting r) refl in (pulse-receives (dropped c (unitAt c)) mem lens _ (spec.taken c (unitAt c) .pulse) (w .0), w .1, w .2, w .3))

@@ -1,38 +1,68 @@
--- A receive end, step by step (document 01, Receiving; 000, 4.5.2 and 4.5.3.4; its Heartbeat: document 02, A2).
+-- A receive end, step by step (document 01, Receiving; 000, 4.5.2 and 4.5.3.4; its Heartbeat: document 02, A2; Flow Control: A5).
 use Prim.Native.Nat.{ℕ, _-_}
 use mathlib.Core.Bool.{Bool, true, false, not}
-use mathlib.Core.List.{List}
+use mathlib.Core.List.{List, [], _∷_}
+use lib.ListN.{take}
 use lib.Dec.{leb, eqb}
 use Rattle.laws.specs.Choice.{if_then_else_}
 use Rattle.slots.specs.Ring.{backOf, cleared}
 use Rattle.packet.specs.declared.kinds.Kind.{Kind}
-use Rattle.packet.specs.declared.kinds.Kind.the-variants.{DataAck, ControlAck, HeartbeatAck}
-use Rattle.channel.specs.declared.record.Addresses.{Addresses}
+use Rattle.packet.specs.declared.kinds.Kind.the-variants.{DataAck, ControlAck, HeartbeatAck, FlowControl}
 use Rattle.channel.specs.declared.record.Limits.{Limits}
 use Rattle.channel.specs.declared.record.Window.{Window}
 use Rattle.channel.specs.declared.record.Timers.{Timers}
 use Rattle.channel.specs.declared.record.Channel.{Channel}
 use Rattle.channel.specs.declared.step.Stepped.{Stepped}
 use Rattle.channel.specs.declared.step.Ticked.{Ticked}
+use Rattle.channel.specs.declared.lone.Fallen.{Fallen}
 use Rattle.channel.specs.declared.pulse.Beaten.{Beaten}
 use Rattle.channel.specs.declared.answer.Refusal.the-variants as refusal
-use Rattle.channel.specs.Record.{closed, enabled, opened, closing, lateOpen, controlNumber, unanswered, noLone, noPulse, heldIn, withState, withReason, withPulse, withWindow, withTimers, withMarks}
+use Rattle.channel.specs.Record.{closed, enabled, opened, closing, lateOpen, controlNumber, retriesOut, unanswered, noLone, noPulse, heldIn, withState, withReason, withPulse, withWindow, withTimers, withMarks}
 use Rattle.channel.specs.Steps.{refusing, doing, repeating, failing, enabledOf, outgoingLength}
+use Rattle.channel.specs.Lone.{fallen}
 use Rattle.channel.specs.Pulse.{startedPulse, beaten}
+use Rattle.channel.specs.Flow.{flows, stated, loweredFlow}
 use Rattle.receiver.specs.declared.acks.Acked.{Acked}
 use Rattle.receiver.specs.declared.acks.Acked.the-variants as acked
 
--- the octets of an Ack to a channel's other end: it has no payload
-abbrev pub ackLength : Addresses → ℕ
-ackLength a = outgoingLength a 0
+-- ---- Acks
 
--- the kind of the Ack of a Data packet, a Control packet, or a Heartbeat
+-- the kind of the Ack of a Data packet, a Control packet, a Heartbeat, or Flow Control
 abbrev pub ackKind : Acked → Kind
 ackKind acked.Data = DataAck
-ackKind acked.Control = ControlAck
+ackKind acked.Open = ControlAck
+ackKind acked.Close = ControlAck
 ackKind acked.Heartbeat = HeartbeatAck
+ackKind acked.Flow = FlowControl
 
--- ---- leaving OPEN: complete units stay to be taken, unfinished ones and segments past the start are dropped (house), and so is the Heartbeat
+-- where Flow Control is used, an Ack of Data or Control carries one octet (000, 4.2.4.4)
+abbrev pub statedCount : Limits → ℕ
+statedCount l = if flows l then 1 else 0
+
+abbrev pub carries : Acked → Limits → ℕ
+carries acked.Data l = statedCount l
+carries acked.Open l = statedCount l
+carries acked.Close l = statedCount l
+carries acked.Heartbeat l = 0
+carries acked.Flow l = 0
+
+-- which: the number stated, by the window then; that of a Close, which means nothing, is the first one ('may carry the default value')
+abbrev pub statedBy : Acked → Limits → Window → ℕ
+statedBy acked.Data l w = stated l w
+statedBy acked.Open l w = stated l w
+statedBy acked.Close l w = l .window
+statedBy acked.Heartbeat l w = 0
+statedBy acked.Flow l w = 0
+
+abbrev pub carrying : Acked → Limits → Window → List ℕ
+carrying of l w = take (carries of l) (statedBy of l w ∷ [])
+
+-- the octets of the Ack of Data or Control to a channel's other end
+abbrev pub ackLength : Channel → ℕ
+ackLength c = outgoingLength (c .addresses) (statedCount (c .limits))
+
+-- ---- leaving OPEN: complete units stay to be taken, unfinished ones and segments past the start are dropped (house), and so are the Heartbeat and Flow
+-- Control
 
 abbrev pub leftWindow : Limits → Window → Window
 leftWindow l w =
@@ -79,16 +109,16 @@ closeStep c = refusing c refusal.State
 -- in ENABLED it leads to OPEN, where the interval of the Heartbeat starts; in OPEN it is acknowledged while no Data was accepted, and makes the channel inactive after that
 unfoldable pub openArrives : Channel → Stepped
 openArrives c =
-    if eqb (c .phase .state) enabled then doing (withPulse (withState c opened) (startedPulse (c .limits))) (ackLength (c .addresses))
+    if eqb (c .phase .state) enabled then doing (withPulse (withState c opened) (startedPulse (c .limits))) (ackLength c)
     else if not (eqb (c .phase .state) opened) then refusing c refusal.State
-    else if eqb (c .phase .accepted) 0 then repeating c (ackLength (c .addresses))
+    else if eqb (c .phase .accepted) 0 then repeating c (ackLength c)
     else failing (shutFor c lateOpen) lateOpen
 
 -- in OPEN it leads to CLOSING, and the close timer starts; there further ones are acknowledged
 unfoldable pub closeArrives : Channel → Stepped
 closeArrives c =
-    if eqb (c .phase .state) opened then doing (leaving c closing (c .limits .closing)) (ackLength (c .addresses))
-    else if eqb (c .phase .state) closing then repeating c (ackLength (c .addresses))
+    if eqb (c .phase .state) opened then doing (leaving c closing (c .limits .closing)) (ackLength c)
+    else if eqb (c .phase .state) closing then repeating c (ackLength c)
     else refusing c refusal.State
 
 -- a number other than 0 makes the channel inactive but in CLOSED (000, 4.5.3.4 (2) d)
@@ -113,8 +143,14 @@ beatTick c b =
     if b .spent then record { channel = shutFor c unanswered; inactive = true }
     else record { channel = withPulse c (b .pulse); inactive = false }
 
+-- Flow Control's timer, then the Heartbeat, unless its retries are used up
+abbrev pub flowTick : Channel → Fallen → Ticked
+flowTick c f =
+    if f .spent then record { channel = shutFor c retriesOut; inactive = true }
+    else beatTick (withPulse c (loweredFlow (c .pulse) (f .lone))) (beaten (c .limits) (loweredFlow (c .pulse) (f .lone)))
+
 unfoldable pub tickStep : Channel → Ticked
 tickStep c =
-    if eqb (c .phase .state) opened then beatTick c (beaten (c .limits) (c .pulse))
+    if eqb (c .phase .state) opened then flowTick c (fallen (c .pulse .flow .packet))
     else if eqb (c .phase .state) closing then record { channel = closeTick c; inactive = false }
     else record { channel = c; inactive = false }

@@ -59,7 +59,7 @@ fn open_arrives(c: Channel) -> Stepped
         let mut d = c;
         d.phase.state = OPEN;
         d.pulse = pulse;
-        return done(d, ack_length(c.addresses));
+        return done(d, ack_length(c.addresses, c.limits));
     }
     if c.phase.state != OPEN {
         return refused(c, Refusal::State);
@@ -77,7 +77,7 @@ fn close_arrives(c: Channel) -> Stepped
 {
     if c.phase.state == OPEN {
         let d = leave(c, CLOSING, c.limits.closing);
-        return done(d, ack_length(c.addresses));
+        return done(d, ack_length(c.addresses, c.limits));
     }
     if c.phase.state == CLOSING {
         return repeated(c);

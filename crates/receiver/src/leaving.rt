@@ -1,22 +1,25 @@
-// A channel leaves OPEN: complete units stay to be taken (house), unfinished ones and segments past the start are dropped, and so is the Heartbeat.
+// A channel leaves OPEN: complete units stay to be taken (house), unfinished ones and segments past the start are dropped, and so are the Heartbeat
+// and Flow Control.
+use crate::acks::stated_count;
 use channel::Addresses;
 use channel::Answer;
 use channel::Channel;
+use channel::Limits;
 use channel::Stepped;
 use channel::pulse;
 use channel::record::CLOSED;
 use packet::fields::LEAST;
 use slots::ring;
 ghost use mathlib.Core.Path.{_≡_};
-ghost use Rattle.channel.specs.Steps.{repeating, failing};
+ghost use Rattle.channel.specs.Steps.{repeating, failing, outgoingLength};
 ghost use Rattle.channel.specs.Asked.{Ringed};
-ghost use Rattle.receiver.specs.Receiving.{ackLength, leaving, shutFor};
+ghost use Rattle.receiver.specs.Receiving.{statedCount, ackLength, leaving, shutFor};
 
-// The octets of an ack: it carries the own prefix, and no payload.
-pub fn ack_length(a: Addresses) -> usize
-    ensures { λ r. ⌜ r ≡ ackLength a ⌝ }
+// The octets of an ack of Data or Control: it carries the own prefix, and where Flow Control is used the number stated.
+pub fn ack_length(a: Addresses, l: Limits) -> usize
+    ensures { λ r. ⌜ r ≡ outgoingLength a (statedCount l) ⌝ }
 {
-    LEAST + (a.own.length as usize)
+    LEAST + (a.own.length as usize) + stated_count(l)
 }
 
 // Into another state, with the close timer at so many ticks. What is kept ends where the unit on the way begins.
@@ -66,9 +69,9 @@ pub fn failed(c: Channel, why: u8) -> Stepped
 
 // Acknowledged once more, and nothing has changed.
 pub fn repeated(c: Channel) -> Stepped
-    ensures { λ r. ⌜ r ≡ repeating c (ackLength (c .addresses)) ⌝ }
+    ensures { λ r. ⌜ r ≡ repeating c (ackLength c) ⌝ }
 {
-    let length = ack_length(c.addresses);
+    let length = ack_length(c.addresses, c.limits);
     Stepped {
         channel: c,
         answer: Answer::Repeated { length },

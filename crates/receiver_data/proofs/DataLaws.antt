@@ -35,9 +35,9 @@ module _ (c : Channel) (place flags : ℕ) (k : Channel) (m : Moved) (marked : k
   pub accept-breaks : m .broken ≡ true → acceptStep c place flags ≡ failing (shutFor (withWindow k (m .window)) brokenFlags) brokenFlags
   accept-breaks e = accept-settled ∙ chosen (m .broken) _ _ e
 
-  pub accept-done : (n : ℕ) → m .broken ≡ false → n ≡ ackLength (c .addresses) → acceptStep c place flags ≡ doing (withWindow k (m .window)) n
+  pub accept-done : (n : ℕ) → m .broken ≡ false → n ≡ ackLength c → acceptStep c place flags ≡ doing (withWindow k (m .window)) n
   accept-done n e l =
-      let own : ackLength (k .addresses) ≡ n = ap (λ (x : Channel). ackLength (x .addresses)) marked ∙ sym l in
+      let own : ackLength k ≡ n = ap ackLength marked ∙ sym l in
       accept-settled ∙ passed-by (m .broken) _ _ e ∙ ap (doing (withWindow k (m .window))) own
 
 module _ (c : Channel) (d : ℕ) where

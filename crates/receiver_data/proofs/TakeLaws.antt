@@ -22,7 +22,7 @@ use Rattle.channel.specs.declared.answer.Refusal.the-variants as refusal
 use Rattle.channel.specs.Record.{sends}
 use Rattle.channel.specs.Standing.{Standing, oldestOf, slotFit}
 use Rattle.channel.specs.Steps.{refusing, doing}
-use Rattle.receiver_data.specs.Taking.{completeIn, unitAt, sizeAt, dropped, takeStep, takeOut}
+use Rattle.receiver_data.specs.Taking.{completeIn, unitAt, sizeAt, taken, takeStep, takeOut}
 use Rattle.channel.proofs.StandingLaws.{ringed}
 
 -- a slot in use has at most P octets
@@ -57,7 +57,7 @@ module _ (c : Channel) (lens : List ℕ) where
     unfolding takeStep
     take-small a b = simp (ne-eqb _ _ a, lt-ltb _ _ b)
 
-    pub take-done : (completeIn (c .window) ≡ 0 → ⊥) → sizeAt c lens ≤ n → takeStep c lens n ≡ doing (dropped c (unitAt c)) (sizeAt c lens)
+    pub take-done : (completeIn (c .window) ≡ 0 → ⊥) → sizeAt c lens ≤ n → takeStep c lens n ≡ doing (taken c (unitAt c)) (sizeAt c lens)
     unfolding takeStep
     take-done a b = simp (ne-eqb _ _ a, le-ltb _ _ b)
 

@@ -24,7 +24,7 @@ use Rattle.receiver.specs.Receiving.{ackLength, shutFor}
 abbrev pub movedAnswer : Channel → Moved → Stepped
 movedAnswer c m =
     if m .broken then failing (shutFor (withWindow c (m .window)) brokenFlags) brokenFlags
-    else doing (withWindow c (m .window)) (ackLength (c .addresses))
+    else doing (withWindow c (m .window)) (ackLength c)
 
 abbrev pub marking : Channel → ℕ → ℕ → Channel
 marking c place flags = withAccepted (withMarks c (set (c .marks) place (markOf flags))) 1
@@ -37,8 +37,8 @@ abbrev pub dataBy : Sort → Channel → ℕ → ℕ → Stepped
 dataBy New c d flags =
     if noRoom (c .limits) (c .window) d then refusing c refusal.Full
     else acceptStep c (placeAt (c .limits) (c .window) d) flags
-dataBy Held c d flags = repeating c (ackLength (c .addresses))
-dataBy Behind c d flags = repeating c (ackLength (c .addresses))
+dataBy Held c d flags = repeating c (ackLength c)
+dataBy Behind c d flags = repeating c (ackLength c)
 dataBy Other c d flags = failing (shutFor c dataNumber) dataNumber
 
 -- how far past the start a number lies, and its sort

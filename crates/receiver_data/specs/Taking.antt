@@ -14,6 +14,7 @@ use Rattle.channel.specs.declared.step.Stepped.{Stepped}
 use Rattle.channel.specs.declared.answer.Refusal.the-variants as refusal
 use Rattle.channel.specs.Record.{withWindow, withMarks}
 use Rattle.channel.specs.Steps.{refusing, doing}
+use Rattle.channel.specs.Flow.{telling}
 use Rattle.channel.specs.Standing.{oldestOf}
 
 -- segments of complete units
@@ -42,12 +43,16 @@ dropped c n =
     }))
     (cleared (c .marks) (c .limits .slots) n (oldestOf (c .limits .slots) (c .window)))
 
+-- and in OPEN, where the number stated has moved, Flow Control is to tell it (document 02, A5)
+abbrev pub taken : Channel → ℕ → Channel
+taken c n = telling (c .window) (dropped c n)
+
 -- the answer, with a buffer of n octets
 unfoldable pub takeStep : Channel → List ℕ → ℕ → Stepped
 takeStep c lens n =
     if eqb (completeIn (c .window)) 0 then refusing c refusal.Nothing
     else if ltb n (sizeAt c lens) then refusing c (refusal.Small (sizeAt c lens))
-    else doing (dropped c (unitAt c)) (sizeAt c lens)
+    else doing (taken c (unitAt c)) (sizeAt c lens)
 
 -- the buffer afterwards
 unfoldable pub takeOut : Channel → List ℕ → List ℕ → List ℕ → List ℕ

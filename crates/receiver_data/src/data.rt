@@ -50,7 +50,7 @@ fn accept(c: Channel, place: usize, flags: u8) -> Stepped
     if moved.broken {
         return failed(d, BROKEN_FLAGS);
     }
-    done(d, ack_length(c.addresses))
+    done(d, ack_length(c.addresses, c.limits))
 }
 
 // A new segment, d past the start: filed and accepted, or refused where it lies as many slots or more past the oldest one kept.

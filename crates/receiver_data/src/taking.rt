@@ -2,6 +2,7 @@
 use channel::Channel;
 use channel::Refusal;
 use channel::Stepped;
+use channel::flow::tell_in;
 use channel::step::done;
 use channel::step::refused;
 use slots::ring;
@@ -45,5 +46,6 @@ pub fn take_step(c: Channel, mem: &[u8], lens: &[u16], out: &mut [u8]) -> Steppe
         return refused(c, Refusal::Small(size));
     }
     store::gather(c.limits, mem, lens, n, from, out);
-    done(drop_oldest(c, n, from), size)
+    let d = drop_oldest(c, n, from);
+    done(tell_in(c.window, d), size)
 }

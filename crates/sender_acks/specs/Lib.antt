@@ -1,1 +1,2 @@
 pub mod Acks
+pub mod Stated

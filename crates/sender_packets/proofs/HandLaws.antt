@@ -1,21 +1,22 @@
 -- Laws of the hand-out: which packet is ready, and what its hand-out answers in each case.
 -- Assumes nothing.
-use mathlib.Core.Path.{_≡_, refl, sym, ap, _∙_}
+use mathlib.Core.Path.{_≡_, refl, sym, ap, _∙_, subst}
 use mathlib.Core.Bool.{Bool, true, false, false≢true, _&&_, _||_}
-use mathlib.Core.List.{List, []}
+use mathlib.Core.List.{List, [], _∷_}
 use Prim.Native.Nat.{ℕ, zero, suc, _+_, _-_, _≤_, _<_}
 use native.Mathlib.Omega.{arith}
 use native.Mathlib.Numerals.{add-one}
 use borrow.Author.Tests.{lt-ltb, le-ltb, le-leb, eq-eqb, ne-eqb, ltb-true, eqb-true}
 use lib.Dec.{ltb, eqb}
-use lib.ListN.{length, getD}
+use lib.ListN.{length, getD, take}
+use lib.Seq.{length-take-le}
 use Rattle.laws.specs.Choice.{if_then_else_}
-use Rattle.laws.proofs.Choice.{chosen, passed-by, not-first, both, either-way}
+use Rattle.laws.proofs.Choice.{chosen, passed-by, not-first, both, either, either-way}
 use Rattle.slots.specs.Ring.{roundOf}
 use Rattle.slots.specs.Slots.{segmentIn}
 use Rattle.channel.specs.Places.{slotOf}
 use Rattle.packet.specs.declared.fields.Fields.{Fields}
-use Rattle.packet.specs.declared.kinds.Kind.the-variants.{Data, Open, Close, Heartbeat}
+use Rattle.packet.specs.declared.kinds.Kind.the-variants.{Data, Open, Close, Heartbeat, FlowControl}
 use Rattle.packet.specs.declared.writing.Written.the-variants as written
 use Rattle.packet.specs.Kinds.{kindOf}
 use Rattle.packet.specs.Layout.{mostPrefix}
@@ -30,10 +31,10 @@ use Rattle.channel.specs.Record.{enabled, opened, closing}
 use Rattle.channel.specs.Prefixes.{prefixOf, fitPrefix}
 use Rattle.channel.proofs.PrefixLaws.{prefix-short}
 use Rattle.channel.specs.Steps.{refusing, doing, outgoingOf, outgoingLength}
-use Rattle.channel.specs.Lone.{isReady}
+use Rattle.channel.specs.Flow.{stated, mayFollow}
 use Rattle.sender_packets.specs.Asked.{Plain}
 use Rattle.sender.specs.Directives.{placeAt}
-use Rattle.sender_packets.specs.HandingOut.{againIn, againAt, readyControl, readyBeat, readySingle, readyAgain, nextInWindow, readyNew, ready, ranksOf, singleKind, singleFields, singleOut, againOut, newOut, dataFields, nextFields, nextPayload, nextOut, sentStep, sentOut, handStep, handOut}
+use Rattle.sender_packets.specs.HandingOut.{againIn, againAt, readyControl, readyBeside, readyOpen, readySingle, readyAgain, nextInWindow, readyNew, ready, ranksOf, singleFields, singleCount, singlePayload, singleOut, againOut, newOut, isFlow, dataFields, nextFields, nextPayload, nextOut, sentStep, sentOut, handStep, handOut}
 
 -- the control packet is looked at in ENABLED and CLOSING
 module _ (state : ℕ) (b : Bool) where
@@ -69,13 +70,13 @@ module _ (c : Channel) where
   pub ready-2-is : ready 2 c ≡ true → (c .window .flight < c .window .ahead) × (c .window .flight < c .limits .window)
   unfolding ready
   ready-2-is e =
-      let q = both _ _ (both (eqb (c .phase .state) opened) (nextInWindow (c .limits) (c .window)) e .1) in
+      let q = both _ _ (both (nextInWindow (c .limits) (c .window)) _ (both (eqb (c .phase .state) opened) _ e .1) .0) in
       (ltb-true _ _ (q .0), ltb-true _ _ (q .1))
 
-  -- a Heartbeat that is ready is of rank 0
-  pub ready-beat : readyBeat c ≡ true → ready 0 c ≡ true
+  -- what is ready in OPEN beside Data is of rank 0
+  pub ready-beside : readyOpen c ≡ true → ready 0 c ≡ true
   unfolding ready
-  ready-beat e = let q = both (eqb (c .phase .state) opened) _ e in simp (q .0) (q .1)
+  ready-beside e = let q = both (eqb (c .phase .state) opened) _ e in simp (q .0) (q .1)
 
   -- ---- the ranks together: outside OPEN Control alone may be ready
 
@@ -84,7 +85,11 @@ module _ (c : Channel) where
   ranks-closed k = simp (ne-eqb (c .phase .state) opened k)
 
   pub ranks-open : c .phase .state ≡ opened
-      → ranksOf c ≡ record { control = isReady (c .pulse .beat); again = ltb (againAt c) (c .window .flight); fresh = nextInWindow (c .limits) (c .window) }
+      → ranksOf c ≡ record {
+        control = readyBeside c;
+        again = ltb (againAt c) (c .window .flight);
+        fresh = nextInWindow (c .limits) (c .window) && mayFollow (c .limits) (c .window) (c .pulse .flow .recorded);
+      }
   unfolding ready
   ranks-open k = simp (eq-eqb (c .phase .state) opened k)
 
@@ -154,13 +159,40 @@ module _ (node : Node) (a : Addresses) (fits : fitPrefix (a .own) ≡ true) wher
   unfolding strange kindOf
   close-plain = refl
 
-  pub single-plain : (state : ℕ) → Plain a (outgoingOf node a (singleKind state) flagsWhole 0) 0
-  single-plain state = go (eqb state enabled) (eqb state opened)
+  module _ (number : ℕ) where
+    flow-base : lacking (outgoingOf node a FlowControl flagsWhole number) (a .own .length) ≡ false
+    unfolding lacking kindOf
+    flow-base = simp (few)
+
+    flow-plain : strange (outgoingOf node a FlowControl flagsWhole number) 1 ≡ false
+    unfolding strange kindOf
+    flow-plain = refl
+
+  pub single-plain : (state : ℕ) (flow : Bool) (number : ℕ)
+      → Plain a
+      (outgoingOf node a (if flow then FlowControl else if eqb state enabled then Open else if eqb state opened then Heartbeat else Close) flagsWhole (if flow then number else 0))
+      (if flow then 1 else 0)
+  single-plain state flow number = go flow (eqb state enabled) (eqb state opened)
     where
-      go : (t u : Bool) → Plain a (outgoingOf node a (if t then Open else if u then Heartbeat else Close) flagsWhole 0) 0
-      go true u = record { fits = fits; base = open-base; plain = open-plain; short = omega arith }
-      go false true = record { fits = fits; base = beat-base; plain = beat-plain; short = omega arith }
-      go false false = record { fits = fits; base = close-base; plain = close-plain; short = omega arith }
+      go : (v t u : Bool)
+          → Plain a (outgoingOf node a (if v then FlowControl else if t then Open else if u then Heartbeat else Close) flagsWhole (if v then number else 0)) (if v then 1 else 0)
+      go true t u = record { fits = fits; base = flow-base number; plain = flow-plain number; short = omega arith }
+      go false true u = record { fits = fits; base = open-base; plain = open-plain; short = omega arith }
+      go false false true = record { fits = fits; base = beat-base; plain = beat-plain; short = omega arith }
+      go false false false = record { fits = fits; base = close-base; plain = close-plain; short = omega arith }
+
+  -- one octet or none
+  pub one-or-none : (flow : Bool) → (if flow then 1 else 0) ≤ 1
+  one-or-none flow = either (λ (n : ℕ). n ≤ 1) flow 1 0 (omega arith) (omega arith)
+
+  pub single-goes : (state : ℕ) (flow : Bool) (number octet n : ℕ) → n ≡ (if flow then 1 else 0)
+      → Plain a
+      (outgoingOf node a (if flow then FlowControl else if eqb state enabled then Open else if eqb state opened then Heartbeat else Close) flagsWhole (if flow then number else 0))
+      (length (take n (octet ∷ [])))
+  single-goes state flow number octet n e =
+      let few = subst (λ (k : ℕ). k ≤ 1) (sym e) (one-or-none flow) in
+      subst (λ (k : ℕ). Plain a (outgoingOf node a (if flow then FlowControl else if eqb state enabled then Open else if eqb state opened then Heartbeat else Close) flagsWhole (if flow then number else 0)) k)
+      (sym (length-take-le n (octet ∷ []) few ∙ e)) (single-plain state flow number)
 
   module _ (flags number x : ℕ) where
     data-base : lacking (outgoingOf node a Data flags number) (a .own .length) ≡ false
@@ -178,10 +210,14 @@ module _ (node : Node) (a : Addresses) (fits : fitPrefix (a .own) ≡ true) wher
     pub data-plain : flags ≤ 3 → x ≤ 1024 → (x ≡ 0 → flagsLast ≤ flags) → Plain a (outgoingOf node a Data flags number) x
     data-plain h k some = record { fits = fits; base = data-base; plain = data-strange h k some; short = k }
 
+-- what is sent alone carries one octet or none
+pub single-length : (c : Channel) → length (singlePayload c) ≡ singleCount c
+single-length c = length-take-le (singleCount c) (stated (c .limits) (c .window) ∷ []) (either (λ (n : ℕ). n ≤ 1) (isFlow c) 1 0 (omega arith) (omega arith))
+
 -- ---- the hand-out of each rank
 
 module _ (node : Node) (c : Channel) (lens mem out : List ℕ) where
-  pub hand-single : handStep c lens 0 (length out) ≡ sentStep c (singleOut c) 0 (length out)
+  pub hand-single : handStep c lens 0 (length out) ≡ sentStep c (singleOut c) (singleCount c) (length out)
   unfolding handStep nextOut
   hand-single = refl
 
@@ -193,10 +229,6 @@ module _ (node : Node) (c : Channel) (lens mem out : List ℕ) where
   unfolding handStep nextOut
   hand-new = refl
 
-  pub out-single : handOut node c lens mem 0 out ≡ sentOut (c .addresses) (singleFields node c) [] out
-  unfolding handOut nextFields nextPayload
-  out-single = refl
-
   -- the buffer, where the segment in the slot has the slot's length
   sized-out : (f : Fields) (p : List ℕ) (x : ℕ) → length p ≡ x
       → (if ltb (length out) (outgoingLength (c .addresses) x) then out else afterWrite (written.Done (outgoingLength (c .addresses) x)) f (prefixOf (c .addresses .own)) p out)
@@ -206,6 +238,10 @@ module _ (node : Node) (c : Channel) (lens mem out : List ℕ) where
       (λ (k : ℕ).
       if ltb (length out) (outgoingLength (c .addresses) k) then out else afterWrite (written.Done (outgoingLength (c .addresses) k)) f (prefixOf (c .addresses .own)) p out)
       (sym e)
+
+  pub out-single : handOut node c lens mem 0 out ≡ sentOut (c .addresses) (singleFields node c) (singlePayload c) out
+  unfolding handOut nextFields nextPayload
+  out-single = sized-out (singleFields node c) (singlePayload c) (singleCount c) (single-length c)
 
   pub out-again : length (segmentIn (c .limits .payload) mem lens (slotOf c (placeAt c (againAt c)))) ≡ getD lens (slotOf c (placeAt c (againAt c))) 0
       → handOut node c lens mem 1 out ≡ sentOut (c .addresses) (dataFields node c (againAt c)) (segmentIn (c .limits .payload) mem lens (slotOf c (placeAt c (againAt c)))) out

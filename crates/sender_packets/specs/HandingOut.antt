@@ -1,37 +1,40 @@
 -- Of which ranks a packet of a channel is ready, and the hand-out of that of a rank (document 01, Sending: Control, resent Data, new Data; within a
--- channel the lowest segment; document 02, A2: a Heartbeat ranks with Control).
+-- channel the lowest segment; document 02, A2: a Heartbeat ranks with Control; A5: so does Flow Control, last in a channel, and new Data asks the
+-- number recorded).
 use Prim.Native.Nat.{ℕ, zero, suc, _+_, _-_, _%_}
-use mathlib.Core.Bool.{Bool, false, _&&_, _||_}
-use mathlib.Core.List.{List, []}
+use mathlib.Core.Bool.{Bool, false, not, _&&_, _||_}
+use mathlib.Core.List.{List, [], _∷_}
 use lib.Dec.{ltb, eqb}
-use lib.ListN.{length, getD, set}
+use lib.ListN.{length, getD, set, take}
 use Rattle.laws.specs.Choice.{if_then_else_}
 use Rattle.slots.specs.Ring.{roundOf}
 use Rattle.slots.specs.Slots.{segmentIn}
 use Rattle.channel.specs.Places.{slotOf}
 use Rattle.packet.specs.declared.fields.Fields.{Fields}
 use Rattle.packet.specs.declared.kinds.Kind.{Kind}
-use Rattle.packet.specs.declared.kinds.Kind.the-variants.{Data, Open, Close, Heartbeat}
+use Rattle.packet.specs.declared.kinds.Kind.the-variants.{Data, Open, Close, Heartbeat, FlowControl}
 use Rattle.packet.specs.declared.writing.Written.the-variants as written
 use Rattle.packet.specs.Tests.{flagsWhole}
 use Rattle.packet.specs.Writing.{afterWrite}
 use Rattle.channel.specs.declared.record.Node.{Node}
 use Rattle.channel.specs.declared.record.Addresses.{Addresses}
 use Rattle.channel.specs.declared.record.Limits.{Limits}
+use Rattle.channel.specs.declared.record.Pulse.{Pulse}
 use Rattle.channel.specs.declared.record.Window.{Window}
 use Rattle.channel.specs.declared.record.Channel.{Channel}
 use Rattle.channel.specs.declared.step.Stepped.{Stepped}
 use Rattle.channel.specs.declared.answer.Refusal.the-variants as refusal
-use Rattle.channel.specs.Record.{enabled, opened, closing, withControl, withPulse, withWindow, withTimers, withAcked}
+use Rattle.channel.specs.Record.{receives, enabled, opened, closing, withControl, withPulse, withWindow, withTimers, withAcked}
 use Rattle.channel.specs.Prefixes.{prefixOf}
 use Rattle.channel.specs.Steps.{refusing, doing, outgoingOf, outgoingLength}
 use Rattle.channel.specs.Lone.{isReady, handedOut}
 use Rattle.channel.specs.Pulse.{afterSending}
+use Rattle.channel.specs.Flow.{stated, flowNumber, flowOut, lastIs, mayFollow}
 use Rattle.channel.specs.declared.record.Lone.{Lone}
 use Rattle.sender.specs.Directives.{placeAt}
 use Rattle.sender_packets.specs.declared.handing.Ranks.{Ranks}
 
--- ---- ready packets, by rank: 0 Control or the Heartbeat, 1 resent Data, 2 new Data
+-- ---- ready packets, by rank: 0 Control, the Heartbeat or Flow Control, 1 resent Data, 2 new Data
 
 -- of n segments from a place on, how many there are before the first that is not acknowledged and whose timer has ended; n if none is so
 unfoldable pub againIn : List ℕ → List ℕ → ℕ → ℕ → ℕ → ℕ
@@ -48,13 +51,17 @@ againAt c = againIn (c .acked) (c .timers .left) (c .limits .slots) (c .window .
 abbrev pub readyControl : Channel → Bool
 readyControl c = (eqb (c .phase .state) enabled || eqb (c .phase .state) closing) && isReady (c .phase .control)
 
--- the Heartbeat in OPEN
-abbrev pub readyBeat : Channel → Bool
-readyBeat c = eqb (c .phase .state) opened && isReady (c .pulse .beat)
+-- the Heartbeat, and of a receiver Flow Control
+abbrev pub readyBeside : Channel → Bool
+readyBeside c = isReady (c .pulse .beat) || (eqb (c .addresses .direction) receives && isReady (c .pulse .flow .packet))
 
--- of these two a channel has one at a time
+-- these in OPEN
+abbrev pub readyOpen : Channel → Bool
+readyOpen c = eqb (c .phase .state) opened && readyBeside c
+
+-- these or Control: a channel has one of the two
 abbrev pub readySingle : Channel → Bool
-readySingle c = if eqb (c .phase .state) opened then isReady (c .pulse .beat) else readyControl c
+readySingle c = if eqb (c .phase .state) opened then readyBeside c else readyControl c
 
 abbrev pub readyAgain : Channel → Bool
 readyAgain c = eqb (c .phase .state) opened && ltb (againAt c) (c .window .flight)
@@ -63,8 +70,9 @@ readyAgain c = eqb (c .phase .state) opened && ltb (againAt c) (c .window .fligh
 abbrev pub nextInWindow : Limits → Window → Bool
 nextInWindow l w = ltb (w .flight) (w .ahead) && ltb (w .flight) (l .window)
 
+-- and no number past the one recorded, where Flow Control is used
 abbrev pub readyNew : Channel → Bool
-readyNew c = eqb (c .phase .state) opened && nextInWindow (c .limits) (c .window)
+readyNew c = eqb (c .phase .state) opened && (nextInWindow (c .limits) (c .window) && mayFollow (c .limits) (c .window) (c .pulse .flow .recorded))
 
 -- a packet of this rank is ready
 unfoldable pub ready : ℕ → Channel → Bool
@@ -80,12 +88,31 @@ ranksOf c = record { control = ready 0 c; again = ready 1 c; fresh = ready 2 c }
 
 -- ---- the hand-out of the packet of a rank
 
--- an Open in ENABLED, a Heartbeat in OPEN, a Close in CLOSING, all numbered 0
-abbrev pub singleKind : ℕ → Kind
-singleKind state = if eqb state enabled then Open else if eqb state opened then Heartbeat else Close
+-- in OPEN it is Flow Control where no Heartbeat is ready
+abbrev pub isFlow : Channel → Bool
+isFlow c = eqb (c .phase .state) opened && not (isReady (c .pulse .beat))
+
+-- an Open in ENABLED, a Heartbeat or Flow Control in OPEN, a Close in CLOSING
+abbrev pub singleKind : Channel → Kind
+singleKind c =
+    if isFlow c then FlowControl
+    else if eqb (c .phase .state) enabled then Open
+    else if eqb (c .phase .state) opened then Heartbeat
+    else Close
+
+-- numbered 0, but for Flow Control
+abbrev pub singleNumber : Channel → ℕ
+singleNumber c = if isFlow c then flowNumber (c .pulse .flow) else 0
 
 abbrev pub singleFields : Node → Channel → Fields
-singleFields node c = outgoingOf node (c .addresses) (singleKind (c .phase .state)) flagsWhole 0
+singleFields node c = outgoingOf node (c .addresses) (singleKind c) flagsWhole (singleNumber c)
+
+-- and with no payload, but for Flow Control: it states the number of now
+abbrev pub singleCount : Channel → ℕ
+singleCount c = if isFlow c then 1 else 0
+
+abbrev pub singlePayload : Channel → List ℕ
+singlePayload c = take (singleCount c) (stated (c .limits) (c .window) ∷ [])
 
 -- the i-th segment from the start on: its flags are its mark less 1, its number counts on from the start
 abbrev pub dataFields : Node → Channel → ℕ → Fields
@@ -109,14 +136,20 @@ oneMore w =
     record { start = w .start; place = w .place; behind = w .behind; ahead = w .ahead; flight = w .flight + 1; way = w .way }
 
 -- its timer starts, as that of a packet that is sent alone
+abbrev pub loneSent : Limits → Lone → Lone
+loneSent l x = handedOut x (l .timeout) (l .retries)
+
+-- what goes out in OPEN is the last packet sent; Flow Control starts the interval of the Heartbeat anew
+abbrev pub besideOut : Limits → ℕ → Pulse → Pulse
+besideOut l now p =
+    if isReady (p .beat) then record { left = p .left; beat = loneSent l (p .beat); flow = lastIs 0 (p .flow) }
+    else record { left = l .interval; beat = p .beat; flow = flowOut l now (p .flow) }
+
 abbrev pub singleOut : Channel → Channel
 singleOut c =
     withPulse
-    (withControl c (if eqb (c .phase .state) opened then c .phase .control else out (c .phase .control)))
-    (record { left = c .pulse .left; beat = if eqb (c .phase .state) opened then out (c .pulse .beat) else c .pulse .beat })
-  where
-    out : Lone → Lone
-    out l = handedOut l (c .limits .timeout) (c .limits .retries)
+    (withControl c (if eqb (c .phase .state) opened then c .phase .control else loneSent (c .limits) (c .phase .control)))
+    (if eqb (c .phase .state) opened then besideOut (c .limits) (stated (c .limits) (c .window)) (c .pulse) else c .pulse)
 
 abbrev pub againOut : Channel → Channel
 againOut c = timedAt c (placeAt c (againAt c)) (getD (c .timers .tries) (placeAt c (againAt c)) 0 - 1)
@@ -138,7 +171,7 @@ nextFields node c rank = if eqb rank 0 then singleFields node c else dataFields 
 
 unfoldable pub nextPayload : Channel → List ℕ → List ℕ → ℕ → List ℕ
 nextPayload c lens mem rank =
-    if eqb rank 0 then [] else segmentIn (c .limits .payload) mem lens (slotOf c (placeAt c (segmentFor c rank)))
+    if eqb rank 0 then singlePayload c else segmentIn (c .limits .payload) mem lens (slotOf c (placeAt c (segmentFor c rank)))
 
 -- the channel once it is handed out
 unfoldable pub nextOut : Channel → ℕ → Channel
@@ -146,7 +179,7 @@ nextOut c rank = if eqb rank 0 then singleOut c else if eqb rank 1 then againOut
 
 -- how many octets the packet has: only the lengths of the own prefix and of its payload count
 abbrev pub nextLength : Channel → List ℕ → ℕ → ℕ
-nextLength c lens rank = outgoingLength (c .addresses) (if eqb rank 0 then 0 else getD lens (slotOf c (placeAt c (segmentFor c rank))) 0)
+nextLength c lens rank = outgoingLength (c .addresses) (if eqb rank 0 then singleCount c else getD lens (slotOf c (placeAt c (segmentFor c rank))) 0)
 
 -- a packet with a payload of x octets goes out into a buffer of n, and the channel is then another; 11 if it does not fit, and nothing changes
 abbrev pub sentStep : Channel → Channel → ℕ → ℕ → Stepped

@@ -1,6 +1,7 @@
-// Of which ranks a packet of a channel is ready (Control or the Heartbeat, resent Data, new Data), of each the lowest segment; and the hand-out of that of
+// Of which ranks a packet of a channel is ready (Control, the Heartbeat or Flow Control, resent Data, new Data), of each the lowest segment; and the hand-out of that of
 // a rank, whole or not at all.
 use channel::Channel;
+use channel::Flow;
 use channel::Limits;
 use channel::Lone;
 use channel::Node;
@@ -9,6 +10,11 @@ use channel::Refusal;
 use channel::Stepped;
 use channel::Timers;
 use channel::Window;
+use channel::flow;
+use channel::flow::flow_number;
+use channel::flow::last_is;
+use channel::flow::may_follow;
+use channel::flow::number_stated;
 use channel::lone::hand_out;
 use channel::lone::is_ready;
 use channel::places::slot_of;
@@ -16,6 +22,7 @@ use channel::pulse::sent;
 use channel::record::CLOSING;
 use channel::record::ENABLED;
 use channel::record::OPEN;
+use channel::record::RECEIVES;
 use channel::step::done;
 use channel::step::outgoing;
 use channel::step::refused;
@@ -27,15 +34,16 @@ use packet::fields::WHOLE;
 use sender::ticking::lower;
 use slots::ring;
 ghost use mathlib.Core.Path.{_≡_};
-ghost use mathlib.Core.Bool.{true, _&&_, _||_};
+ghost use mathlib.Core.Bool.{true, not, _&&_, _||_};
 ghost use Prim.Native.Nat.{_+_, _-_, _<_, _≤_};
 ghost use lib.Dec.{eqb};
-ghost use Rattle.channel.specs.Record.{enabled, closing};
+ghost use Rattle.channel.specs.Record.{receives, enabled, opened, closing};
+ghost use Rattle.channel.specs.Flow.{stated, flowNumber, mayFollow};
+ghost use Rattle.packet.specs.declared.kinds.Kind.the-variants.{Open, Close, Heartbeat, FlowControl};
 ghost use Rattle.channel.specs.Prefixes.{fitPrefix};
 ghost use Rattle.channel.specs.Lone.{isReady};
 ghost use Rattle.channel.specs.Asked.{Ringed, Asked};
-ghost use Rattle.sender_packets.specs.HandingOut.{againIn, againAt, readyBeat, nextInWindow, ranksOf, timedAt, singleKind, singleOut, againOut, newOut, singleFields, dataFields, sentStep, sentOut, handStep, handOut};
-ghost use mathlib.Core.List.{[]};
+ghost use Rattle.sender_packets.specs.HandingOut.{againIn, againAt, readyOpen, nextInWindow, ranksOf, timedAt, loneSent, besideOut, singleOut, singleCount, singlePayload, againOut, newOut, singleFields, dataFields, sentStep, sentOut, handStep, handOut};
 ghost use lib.ListN.{length, getD};
 ghost use Rattle.laws.specs.Choice.{if_then_else_};
 ghost use Rattle.slots.specs.Slots.{segmentIn};
@@ -94,14 +102,27 @@ fn is_control_ready(state: u8, control: Lone) -> bool
     false
 }
 
-// The Heartbeat is for OPEN, at either end.
-pub fn is_beat_ready(c: Channel) -> bool
-    ensures { λ r. ⌜ r ≡ readyBeat c ⌝ }
+// The Heartbeat, and of a receiver Flow Control.
+fn is_beside_ready(direction: u8, p: Pulse) -> bool
+    ensures { λ r. ⌜ r ≡ (isReady (p .beat) || (eqb direction receives && isReady (p .flow .packet))) ⌝ }
+{
+    if is_ready(p.beat) {
+        return true;
+    }
+    if direction != RECEIVES {
+        return false;
+    }
+    is_ready(p.flow.packet)
+}
+
+// These are for OPEN, at either end.
+pub fn is_open_ready(c: Channel) -> bool
+    ensures { λ r. ⌜ r ≡ readyOpen c ⌝ }
 {
     if c.phase.state != OPEN {
         return false;
     }
-    is_ready(c.pulse.beat)
+    is_beside_ready(c.addresses.direction, c.pulse)
 }
 
 // Only the k numbers from the window start may be sent.
@@ -114,7 +135,17 @@ fn is_new_ready(l: Limits, w: Window) -> bool
     w.flight < l.window
 }
 
-// Of which ranks a packet is ready: Control or the Heartbeat, resent Data, new Data.
+// And no number past the one recorded, where Flow Control is used.
+fn is_new_allowed(l: Limits, w: Window, recorded: u8) -> bool
+    ensures { λ r. ⌜ r ≡ (nextInWindow l w && mayFollow l w recorded) ⌝ }
+{
+    if !is_new_ready(l, w) {
+        return false;
+    }
+    may_follow(l, w, recorded)
+}
+
+// Of which ranks a packet is ready: Control, the Heartbeat or Flow Control, resent Data, new Data.
 pub struct Ranks {
     pub control: bool,
     pub again: bool,
@@ -132,9 +163,9 @@ pub fn ranks_of(c: Channel) -> Ranks
         };
     }
     let again = again_at(c) < c.window.flight;
-    let fresh = is_new_ready(c.limits, c.window);
+    let fresh = is_new_allowed(c.limits, c.window, c.pulse.flow.recorded);
     Ranks {
-        control: is_ready(c.pulse.beat),
+        control: is_beside_ready(c.addresses.direction, c.pulse),
         again,
         fresh,
     }
@@ -162,21 +193,43 @@ fn start_timer(c: Channel, place: usize, tries: u16) -> Channel
     d
 }
 
-// In OPEN it is the Heartbeat that goes out, else the Open or the Close.
-fn single_out(c: Channel) -> Channel
+fn lone_sent(l: Limits, x: Lone) -> Lone
+    ensures { λ r. ⌜ r ≡ loneSent l x ⌝ }
+{
+    hand_out(x, l.timeout, l.retries)
+}
+
+// In OPEN the Heartbeat goes out, or else Flow Control. Either is then the last packet sent.
+fn beside_out(l: Limits, now: u8, p: Pulse) -> Pulse
+    ensures { λ r. ⌜ r ≡ besideOut l now p ⌝ }
+{
+    if is_ready(p.beat) {
+        return Pulse {
+            left: p.left,
+            beat: lone_sent(l, p.beat),
+            flow: last_is(0, p.flow),
+        };
+    }
+    let beat = p.beat;
+    Pulse {
+        left: l.interval,
+        beat,
+        flow: flow::out(l, now, p.flow),
+    }
+}
+
+// Out of OPEN it is the Open or the Close.
+fn single_out(c: Channel, now: u8) -> Channel
+    requires { ⌜ now ≡ stated (c .limits) (c .window) ⌝ }
     ensures { λ r. ⌜ r ≡ singleOut c ⌝ }
 {
     if c.phase.state == OPEN {
-        let beat = hand_out(c.pulse.beat, c.limits.timeout, c.limits.retries);
-        let pulse = Pulse {
-            left: c.pulse.left,
-            beat,
-        };
+        let pulse = beside_out(c.limits, now, c.pulse);
         let mut d = c;
         d.pulse = pulse;
         return d;
     }
-    let control = hand_out(c.phase.control, c.limits.timeout, c.limits.retries);
+    let control = lone_sent(c.limits, c.phase.control);
     let mut phase = c.phase;
     phase.control = control;
     let mut d = c;
@@ -223,10 +276,23 @@ fn send(before: Channel, after: Channel, fields: Fields, payload: &[u8], out: &m
     done(after, n)
 }
 
-// An Open in ENABLED, a Heartbeat in OPEN, a Close in CLOSING, all numbered 0.
-fn single_kind(state: u8) -> Kind
-    ensures { λ r. ⌜ r ≡ singleKind state ⌝ }
+// In OPEN it is Flow Control where no Heartbeat is ready.
+fn is_flow(state: u8, beat: Lone) -> bool
+    ensures { λ r. ⌜ r ≡ (eqb state opened && not (isReady beat)) ⌝ }
 {
+    if state != OPEN {
+        return false;
+    }
+    !is_ready(beat)
+}
+
+// An Open in ENABLED, a Heartbeat or Flow Control in OPEN, a Close in CLOSING.
+fn single_kind(state: u8, flow: bool) -> Kind
+    ensures { λ r. ⌜ r ≡ (if flow then FlowControl else if eqb state enabled then Open else if eqb state opened then Heartbeat else Close) ⌝ }
+{
+    if flow {
+        return Kind::FlowControl;
+    }
     if state == ENABLED {
         return Kind::Open;
     }
@@ -236,14 +302,38 @@ fn single_kind(state: u8) -> Kind
     Kind::Close
 }
 
-fn hand_single(node: Node, c: Channel, out: &mut [u8]) -> Stepped
-    requires { ⌜ fitPrefix (c .addresses .own) ≡ true ⌝ }
-    ensures { λ r. ⌜ (r ≡ sentStep c (singleOut c) 0 (length (now (out .entry)))) × (now (out .exit) ≡ sentOut (c .addresses) (singleFields node c) [] (now (out .entry))) ⌝ }
+// Numbered 0, but for Flow Control.
+fn single_number(flow: bool, f: Flow) -> u8
+    ensures { λ r. ⌜ r ≡ (if flow then flowNumber f else 0) ⌝ }
 {
-    let kind = single_kind(c.phase.state);
-    let fields = outgoing(node, c.addresses, kind, WHOLE, 0);
-    let nothing: [u8; 0] = [];
-    send(c, single_out(c), fields, &nothing, out)
+    if flow {
+        return flow_number(f);
+    }
+    0
+}
+
+// With no payload, but for Flow Control.
+fn single_count(flow: bool) -> usize
+    ensures { λ r. ⌜ r ≡ (if flow then 1 else 0) ⌝ }
+{
+    if flow {
+        return 1;
+    }
+    0
+}
+
+fn hand_single(node: Node, c: Channel, out: &mut [u8]) -> Stepped
+    requires { ⌜ (fitPrefix (c .addresses .own) ≡ true) × (c .limits .window ≤ 128) ⌝ }
+    ensures { λ r. ⌜ (r ≡ sentStep c (singleOut c) (singleCount c) (length (now (out .entry)))) × (now (out .exit) ≡ sentOut (c .addresses) (singleFields node c) (singlePayload c) (now (out .entry))) ⌝ }
+{
+    let flow = is_flow(c.phase.state, c.pulse.beat);
+    let kind = single_kind(c.phase.state, flow);
+    let number = single_number(flow, c.pulse.flow);
+    let fields = outgoing(node, c.addresses, kind, WHOLE, number);
+    let stated = number_stated(c.limits, c.window);
+    let n = single_count(flow);
+    let octet: [u8; 1] = [stated];
+    send(c, single_out(c, stated), fields, &octet[..n], out)
 }
 
 // The i-th segment from the start on goes out, its payload read where it lies in its slot.

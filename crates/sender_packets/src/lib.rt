@@ -4,5 +4,5 @@ pub mod handing;
 
 pub use handing::Ranks;
 pub use handing::hand_step;
-pub use handing::is_beat_ready;
+pub use handing::is_open_ready;
 pub use handing::ranks_of;

@@ -15,8 +15,8 @@ use Rattle.channel.specs.declared.step.Stepped.{Stepped}
 use Rattle.channel.specs.Record.{sends}
 use Rattle.sender_packets.specs.declared.handing.Ranks.{Ranks}
 use Rattle.sender_packets.specs.Asked.{Ready}
-use Rattle.sender_packets.specs.HandingOut.{readyBeat, ready, ranksOf}
-use Rattle.sender_packets.proofs.HandLaws.{ready-beat}
+use Rattle.sender_packets.specs.HandingOut.{readyOpen, ready, ranksOf}
+use Rattle.sender_packets.proofs.HandLaws.{ready-beside}
 use Rattle.table.specs.declared.looking.Sought.{Sought}
 use Rattle.table.specs.Waiting.{waits, waitingOf, gradeAt, rankIn, movedBy, mayMove, moved}
 
@@ -25,22 +25,22 @@ module _ (c : Channel) where
   unfolding waits
   waits-sender e = simp (eq-eqb (c .addresses .direction) sends e)
 
-  pub waits-receiver : (c .addresses .direction ≡ sends → ⊥) → record { control = readyBeat c; again = false; fresh = false } ≡ waitingOf c
+  pub waits-receiver : (c .addresses .direction ≡ sends → ⊥) → record { control = readyOpen c; again = false; fresh = false } ≡ waitingOf c
   unfolding waits
   waits-receiver e = simp (ne-eqb (c .addresses .direction) sends e)
 
   -- and back: a packet of the rank is ready, and of a receiver it is the Heartbeat
-  pub waits-receives : (rank : ℕ) → (c .addresses .direction ≡ sends → ⊥) → waits rank c ≡ true → (rank ≡ 0) × (readyBeat c ≡ true)
+  pub waits-receives : (rank : ℕ) → (c .addresses .direction ≡ sends → ⊥) → waits rank c ≡ true → (rank ≡ 0) × (readyOpen c ≡ true)
   unfolding waits
   waits-receives rank n e =
-      let h = both (eqb rank 0) (readyBeat c) (sym (passed-by (eqb (c .addresses .direction) sends) (ready rank c) _ (ne-eqb _ _ n)) ∙ e) in
+      let h = both (eqb rank 0) (readyOpen c) (sym (passed-by (eqb (c .addresses .direction) sends) (ready rank c) _ (ne-eqb _ _ n)) ∙ e) in
       (eqb-true rank 0 (h .0), h .1)
 
   pub waits-ready : (rank : ℕ) → waits rank c ≡ true → ready rank c ≡ true
   unfolding waits
   waits-ready rank e =
       either-way (eqb (c .addresses .direction) sends) (λ s. sym (chosen (eqb (c .addresses .direction) sends) (ready rank c) _ s) ∙ e)
-      (λ s. let h = waits-receives rank (eqb-false _ _ s) e in ap (λ (r : ℕ). ready r c) (h .0) ∙ ready-beat c (h .1))
+      (λ s. let h = waits-receives rank (eqb-false _ _ s) e in ap (λ (r : ℕ). ready r c) (h .0) ∙ ready-beside c (h .1))
 
   pub of-rank-waits : (rank : ℕ) → rank < 3 → ofRank rank (waits 0 c) (waits 1 c) (waits 2 c) ≡ waits rank c
   of-rank-waits rank h = go rank h

@@ -13,13 +13,13 @@ use Rattle.channel.specs.declared.answer.Answer.the-variants.{Done, Repeated, I
 use Rattle.channel.specs.declared.step.Stepped.{Stepped}
 use Rattle.channel.specs.Record.{sends}
 use Rattle.sender_packets.specs.declared.handing.Ranks.{Ranks}
-use Rattle.sender_packets.specs.HandingOut.{readyBeat, ready}
+use Rattle.sender_packets.specs.HandingOut.{readyOpen, ready}
 use Rattle.table.specs.declared.looking.Sought.{Sought}
 use Rattle.table.specs.declared.looking.Sought.the-variants.{Index, Question, Packet, Ready, Nobody}
 
--- a sender with a ready packet of this rank; a receiver hands out its Heartbeat alone (document 02, A2)
+-- a sender with a ready packet of this rank; a receiver hands out its Heartbeat and Flow Control alone (document 02, A2 and A5)
 unfoldable pub waits : ℕ → Channel → Bool
-waits rank c = if eqb (c .addresses .direction) sends then ready rank c else eqb rank 0 && readyBeat c
+waits rank c = if eqb (c .addresses .direction) sends then ready rank c else eqb rank 0 && readyOpen c
 
 abbrev pub waitingOf : Channel → Ranks
 waitingOf c = record { control = waits 0 c; again = waits 1 c; fresh = waits 2 c }

@@ -103,7 +103,11 @@ fn grade_index(i: usize, j: usize) -> usize
 fn grade_packet(f: Fields, length: usize, prefix: Prefix, a: Addresses) -> usize
     ensures { λ r. ⌜ r ≡ addressed f length prefix a ⌝ }
 {
-    if is_same(a, f, length, prefix) { 0 } else { UNFIT }
+    if is_same(a, f, length, prefix) {
+        0
+    } else {
+        UNFIT
+    }
 }
 
 // Whose turn it is by the lines.

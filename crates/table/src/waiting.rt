@@ -6,7 +6,7 @@ use channel::record::SENDS;
 use lines::relist;
 use lines::serve;
 use sender_packets::Ranks;
-use sender_packets::is_beat_ready;
+use sender_packets::is_open_ready;
 use sender_packets::ranks_of;
 ghost use mathlib.Core.Path.{_≡_};
 ghost use Prim.Native.Nat.{_<_};
@@ -14,13 +14,13 @@ ghost use Rattle.lines.specs.Fit.{Fit};
 ghost use Rattle.table.specs.Waiting.{waitingOf, rankIn, movedWith, mayMove};
 ghost use Rattle.laws.specs.Choice.{if_then_else_};
 
-// Of which ranks a packet is ready; a receiver hands out its Heartbeat alone.
+// Of which ranks a packet is ready; a receiver hands out its Heartbeat and Flow Control alone.
 pub fn waiting(c: Channel) -> Ranks
     ensures { λ r. ⌜ r ≡ waitingOf c ⌝ }
 {
     if c.addresses.direction != SENDS {
         return Ranks {
-            control: is_beat_ready(c),
+            control: is_open_ready(c),
             again: false,
             fresh: false,
         };
@@ -28,7 +28,7 @@ pub fn waiting(c: Channel) -> Ranks
     ranks_of(c)
 }
 
-// The rank of a grade: 0 Control and Heartbeats, 1 resent Data, 2 new Data.
+// The rank of a grade: 0 Control, Heartbeats and Flow Control, 1 resent Data, 2 new Data.
 pub fn rank_in(grade: usize) -> usize
     ensures { λ r. ⌜ r ≡ rankIn grade ⌝ }
 {
@@ -71,7 +71,7 @@ fn may_move(a: Answer) -> bool
 }
 
 // The channel at index i joins, leaves or keeps its place in each line, by the answer of a call and by what is then ready: that is handed over,
-// and not the record, which is 928 octets.
+// and not the record, which is 944 octets.
 pub fn move_lines(lines: &mut [u8], sought: Sought, rank: usize, i: usize, answer: Answer, w: Ranks)
     requires { ⌜ (Fit 16 (now lines)) × (rank < 3) × (i < 16) ⌝ }
     ensures { λ _. ⌜ now (lines .exit) ≡ (if mayMove answer then movedWith sought rank i w (now (lines .entry)) else now (lines .entry)) ⌝ }

@@ -63,12 +63,17 @@ pub fn does(
 
 // Both channels, with a window and so many slots each; P 16, M 4, timeouts 4, retries 2.
 pub fn facing(window: usize, slots: usize) -> [Channel; 2] {
-    let sender = made(settings(window, slots, SENDS));
-    let receiver = made(settings(window, slots, RECEIVES));
+    facing_with(window, slots, 0)
+}
+
+// With Flow Control (1) or without (0).
+pub fn facing_with(window: usize, slots: usize, flow: u16) -> [Channel; 2] {
+    let sender = made(settings(window, slots, flow, SENDS));
+    let receiver = made(settings(window, slots, flow, RECEIVES));
     [sender, receiver]
 }
 
-fn settings(window: usize, slots: usize, direction: u8) -> Settings {
+fn settings(window: usize, slots: usize, flow: u16, direction: u8) -> Settings {
     Settings {
         addresses: Addresses {
             channel: 1,
@@ -86,6 +91,7 @@ fn settings(window: usize, slots: usize, direction: u8) -> Settings {
             closing: 4,
             retries: 2,
             interval: 0,
+            flow,
         },
     }
 }

@@ -1,5 +1,5 @@
-// The exchanges of 000, Appendix B, between a sender and a receiver: no error, a lost Data packet, a lost Ack. The figures are not in the
-// text; the packets are those that its captions and section 4 lead to.
+// The exchanges of 000, Appendix B, between a sender and a receiver: no error, a lost Data packet, a lost Ack, Flow Control. The figures are not in
+// the text; the packets are those that its captions and section 4 lead to.
 use crate::asking::ARRIVAL;
 use crate::asking::CLOSE;
 use crate::asking::NEXT;
@@ -10,6 +10,7 @@ use crate::asking::TRANSFER;
 use crate::asking::ask;
 use crate::asking::does;
 use crate::asking::facing;
+use crate::asking::facing_with;
 use crate::show::say;
 use crate::show::say_answer;
 use crate::show::say_number;
@@ -22,6 +23,8 @@ pub fn say_exchanges() {
     exchange(2, 0);
     say(b"000, Appendix B, an Ack is lost:\n");
     exchange(0, 2);
+    say(b"000, Appendix B, Flow Control, with four slots:\n");
+    flow_exchange();
 }
 
 // Both ends, and what the link loses: the Data packet and the Ack with these numbers, once; 0 for none.
@@ -53,6 +56,44 @@ fn play(link: Link, mem: &mut [u8], lens: &mut [u16], lines: &mut [u8]) {
         let after = act(l, turn, mem, lens, lines);
         l = after;
         turn += 1;
+    }
+}
+
+// Five units are given, and four fill the slots: the fifth waits until one is taken and Flow Control has told it.
+fn flow_exchange() {
+    let mut mem = [0u8; 128];
+    let mut lens = [0u16; 8];
+    let mut lines = [0u8; 51];
+    let table = facing_with(4, 4, 1);
+    let link = Link {
+        table,
+        lost: 0,
+        unheard: 0,
+    };
+    play_flow(link, &mut mem, &mut lens, &mut lines);
+}
+
+fn play_flow(link: Link, mem: &mut [u8], lens: &mut [u16], lines: &mut [u8]) {
+    let mut l = link;
+    let mut turn: u8 = 0;
+    while turn < 22 {
+        let after = act_flow(l, turn, mem, lens, lines);
+        l = after;
+        turn += 1;
+    }
+}
+
+// The sender's room is four slots too, so that the fifth unit is given once Acks have come.
+fn act_flow(link: Link, turn: u8, mem: &mut [u8], lens: &mut [u16], lines: &mut [u8]) -> Link {
+    let table = link.table;
+    match turn {
+        0 => with_table(link, opened(table, mem, lens, lines)),
+        2..=5 => with_table(link, given(table, turn, mem, lens, lines)),
+        10 => with_table(link, given(table, 6, mem, lens, lines)),
+        12 => with_table(link, take_one(table, mem, lens, lines)),
+        15..=18 => with_table(link, take_one(table, mem, lens, lines)),
+        20 => with_table(link, does(table, CLOSE, b"\0", mem, lens, lines)),
+        _ => round(link, mem, lens, lines),
     }
 }
 
@@ -163,7 +204,7 @@ fn over(
 }
 
 fn arrives(link: Link, octets: &[u8], mem: &mut [u8], lens: &mut [u16], lines: &mut [u8]) -> Link {
-    let mut reply = [0u8; 12];
+    let mut reply = [0u8; 13];
     let table = link.table;
     let kept = ask(table, ARRIVAL, octets, mem, lens, lines, &mut reply);
     let told = kept.told;
@@ -171,7 +212,30 @@ fn arrives(link: Link, octets: &[u8], mem: &mut [u8], lens: &mut [u16], lines: &
     let arrived = kept.table;
     say(b" answered ");
     say_answer(answer);
-    back(with_table(link, arrived), &reply, mem, lens, lines)
+    let after = with_table(link, arrived);
+    reply_of(
+        after,
+        &reply,
+        channel::answer::length(answer),
+        mem,
+        lens,
+        lines,
+    )
+}
+
+// The first n octets are the reply.
+fn reply_of(
+    link: Link,
+    reply: &[u8],
+    n: usize,
+    mem: &mut [u8],
+    lens: &mut [u16],
+    lines: &mut [u8],
+) -> Link {
+    if reply.len() < n {
+        return link;
+    }
+    back(link, &reply[..n], mem, lens, lines)
 }
 
 // The reply comes back, unless the link loses it.
@@ -218,14 +282,25 @@ fn is_number(octets: &[u8], number: u8) -> bool {
     false
 }
 
-// The packet's type and its number.
+// The packet's type and its number, and of the receiver's the number that it states, if it does.
 fn say_packet(way: &[u8], octets: &[u8]) {
     say(way);
-    if 8 <= octets.len() {
-        say_kind(octets[2] % 8);
+    if 11 <= octets.len() {
+        say_kind(octets[2] % 8, octets[4]);
         say(b" (");
         say_number(wide(octets[7]));
+        say_stated(octets[2] % 8, octets[4], octets[10]);
         say(b")");
+    }
+}
+
+fn say_stated(kind: u8, count: u8, stated: u8) {
+    if kind == 0 {
+        return;
+    }
+    if count == 1 {
+        say(b", ");
+        say_number(wide(stated));
     }
 }
 
@@ -233,12 +308,22 @@ fn wide(x: u8) -> u64 {
     x as u64
 }
 
-fn say_kind(kind: u8) {
+fn say_kind(kind: u8, count: u8) {
     match kind {
+        6 => say_six(count),
         0 => say(b"Data"),
         1 => say(b"Data Ack"),
         2 => say(b"Open"),
         3 => say(b"Close"),
         _ => say(b"Control Ack"),
+    }
+}
+
+// Type 6 is Flow Control with an octet, its Ack without.
+fn say_six(count: u8) {
+    if count == 1 {
+        say(b"Flow Control");
+    } else {
+        say(b"Flow Control Ack");
     }
 }

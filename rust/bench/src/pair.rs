@@ -44,6 +44,7 @@ pub fn table(direction: Direction, remote: u8, channels: usize, payload: usize) 
         close_timeout: 65_535,
         retries: 255,
         interval: 0,
+        flow: 0,
     };
     (0..channels as u16).map(settings).collect()
 }

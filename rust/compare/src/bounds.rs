@@ -20,7 +20,7 @@ const NODE: Node = Node {
 pub type Bound = (&'static str, fn(&mut Vec<Settings>));
 
 /// Each bound of document 01, one at a time: all else is good.
-pub const REFUSED: [Bound; 21] = [
+pub const REFUSED: [Bound; 23] = [
     ("settings: window 0", |table| table[0].window = 0),
     ("settings: window not a power of two", |table| {
         table[0].window = 3;
@@ -51,6 +51,10 @@ pub const REFUSED: [Bound; 21] = [
         table[0].close_timeout = 0;
     }),
     ("settings: retries over 255", |table| table[0].retries = 256),
+    ("settings: Flow Control 2", |table| table[0].flow = 2),
+    ("settings: Flow Control 65,535", |table| {
+        table[0].flow = 65_535;
+    }),
     ("settings: two that clash", |table| {
         let last = table.len() - 1;
         table.push(table[last]);
@@ -103,7 +107,7 @@ const FULL: Prefix = Prefix {
 };
 
 /// Changes that lie just within the bounds.
-pub const ACCEPTED: [Bound; 15] = [
+pub const ACCEPTED: [Bound; 17] = [
     ("settings: window and slots 1", |table| {
         (table[0].window, table[0].slots, table[0].most_segments) = (1, 1, 1);
     }),
@@ -127,6 +131,8 @@ pub const ACCEPTED: [Bound; 15] = [
     ("settings: interval 65,535", |table| {
         table[0].interval = 65_535;
     }),
+    ("settings: Flow Control used", |table| table[0].flow = 1),
+    ("settings: Flow Control not used", |table| table[0].flow = 0),
     ("settings: prefixes of 15 octets", |table| {
         (table[0].remote_prefix, table[0].own_prefix) = (FULL, FULL);
     }),

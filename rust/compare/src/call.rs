@@ -149,6 +149,7 @@ pub fn to_proved(settings: &Settings) -> proved::record::Settings {
             closing: narrow(settings.close_timeout),
             retries: narrow(settings.retries),
             interval: narrow(settings.interval),
+            flow: narrow(settings.flow),
         },
     }
 }

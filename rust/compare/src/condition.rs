@@ -52,6 +52,7 @@ fn fits(limits: &Limits) -> bool {
         && limits.timeout >= 1
         && limits.closing >= 1
         && limits.retries <= 255
+        && limits.flow <= 1
 }
 
 /// The other clauses, of a record whose limits fit.
@@ -73,6 +74,7 @@ fn is_named(record: &Channel) -> bool {
         && record.phase.accepted <= 1
         && record.phase.control.state <= 3
         && record.pulse.beat.state <= 3
+        && record.pulse.flow.packet.state <= 3
 }
 
 /// At most 15 octets, and 0 in every one past them.

@@ -12,7 +12,8 @@ pub struct Faults {
     /// 4, to be written: a prefix over 15 octets. 1, to be read: another prefix
     /// length than the prefix has.
     pub prefix: bool,
-    /// 4: a type the base lacks: Flow Control, or none.
+    /// 4, to be written: a type over 7. A packet cannot say one, so that it has no such
+    /// fault.
     pub kind: bool,
     /// 3: another version.
     pub version: bool,
@@ -20,11 +21,23 @@ pub struct Faults {
     pub flags: bool,
     /// 3: reserved bits.
     pub reserved: bool,
-    /// 3: a payload on a type that is not Data.
+    /// 3: more payload than a type that is not Data may have: one octet at a Data Ack,
+    /// a Control Ack and Flow Control (document 02, A5), none at the others.
     pub payload: bool,
     /// 3: Data with flags 01 or 00 and no payload.
     pub empty: bool,
 }
+
+/// Every type but Data.
+const OTHERS: [u8; 7] = [
+    kind::DATA_ACK,
+    kind::OPEN,
+    kind::CLOSE,
+    kind::HEARTBEAT,
+    kind::HEARTBEAT_ACK,
+    kind::FLOW_CONTROL,
+    kind::CONTROL_ACK,
+];
 
 /// How far a subfield's wrong value may reach.
 #[derive(Clone, Copy, Debug, PartialEq, Eq)]
@@ -73,7 +86,7 @@ impl Faults {
     pub fn answer(self, reach: Reach) -> u32 {
         if self.prefix && reach == Reach::Bits {
             1
-        } else if self.secondary || self.prefix || self.kind {
+        } else if self.secondary || self.prefix || self.kind && reach == Reach::Octet {
             4
         } else if self.version || self.flags || self.reserved || self.payload || self.empty {
             3
@@ -113,30 +126,32 @@ impl Faults {
     pub fn payload_length(self, fields: &Fields, about: usize) -> usize {
         let unfinished = [flags::FIRST, flags::CONTINUATION].contains(&fields.flags);
         if self.empty {
-            0
-        } else if fields.kind == kind::DATA {
-            about.max(usize::from(unfinished))
-        } else if self.payload {
-            about.max(1)
-        } else {
-            0
+            return 0;
+        }
+        if fields.kind == kind::DATA {
+            return about.max(usize::from(unfinished));
+        }
+        let most = match fields.kind {
+            kind::DATA_ACK | kind::CONTROL_ACK | kind::FLOW_CONTROL => 1,
+            _ => 0,
+        };
+        match self.payload {
+            true => about.max(most + 1),
+            false => about % (most + 1),
         }
     }
 
     fn a_kind(self, reach: Reach, noise: &mut Noise) -> u8 {
-        use kind::{CLOSE, CONTROL_ACK, DATA, DATA_ACK, HEARTBEAT, HEARTBEAT_ACK, OPEN};
         let only_bits = reach == Reach::Bits;
-        if self.kind && (only_bits || noise.one_in(2)) {
-            kind::FLOW_CONTROL
-        } else if self.kind {
+        if self.kind && !only_bits {
             noise.octet().max(8)
         } else if self.empty {
-            DATA
+            kind::DATA
         } else if self.payload || (self.flags && only_bits) || noise.one_in(2) {
             // On Data no payload is wrong, nor are flags of two bits.
-            noise.one_of(&[DATA_ACK, OPEN, CLOSE, HEARTBEAT, HEARTBEAT_ACK, CONTROL_ACK])
+            noise.one_of(&OTHERS)
         } else {
-            DATA
+            kind::DATA
         }
     }
 

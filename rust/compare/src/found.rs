@@ -1,7 +1,8 @@
 //! Whose packet an arrival is, by a table as it lies there. The caller may have
 //! overwritten it, so that two records agree in all that settings tell them apart
 //! by (document 02, A2): a packet still finds its record by the direction that its
-//! type asks for, and a Heartbeat or its Ack, which asks for none, the first.
+//! type asks for, of type 6 its type and its payload (A5), and a Heartbeat or its Ack,
+//! which asks for none, the first.
 
 use peer::packet::{kind, read, Fields};
 use proved::record::{direction, Addresses, Channel, Node};
@@ -36,8 +37,9 @@ pub fn check_found(table: &[Channel], node: Node, packet: &[u8], said: Said, tal
 }
 
 /// "Data and Control look for a receiving record, Acks for a sending one", a
-/// Heartbeat and its Ack for either; what cannot be read, or is for another node,
-/// looks for none.
+/// Heartbeat and its Ack for either, a Flow Control packet, which has a payload, for a
+/// sending one and its Ack for a receiving one; what cannot be read, or is for another
+/// node, looks for none.
 fn find(table: &[Channel], node: Node, packet: &[u8]) -> Option<usize> {
     let reading = read(packet).ok()?;
     let Fields {
@@ -51,6 +53,7 @@ fn find(table: &[Channel], node: Node, packet: &[u8]) -> Option<usize> {
     let end = match kind {
         kind::HEARTBEAT | kind::HEARTBEAT_ACK => None,
         kind::DATA_ACK | kind::CONTROL_ACK => Some(direction::SENDS),
+        kind::FLOW_CONTROL if reading.length > 0 => Some(direction::SENDS),
         _ => Some(direction::RECEIVES),
     };
     let prefix = reading.prefix_of(packet);

@@ -11,6 +11,7 @@ pub mod condition;
 pub mod counts;
 pub mod damage;
 pub mod faults;
+pub mod flows;
 pub mod found;
 pub mod lines;
 pub mod order;

@@ -10,7 +10,7 @@ use crate::call::Call;
 /// Octets of one line.
 const LINE: usize = LINES / 3;
 
-/// The ranks: Control and Heartbeats, resent Data, new Data.
+/// The ranks: Control, Heartbeats and Flow Control; resent Data; new Data.
 pub const RANKS: std::ops::Range<usize> = 0..3;
 
 /// A packet that goes out: its rank, and whose it is.
@@ -43,8 +43,35 @@ pub fn octets_of(queues: [Vec<u8>; 3]) -> Vec<u8> {
     octets
 }
 
-/// Whether a record has a packet of this rank ready: of a receiver its Heartbeat
-/// alone counts.
+/// Whether a packet that is sent alone is ready, for the first time or again.
+pub fn is_waiting(packet: &Lone) -> bool {
+    [lone::READY, lone::AGAIN].contains(&packet.state)
+}
+
+/// Whether a sender's next new segment is behind the number recorded, where Flow
+/// Control is used: 128 and more past the start lets none be sent (document 02, A5).
+fn is_allowed(record: &Channel) -> bool {
+    let window = &record.window;
+    let past = record.pulse.flow.recorded.wrapping_sub(window.start);
+    record.limits.flow == 0 || past < 128 && window.flight <= past.into()
+}
+
+/// Whether a sender has new Data within its window.
+fn has_new_data(record: &Channel) -> bool {
+    let Channel { limits, window, .. } = record;
+    window.flight < window.ahead.min(limits.window)
+}
+
+/// Whether a sender has new Data within its window that the number recorded does not
+/// allow.
+pub fn is_held_back(record: &Channel) -> bool {
+    let sends = record.addresses.direction == direction::SENDS;
+    let is_open = record.phase.state == state::OPEN;
+    sends && is_open && has_new_data(record) && !is_allowed(record)
+}
+
+/// Whether a record has a packet of this rank ready: of a receiver its Heartbeat and
+/// its Flow Control packet alone count.
 pub fn is_ready(record: &Channel, rank: usize) -> bool {
     let Channel {
         limits,
@@ -53,11 +80,11 @@ pub fn is_ready(record: &Channel, rank: usize) -> bool {
         window,
         ..
     } = record;
-    let is_ready = |one: &Lone| [lone::READY, lone::AGAIN].contains(&one.state);
+    let sends = record.addresses.direction == direction::SENDS;
     if (rank, phase.state) == (0, state::OPEN) {
-        return is_ready(&pulse.beat);
+        return is_waiting(&pulse.beat) || !sends && is_waiting(&pulse.flow.packet);
     }
-    if record.addresses.direction != direction::SENDS {
+    if !sends {
         return false;
     }
     let waits_again = |ahead| {
@@ -65,9 +92,9 @@ pub fn is_ready(record: &Channel, rank: usize) -> bool {
         record.acked[place] == 0 && record.timers.left[place] == 0
     };
     match (rank, phase.state) {
-        (0, state::ENABLED | state::CLOSING) => is_ready(&phase.control),
+        (0, state::ENABLED | state::CLOSING) => is_waiting(&phase.control),
         (1, state::OPEN) => (0..window.flight).any(waits_again),
-        (2, state::OPEN) => window.flight < window.ahead.min(limits.window),
+        (2, state::OPEN) => has_new_data(record) && is_allowed(record),
         _ => false,
     }
 }

@@ -4,11 +4,12 @@
 //! the records as they are decide who stands in a line and who is served.
 
 use link::Noise;
-use proved::record::{Addresses, Channel, Lone, Pulse};
+use proved::record::{Addresses, Channel, Flow, Lone, Pulse};
 use proved::Said;
 
 use crate::call::{unlawful, Call};
 use crate::condition::{are_lines, is_lawful};
+use crate::flows::{check_flows, highest};
 use crate::found::check_found;
 use crate::lines::{after, next, other_lines};
 use crate::pulses::check_pulses;
@@ -19,10 +20,13 @@ use crate::twin::Twin;
 /// A case of [`overwrite_and_call`].
 pub const ANOTHER_HEARTBEAT: &str = "overwritten: a Heartbeat that no call left there";
 
+/// And another.
+pub const ANOTHER_FLOW: &str = "overwritten: Flow Control that no call left there";
+
 /// A field of a record, set to a number as far as its type holds it.
 type Field = fn(&mut Channel, u64);
 
-const FIELDS: [Field; 33] = [
+const FIELDS: [Field; 41] = [
     |record, number| record.addresses.direction = number as u8,
     |record, number| record.addresses.remote_prefix.length = number as u8,
     |record, number| record.addresses.own_prefix.length = number as u8,
@@ -36,6 +40,7 @@ const FIELDS: [Field; 33] = [
     |record, number| record.limits.closing = number as u16,
     |record, number| record.limits.retries = number as u16,
     |record, number| record.limits.interval = number as u16,
+    |record, number| record.limits.flow = number as u16,
     |record, number| record.phase.state = number as u8,
     |record, number| record.phase.reason = number as u8,
     |record, number| record.phase.kept = number as u8,
@@ -47,6 +52,13 @@ const FIELDS: [Field; 33] = [
     |record, number| record.pulse.beat.state = number as u8,
     |record, number| record.pulse.beat.timer = number as u16,
     |record, number| record.pulse.beat.tries = number as u16,
+    |record, number| record.pulse.flow.packet.state = number as u8,
+    |record, number| record.pulse.flow.packet.timer = number as u16,
+    |record, number| record.pulse.flow.packet.tries = number as u16,
+    |record, number| record.pulse.flow.number = number as u8,
+    |record, number| record.pulse.flow.stated = number as u8,
+    |record, number| record.pulse.flow.last = number as u8,
+    |record, number| record.pulse.flow.recorded = number as u8,
     |record, number| record.window.start = number as u8,
     |record, number| record.window.place = number as usize,
     |record, number| record.window.behind = number as usize,
@@ -106,6 +118,9 @@ pub fn overwrite_and_call(twin: &mut Twin, noise: &mut Noise, tally: &mut Tally)
     } else if noise.one_in(4) {
         overwrite_heartbeat(&mut twin.table[index], noise);
         tally.case(ANOTHER_HEARTBEAT);
+    } else if noise.one_in(3) {
+        overwrite_flow(&mut twin.table[index], noise);
+        tally.case(ANOTHER_FLOW);
     } else {
         (0..1 + noise.below(2)).for_each(|_| overwrite(twin, noise));
     }
@@ -141,6 +156,25 @@ fn overwrite_heartbeat(record: &mut Channel, noise: &mut Noise) {
             timer: noise.one_of(&[0, 1, 2, 65_535]),
             tries: noise.one_of(&[0, 1, 2, 65_535]),
         },
+        ..record.pulse
+    };
+}
+
+/// Flow Control such as a record may have, but no call left there: used or not.
+fn overwrite_flow(record: &mut Channel, noise: &mut Noise) {
+    let near = highest(record).wrapping_add(noise.below(8) as u8);
+    let any = |noise: &mut Noise| if noise.one_in(3) { noise.octet() } else { near };
+    record.limits.flow = noise.below(2) as u16;
+    record.pulse.flow = Flow {
+        packet: Lone {
+            state: noise.below(4) as u8,
+            timer: noise.one_of(&[0, 1, 2, 65_535]),
+            tries: noise.one_of(&[0, 1, 2, 65_535]),
+        },
+        number: any(noise),
+        stated: any(noise),
+        last: any(noise),
+        recorded: any(noise),
     };
 }
 
@@ -184,7 +218,7 @@ fn overwrite_lines(twin: &mut Twin, number: u64, noise: &mut Noise) {
 }
 
 /// The order after a call that was not answered 13: whose packet was next, and
-/// the lines. And the Heartbeats.
+/// the lines. And the Heartbeats, and Flow Control.
 fn check_order(twin: &Twin, call: &Call, said: Said, before: &Kept, tally: &mut Tally) {
     let (table, _, _, lines) = before;
     let chosen = match call {
@@ -200,6 +234,7 @@ fn check_order(twin: &Twin, call: &Call, said: Said, before: &Kept, tally: &mut 
     let expected = after(call, said, lines, &twin.table, out);
     assert_eq!(twin.lines, expected, "{call:?}: {said:?}");
     check_pulses(call, said, out, table, &twin.table);
+    check_flows(call, said, out, table, &twin.table);
     if lines != twin.peer.lines() {
         tally.case("13: overwritten lines are sound, and count");
     }

@@ -7,7 +7,7 @@ use proved::record::{direction, lone, reason, state, Channel, Lone, Pulse, Timer
 use proved::Said;
 
 use crate::call::Call;
-use crate::lines::Next;
+use crate::lines::{is_waiting, Next};
 use crate::tally::Tally;
 use crate::twin::Twin;
 
@@ -54,27 +54,28 @@ pub fn check_pulses(
             (true, true) if said.index != index => old.pulse,
             (true, true) => stepped(call, said, out, old),
         };
+        // Flow Control, which lies there too, is looked at in `flows`.
+        let flow = new.pulse.flow;
+        let expected = Pulse { flow, ..expected };
         assert_eq!(new.pulse, expected, "{index}: {call:?}, {said:?}");
     }
 }
 
-/// In a tick in OPEN Data's timers come first, then the Heartbeat's: one of them that
-/// ends with no resend left closes the channel, for its reason, and nothing else does.
+/// In a tick in OPEN the timers of Data, or of a receiver's Flow Control packet, come
+/// first, then the Heartbeat's: one of them that ends with no resend left closes the
+/// channel, for its reason, and nothing else does.
 fn check_end(index: usize, old: &Channel, new: &Channel) {
     let ends = |left: u16, tries: u16| left == 1 && tries == 0;
     let Timers { left, tries, .. } = &old.timers;
-    let is_data = old.addresses.direction == direction::SENDS
-        && left
+    let is_dead = |one: Lone| one.state == lone::OUT && ends(one.timer.max(1), one.tries);
+    let is_first = match old.addresses.direction {
+        direction::SENDS => left
             .iter()
             .zip(tries)
-            .any(|(&left, &tries)| ends(left, tries));
-    let Lone {
-        state,
-        timer,
-        tries,
-    } = old.pulse.beat;
-    let is_beat = state == lone::OUT && ends(timer.max(1), tries);
-    let (state, reason) = match (is_data, is_beat) {
+            .any(|(&left, &tries)| ends(left, tries)),
+        _ => is_dead(old.pulse.flow.packet),
+    };
+    let (state, reason) = match (is_first, is_dead(old.pulse.beat)) {
         (true, _) => (state::CLOSED, reason::RETRIES),
         (false, true) => (state::CLOSED, reason::UNANSWERED),
         (false, false) => (state::OPEN, old.phase.reason),
@@ -90,18 +91,17 @@ fn check_end(index: usize, old: &Channel, new: &Channel) {
 fn started(record: &Channel) -> Pulse {
     Pulse {
         left: record.limits.interval,
-        beat: Lone::blank(),
+        ..Pulse::default()
     }
 }
 
-/// A call of its own in OPEN: Data or an Ack that goes out restarts the interval, the
-/// Heartbeat that goes out starts its timer, and its Ack ends it.
+/// A call of its own in OPEN: Data, Flow Control or an Ack that goes out restarts the
+/// interval, the Heartbeat that goes out starts its timer, and its Ack ends it.
 fn stepped(call: &Call, said: Said, out: Option<Next>, record: &Channel) -> Pulse {
     let Channel { limits, pulse, .. } = record;
     let is_heartbeat_ack = kind_of(call) == Some(kind::HEARTBEAT_ACK);
     match (call, said.number, out.map(|next| next.rank)) {
-        (Call::NextPacket, 0, Some(0)) => Pulse {
-            left: pulse.left,
+        (Call::NextPacket, 0, Some(0)) if is_waiting(&pulse.beat) => Pulse {
             beat: Lone {
                 state: lone::OUT,
                 timer: limits.timeout,
@@ -110,6 +110,7 @@ fn stepped(call: &Call, said: Said, out: Option<Next>, record: &Channel) -> Puls
                     _ => limits.retries,
                 },
             },
+            ..*pulse
         },
         (Call::NextPacket, 0, Some(_)) => Pulse {
             left: limits.interval,
@@ -129,7 +130,7 @@ fn stepped(call: &Call, said: Said, out: Option<Next>, record: &Channel) -> Puls
 
 /// A tick in OPEN that the channel survives: the Heartbeat's timer, then the interval.
 fn ticked(record: &Channel) -> Pulse {
-    let Pulse { left, beat } = record.pulse;
+    let Pulse { left, beat, flow } = record.pulse;
     let beat = match (beat.state, beat.timer) {
         (lone::OUT, 0 | 1) => Lone {
             state: lone::AGAIN,
@@ -143,7 +144,7 @@ fn ticked(record: &Channel) -> Pulse {
         _ => beat,
     };
     match (left, beat.state) {
-        (0, _) => Pulse { left, beat },
+        (0, _) => Pulse { left, beat, flow },
         (1, lone::NONE) => Pulse {
             left: record.limits.interval,
             beat: Lone {
@@ -151,14 +152,17 @@ fn ticked(record: &Channel) -> Pulse {
                 timer: 0,
                 tries: 0,
             },
+            flow,
         },
         (1, _) => Pulse {
             left: record.limits.interval,
             beat,
+            flow,
         },
         _ => Pulse {
             left: left - 1,
             beat,
+            flow,
         },
     }
 }

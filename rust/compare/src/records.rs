@@ -4,7 +4,7 @@
 use peer::settings::Direction;
 use peer::sight::{CourseSight, SegmentSight, Sight};
 use peer::state::{Reason, State};
-use proved::record::{Channel, Lone, Settings, Window};
+use proved::record::{Channel, Flow, Lone, Pulse, Settings, Window};
 
 /// The number that the proved record has for a state.
 pub fn state_number(state: State) -> u8 {
@@ -52,16 +52,40 @@ pub fn assert_same(record: &Channel, settings: &Settings, direction: Direction, 
         sight.close_timer.unwrap_or(0)
     );
     assert_eq!(record.phase.control, lone(sight.control, record));
-    assert_eq!(
-        u32::from(record.pulse.left),
-        sight.heartbeat_timer,
-        "the ticks until a Heartbeat is made"
-    );
-    assert_eq!(record.pulse.beat, lone(sight.heartbeat, record));
+    assert_pulse(record, sends, sight);
     if sends && sight.start.is_some() {
         assert_courses(record, &sight.held);
     } else if sight.start.is_some() {
         assert_eq!(record.phase.accepted, u8::from(sight.accepted));
+    }
+}
+
+/// The Heartbeat, and Flow Control; out of OPEN there is neither. The last number means
+/// nothing at a sender, whose peer has none.
+#[track_caller]
+fn assert_pulse(record: &Channel, sends: bool, sight: &Sight) {
+    let pulse = &record.pulse;
+    assert_eq!(
+        u32::from(pulse.left),
+        sight.heartbeat_timer,
+        "the ticks until a Heartbeat is made"
+    );
+    assert_eq!(pulse.beat, lone(sight.heartbeat, record));
+    let first = sight.flow_first;
+    let flow = Flow {
+        packet: lone(sight.flow_control, record),
+        number: first.map_or(0, |first| first.number),
+        stated: first.map_or(0, |first| first.stated),
+        last: if sends {
+            pulse.flow.last
+        } else {
+            sight.last_number
+        },
+        recorded: sight.recorded,
+    };
+    assert_eq!(pulse.flow, flow);
+    if sight.start.is_none() {
+        assert_eq!(*pulse, Pulse::default(), "out of OPEN");
     }
 }
 
@@ -118,7 +142,7 @@ fn assert_marks(record: &Channel, held: &[SegmentSight]) {
     assert_eq!(record.marks, marks);
 }
 
-/// A packet sent alone, Control or a Heartbeat: 0 none, 1 ready, 2 handed out, 3
+/// A packet sent alone, Control, a Heartbeat or Flow Control: 0 none, 1 ready, 2 handed out, 3
 /// ready again.
 fn lone(course: Option<CourseSight>, record: &Channel) -> Lone {
     let Some(course) = course else {

@@ -7,9 +7,15 @@ use peer::settings::{Direction, Settings};
 use peer::sight::Sight;
 use peer::state::State;
 
-use crate::damage::{announced, repair};
 use crate::packets::assemble;
 use crate::twin::Twin;
+
+mod clauses;
+mod stating;
+
+use stating::{flow_control, is_flow_turn, stated};
+
+pub use clauses::{Clause, CLAUSES};
 
 /// A packet from the other end of this record: one that goes on with the
 /// exchange, or, so many times in a hundred, one that may break it.
@@ -20,15 +26,17 @@ pub fn from_other_end(twin: &Twin, index: usize, breaking: usize, noise: &mut No
     let breaks = noise.percent(breaking);
     let (kind, number) = match (settings.direction, breaks) {
         _ if noise.one_in(10) => heartbeat(&sight, breaks, noise),
+        _ if is_flow_turn(settings, &sight, noise) => flow_control(settings, &sight, breaks, noise),
         (Direction::Receiving, false) => forward(state, settings, &sight, noise),
         (Direction::Receiving, true) => any_forward(settings, &sight, noise),
         (Direction::Sending, false) => ack(state, &sight, noise),
         (Direction::Sending, true) => any_ack(&sight, noise),
     };
-    let (flags, length) = if kind == kind::DATA {
-        shape(settings, &sight, breaks, noise)
+    let (flags, payload) = if kind == kind::DATA {
+        let (flags, length) = shape(settings, &sight, breaks, noise);
+        (flags, noise.octets(length))
     } else {
-        (flags::WHOLE, 0)
+        (flags::WHOLE, stated(kind, settings, &sight, breaks, noise))
     };
     let fields = Fields {
         destination: twin.node.address,
@@ -42,7 +50,7 @@ pub fn from_other_end(twin: &Twin, index: usize, breaking: usize, noise: &mut No
         ..Fields::default()
     };
     let prefix = settings.remote_prefix.said();
-    assemble(&fields, prefix, &noise.octets(length))
+    assemble(&fields, prefix, &payload)
 }
 
 /// The window start's number; 1 while there is none.
@@ -118,7 +126,11 @@ fn ack(state: State, sight: &Sight, noise: &mut Noise) -> (u8, u8) {
     }
 }
 
+/// Any Ack; out of OPEN often the one that is waited for.
 fn any_ack(sight: &Sight, noise: &mut Noise) -> (u8, u8) {
+    if sight.control.is_some() && noise.one_in(2) {
+        return (kind::CONTROL_ACK, 0);
+    }
     let near = start_of(sight).wrapping_add(noise.below(20) as u8);
     let number = noise.one_of(&[near, near, near.wrapping_sub(18), 0]);
     (noise.one_of(&[kind::DATA_ACK, kind::CONTROL_ACK]), number)
@@ -141,111 +153,4 @@ fn shape(settings: &Settings, sight: &Sight, breaks: bool, noise: &mut Noise) ->
     // A segment that does not end its unit is not empty (document 02, A8).
     let least = usize::from(!ends);
     (flags, noise.below(most + 1).max(least))
-}
-
-/// A clause that a packet breaks, and its name.
-pub type Clause = (&'static str, fn(&mut Vec<u8>, &mut Noise));
-
-/// Every clause of the tests 1, 2, 4, 3 and 14 that a packet alone can break.
-pub const CLAUSES: [Clause; 17] = [
-    ("clause: under 12 octets", |packet, noise| {
-        packet.truncate(noise.below(12));
-    }),
-    ("clause: an octet more", |packet, noise| {
-        packet.push(noise.octet());
-        repair(packet);
-    }),
-    ("clause: the check sum", |packet, noise| {
-        let place = noise.below(packet.len());
-        packet[place] ^= 1 << noise.below(8);
-    }),
-    ("clause: a secondary header", |packet, _| {
-        set(packet, 2, |one| one | 0x20)
-    }),
-    ("clause: a prefix not as announced", |packet, noise| {
-        let other = 1 + noise.below(15) as u8;
-        set(packet, 8, |one| one ^ other);
-    }),
-    ("clause: a type the base lacks", |packet, _| {
-        set(packet, 2, |one| one & !7 | 6);
-    }),
-    ("clause: the version", |packet, _| {
-        set(packet, 2, |one| one ^ 0x80)
-    }),
-    (
-        "clause: flags of another type than Data",
-        |packet, noise| {
-            let flags = noise.below(3) as u8;
-            set_payload(packet, &[]);
-            set(packet, 2, |one| one & !0x1F | flags << 3 | 7);
-        },
-    ),
-    ("clause: reserved bits", |packet, _| {
-        set(packet, 8, |one| one | 0x80)
-    }),
-    ("clause: an empty middle", |packet, noise| {
-        let flags = noise.below(2) as u8;
-        set_payload(packet, &[]);
-        set(packet, 2, |one| one & !0x1F | flags << 3);
-    }),
-    ("clause: an Ack with payload", |packet, noise| {
-        set_payload(packet, &[noise.octet()]);
-        set(packet, 2, |one| one | 0x1F);
-    }),
-    (
-        "clause: flags of a Heartbeat or its Ack",
-        |packet, noise| {
-            let (flags, kind) = (noise.below(3) as u8, 4 + noise.below(2) as u8);
-            set_payload(packet, &[]);
-            set(packet, 2, |one| one & !0x1F | flags << 3 | kind);
-        },
-    ),
-    (
-        "clause: a Heartbeat or its Ack with payload",
-        |packet, noise| {
-            let kind = 4 + noise.below(2) as u8;
-            set_payload(packet, &[noise.octet()]);
-            set(packet, 2, |one| one & !7 | 0x18 | kind);
-        },
-    ),
-    ("clause: the destination", |packet, _| {
-        set(packet, 0, |one| one ^ 1)
-    }),
-    ("clause: the protocol ID", |packet, _| {
-        set(packet, 1, |one| one ^ 1)
-    }),
-    ("clause: channel or source unknown", |packet, noise| {
-        let place = noise.one_of(&[5, 6, 9 + announced(packet)]);
-        set(packet, place, |one| one ^ 0x10);
-    }),
-    ("clause: another prefix", |packet, noise| {
-        let other = other_prefix(&packet[9..9 + announced(packet)], noise);
-        packet.splice(9..9 + announced(packet), other.iter().copied());
-        set(packet, 8, |one| one & 0xF0 | other.len() as u8);
-    }),
-];
-
-/// A prefix like this one but for an octet, or for its length, or any other.
-fn other_prefix(prefix: &[u8], noise: &mut Noise) -> Vec<u8> {
-    let mut other = prefix.to_vec();
-    match noise.below(4) {
-        0 if !prefix.is_empty() => other[noise.below(prefix.len())] ^= 1,
-        1 if !prefix.is_empty() => other.truncate(prefix.len() - 1),
-        2 if prefix.len() < 15 => other.push(0),
-        _ => other = noise.prefix(),
-    }
-    other
-}
-
-/// Gives a packet another payload, of under 256 octets.
-fn set_payload(packet: &mut Vec<u8>, payload: &[u8]) {
-    let start = 10 + announced(packet);
-    packet.splice(start..packet.len() - 2, payload.iter().copied());
-    packet[3..5].copy_from_slice(&[0, payload.len() as u8]);
-}
-
-/// Changes an octet of a packet and makes the check sum fit.
-fn set(packet: &mut [u8], place: usize, change: impl FnOnce(u8) -> u8) {
-    packet[place] = change(packet[place]);
-    repair(packet);
 }

@@ -118,6 +118,7 @@ pub fn limits(size: Size, noise: &mut Noise) -> Settings {
         close_timeout: ticks(noise),
         retries: noise.one_of(&[0, 1, 2, 6, 6, 20, 255]),
         interval: interval(noise),
+        flow: noise.below(2) as u32,
     }
 }
 
@@ -136,8 +137,8 @@ fn ticks(noise: &mut Noise) -> u32 {
     }
 }
 
-/// The other end's settings: mostly its k, P and M, for its own slots, and an
-/// interval of its own.
+/// The other end's settings: mostly its k, P, M and Flow Control, for its own slots,
+/// and an interval of its own.
 fn other_end(settings: Settings, noise: &mut Noise) -> Settings {
     let Settings {
         window,
@@ -156,6 +157,7 @@ fn other_end(settings: Settings, noise: &mut Noise) -> Settings {
         0 => other.most_payload = 1 + noise.below(most_payload as usize) as u32,
         1 => other.most_segments = 1 + noise.below(slots as usize) as u32,
         2 => other.window = 1,
+        3 => other.flow = 1 - other.flow,
         _ => {}
     }
     other

@@ -10,8 +10,9 @@ use std::fmt;
 /// passes the tests 11, 1, 2, 4 and the first 3, and so has a kind that counts.
 /// Data alone can find the slots full or have a payload over P; an Ack alone
 /// is ignored; a receive end alone goes inactive by a packet or answers 15. 11 comes
-/// again where a reply is due, for one with a prefix (document 02, A7).
-pub const POSSIBLE: [(&str, &[u32]); 18] = [
+/// again where a reply is due, for one with a prefix (document 02, A7) or one that
+/// states a number (A5); 3 for what that asks for or forbids.
+pub const POSSIBLE: [(&str, &[u32]); 20] = [
     ("settings", &[0, 13]),
     ("open", &[0, 5, 10, 13, 14]),
     ("close", &[0, 5, 13, 14]),
@@ -23,12 +24,14 @@ pub const POSSIBLE: [(&str, &[u32]); 18] = [
     ("tick", &[0, 9, 13]),
     ("arrival", &[0, 1, 2, 3, 4, 5, 8, 9, 11, 13, 14, 15, 16]),
     ("read Data", &[0, 3, 5, 8, 9, 11, 14, 15]),
-    ("read Data Ack", &[0, 5, 14, 16]),
+    ("read Data Ack", &[0, 3, 5, 14, 16]),
     ("read Open", &[0, 5, 9, 11, 14, 15]),
     ("read Close", &[0, 5, 9, 11, 14, 15]),
     ("read Heartbeat", &[0, 5, 11, 14]),
     ("read Heartbeat Ack", &[0, 5, 14, 16]),
-    ("read Control Ack", &[0, 5, 14, 16]),
+    ("read Flow Control", &[0, 3, 5, 11, 14]),
+    ("read Flow Control Ack", &[0, 3, 5, 14, 16]),
+    ("read Control Ack", &[0, 3, 5, 14, 16]),
     ("not read", &[1, 2, 3, 4, 11, 13]),
 ];
 
@@ -99,12 +102,12 @@ impl Tally {
 /// pair cannot occur.
 impl fmt::Display for Tally {
     fn fmt(&self, out: &mut fmt::Formatter) -> fmt::Result {
-        write!(out, "{:<19}", "answer")?;
+        write!(out, "{:<22}", "answer")?;
         (0..NUMBERS).try_for_each(|number| write!(out, "{number:>8}"))?;
         writeln!(out)?;
         for (line, possible) in POSSIBLE {
             let counts = self.lines.get(line).copied().unwrap_or_default();
-            write!(out, "{line:<19}")?;
+            write!(out, "{line:<22}")?;
             for (number, count) in (0..).zip(counts) {
                 if count == 0 && !possible.contains(&number) {
                     write!(out, "{:>8}", "-")?;

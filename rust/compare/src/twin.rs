@@ -97,11 +97,11 @@ impl Twin {
         self.settings[index].direction
     }
 
-    /// The octets of the prefix that a reply to this packet would have: none if
-    /// none is due, or no record is found for it.
-    pub fn reply_prefix(&self, packet: &[u8]) -> usize {
+    /// The octets that a reply to this packet would have: 12 if none is due, or no
+    /// record is found for it.
+    pub fn reply_length(&self, packet: &[u8]) -> usize {
         let Ok(reading) = peer::packet::read(packet) else {
-            return 0;
+            return 12;
         };
         let Fields {
             channel,
@@ -109,16 +109,19 @@ impl Twin {
             kind,
             ..
         } = reading.fields;
-        let heartbeat = kind == kind::HEARTBEAT;
-        if !heartbeat && ![kind::DATA, kind::OPEN, kind::CLOSE].contains(&kind) {
-            return 0;
-        }
+        let (end, states) = match kind {
+            kind::DATA | kind::OPEN | kind::CLOSE => (Some(Direction::Receiving), true),
+            kind::FLOW_CONTROL if reading.length > 0 => (Some(Direction::Sending), false),
+            kind::HEARTBEAT => (None, false),
+            _ => return 12,
+        };
         let found = self.settings.iter().find(|one| {
-            (heartbeat || one.direction == Direction::Receiving)
+            end.is_none_or(|end| end == one.direction)
                 && (one.channel, one.remote) == (channel, source)
                 && one.remote_prefix.said() == reading.prefix_of(packet)
         });
-        found.map_or(0, |one| one.own_prefix.said().len())
+        let stated = |one: &Settings| usize::from(states && one.flow == 1);
+        12 + found.map_or(0, |one| one.own_prefix.said().len() + stated(one))
     }
 
     /// What the proved library is lent, with a buffer of its own.
@@ -154,6 +157,7 @@ impl Twin {
         self.note_pulses(&call, said, tally);
         assert!(by_proved == by_peer, "the octets written differ");
         let octets = by_proved[lent][..said.written()].to_vec();
+        self.note_flows(&call, said, &octets, room, tally);
         (self.by_proved, self.by_peer) = (by_proved, by_peer);
         Outcome { said, octets }
     }

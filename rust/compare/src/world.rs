@@ -102,7 +102,7 @@ impl World {
         let outcome = self.twins[node].call(call, room, &mut self.tally);
         self.idle[node] = match (call, outcome.said.number) {
             (Call::NextPacket, number) => number == 12,
-            (Call::Take(_) | Call::Reclaim(_) | Call::WouldTransfer(..), _) => self.idle[node],
+            (Call::Reclaim(_) | Call::WouldTransfer(..), _) => self.idle[node],
             (_, 0) => false,
             _ => self.idle[node],
         };
@@ -163,7 +163,7 @@ impl World {
 
     /// A packet arrives; what is written goes back.
     fn arrive(&mut self, node: usize, packet: &[u8]) {
-        let room = self.room(12 + self.twins[node].reply_prefix(packet));
+        let room = self.room(self.twins[node].reply_length(packet));
         let outcome = self.call(node, Call::Arrival(packet), room);
         self.note_arrival(node, packet, room, &outcome);
         self.send(node, &outcome.octets);

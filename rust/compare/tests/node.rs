@@ -4,6 +4,7 @@
 use std::thread;
 
 use compare::bounds::{check_bounds, ACCEPTED, COUNTS, OTHER_LINES, REFUSED, STORAGE};
+use compare::flows::FLOWS;
 use compare::order::ORDERS;
 use compare::pulses::HEARTBEATS;
 use compare::sizes::WRONGS;
@@ -123,7 +124,15 @@ fn calls_wanted() -> u64 {
 /// Every case that some list names.
 fn all_cases() -> Vec<&'static str> {
     let bounds = [&REFUSED[..], &ACCEPTED, &STORAGE].concat();
-    let mut cases = [&CASES[..], &PREFIXES, &ORDERS, &WRITTEN, &HEARTBEATS].concat();
+    let mut cases = [
+        &CASES[..],
+        &PREFIXES,
+        &ORDERS,
+        &WRITTEN,
+        &HEARTBEATS,
+        &FLOWS,
+    ]
+    .concat();
     cases.extend(bounds.iter().map(|(name, _)| *name));
     cases.extend(COUNTS.map(|(name, _, _)| name));
     cases.push(OTHER_LINES);

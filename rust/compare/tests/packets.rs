@@ -165,6 +165,34 @@ fn every_packet_control_with_one_octet() {
     }
 }
 
+/// Which types may have a payload, and how much: those of document 02, A5, one octet.
+#[test]
+fn every_type_with_few_octets() {
+    let noise = &mut Noise::new(0x5057_1E09);
+    for (kind, length) in (0..8).flat_map(|kind| (0..4).map(move |length| (kind, length))) {
+        let most = match kind {
+            kind::DATA => 3,
+            kind::DATA_ACK | kind::CONTROL_ACK | kind::FLOW_CONTROL => 1,
+            _ => 0,
+        };
+        let answer = if length <= most { 0 } else { 3 };
+        let fields = Fields {
+            kind,
+            ..data(flags::WHOLE)
+        };
+        let (prefix, payload) = (noise.prefix(), noise.octets(length));
+        let packet = assemble(&fields, &prefix, &payload);
+        assert_eq!(check::reading(&packet), answer, "type {kind}, {length}");
+        let request = Request {
+            fields,
+            room: 12 + prefix.len() + length,
+            prefix,
+            payload,
+        };
+        assert_eq!(check::writing(&request, noise), answer);
+    }
+}
+
 #[test]
 fn every_value_of_each_subfield_asked_of_the_writer() {
     let noise = &mut Noise::new(0x5057_1E04);
@@ -223,10 +251,10 @@ fn the_longest_payloads() {
 fn what_the_proved_writer_writes_the_proved_reader_reads() {
     let noise = &mut Noise::new(0x5057_1E06);
     for _ in 0..5_000 {
-        let fields = check::to_proved(&Faults::default().fields(Reach::Bits, noise));
-        let least = usize::from(fields.flags < flags::LAST);
-        let about = noise.below(400).max(least);
-        let length = if fields.kind == kind::DATA { about } else { 0 };
+        let sound = Faults::default();
+        let fields = sound.fields(Reach::Bits, noise);
+        let length = sound.payload_length(&fields, noise.below(400));
+        let fields = check::to_proved(&fields);
         let (prefix, payload) = (noise.prefix(), noise.octets(length));
         let whole = 12 + prefix.len() + length;
         let room = whole + noise.below(9);

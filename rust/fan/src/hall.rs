@@ -2,19 +2,17 @@
 //! link between them.
 
 use crate::account::Seen;
+use crate::ends::{arrival, handed_out};
 use crate::events::event;
 use crate::link::Link;
 use crate::options::Options;
-use proved::{Answer, NodeTable, Outcome, State};
+use proved::{NodeTable, Outcome, State};
 
 /// Ticks from one publication to the next.
 const PACE: usize = 5;
 
 /// Ticks from one time that the station looks for units to the next.
 const LOOKS: usize = 4;
-
-/// Room for any packet and any unit of these settings.
-const ROOM: usize = 64;
 
 pub struct Hall<'a> {
     pub options: Options,
@@ -45,7 +43,7 @@ impl Hall<'_> {
             self.tick();
         }
         // What the station would take if it were asked once more.
-        self.seen.waiting = units(|out| self.station.take(0, out));
+        self.seen.waiting = handed_out(|out| self.station.take(0, out));
     }
 
     fn is_over(&self) -> bool {
@@ -86,21 +84,19 @@ impl Hall<'_> {
     }
 
     fn host_sends(&mut self) {
-        let mut out = [0; ROOM];
-        while let Outcome::Done { length, .. } = self.host.next_packet(&mut out).outcome {
-            self.there.send(self.now, &out[..length]);
+        for packet in handed_out(|out| self.host.next_packet(out)) {
+            self.there.send(self.now, &packet);
         }
     }
 
     /// A silent station still files what comes; what it would reply is lost.
     fn station_hears(&mut self) {
         for packet in self.there.arriving(self.now) {
-            let mut reply = [0; 12];
-            let answer = self.station.arrival(&packet, &mut reply);
+            let (answer, reply) = arrival(&mut self.station, &packet);
             if let Outcome::Inactive(reason) = answer.outcome {
                 self.tell(format!("the station's channel is inactive ({reason})"));
             }
-            if answer.length() != 0 && !self.silent {
+            if !reply.is_empty() && !self.silent {
                 self.back.send(self.now, &reply);
             }
         }
@@ -111,7 +107,7 @@ impl Hall<'_> {
         if self.silent || !self.now.is_multiple_of(LOOKS) {
             return;
         }
-        let taken = units(|out| self.station.take(0, out));
+        let taken = handed_out(|out| self.station.take(0, out));
         if !taken.is_empty() {
             self.tell(format!("the station takes {}", names(&taken)));
         }
@@ -122,7 +118,7 @@ impl Hall<'_> {
         let before = self.host.state(0);
         let from = self.seen.confirmed;
         for packet in self.back.arriving(self.now) {
-            let answer = self.host.arrival(&packet, &mut [0; 12]);
+            let (answer, _) = arrival(&mut self.host, &packet);
             self.seen.confirmed += answer.confirmed();
         }
         if before == Some(State::Enabled) && self.host.state(0) == Some(State::Open) {
@@ -147,22 +143,12 @@ impl Hall<'_> {
             return;
         };
         self.tell(format!("the channel is inactive ({reason}), and CLOSED"));
-        let reclaimed = units(|out| self.host.reclaim(0, out));
+        let reclaimed = handed_out(|out| self.host.reclaim(0, out));
         if !reclaimed.is_empty() {
             self.tell(format!("the host reclaims {}", names(&reclaimed)));
         }
         self.seen.reclaimed.extend(reclaimed);
     }
-}
-
-/// Every unit that a call hands out.
-fn units(mut call: impl FnMut(&mut [u8]) -> Answer) -> Vec<Vec<u8>> {
-    let mut out = [0; ROOM];
-    let mut units = Vec::new();
-    while let Outcome::Done { length, .. } = call(&mut out).outcome {
-        units.push(out[..length].to_vec());
-    }
-    units
 }
 
 /// The numbers that these events begin with.

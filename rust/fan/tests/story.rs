@@ -20,6 +20,7 @@ fn every_event_is_accounted_for_whatever_the_link_does() {
             repeat: part(11, 50),
             reorder: part(13, 100),
             events: 1 + part(3, 40),
+            ..Options::default()
         };
         let (told, sound) = story(options);
         assert!(sound, "{options:?}\n{told}");
@@ -72,6 +73,7 @@ fn what_the_program_is_asked() {
     let asked = |words: &str| Options::of(words.split_whitespace().map(String::from));
     assert_eq!(asked(""), Ok(Options::default()));
     let options = Options {
+        slow: false,
         seed: 1,
         loss: 2,
         repeat: 3,

@@ -9,11 +9,11 @@ pub enum Refusal {
     Length,
     /// CRC wrong.
     Crc,
-    /// A header field unexpected that is not one of [`Refusal::NotInBase`], or
-    /// a payload where none may be.
+    /// A header field unexpected that is not one of [`Refusal::NotInBase`], a
+    /// payload where none may be, or none where one must be.
     Header,
-    /// Secondary header, Flow Control, which is lacking, or, of a packet to be
-    /// written, a type over 7 or a prefix over 15 octets.
+    /// Secondary header, or, of a packet to be written, a type over 7 or a prefix
+    /// over 15 octets.
     NotInBase,
     /// The state does not allow it, or the direction does not.
     State,

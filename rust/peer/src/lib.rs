@@ -16,6 +16,7 @@ pub mod answer;
 mod channel;
 mod course;
 pub mod crc;
+mod flow_control;
 mod heartbeat;
 pub mod lines;
 pub mod node;

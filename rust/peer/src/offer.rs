@@ -1,12 +1,15 @@
 //! What an end would hand out next, and its rank (document 01, Sending: "Each
-//! call for a packet hands out one"; document 02, A2 and A4).
+//! call for a packet hands out one"; document 02, A2, A4 and A5).
+
+use std::borrow::Cow;
 
 use crate::packet::{flags, kind};
 use crate::segment::{sequence_number, Segment};
 
 /// What a packet is handed out as. "A Heartbeat ranks with Control, after it in
 /// a channel", where the two never meet: Control is for ENABLED and CLOSING, a
-/// Heartbeat for OPEN (000, 4.4.4.4).
+/// Heartbeat for OPEN (000, 4.4.4.4). A Flow Control packet "ranks with Control, last
+/// in a channel": after the Heartbeat.
 #[derive(Clone, Copy, Debug, PartialEq, Eq)]
 pub(crate) enum Rank {
     Control,
@@ -20,12 +23,12 @@ impl Rank {
 }
 
 /// A packet that an end would hand out.
-#[derive(Clone, Copy, Debug, PartialEq, Eq)]
+#[derive(Clone, Debug, PartialEq, Eq)]
 pub(crate) struct Offer<'a> {
     pub(crate) kind: u8,
     pub(crate) flags: u8,
     pub(crate) number: u8,
-    pub(crate) payload: &'a [u8],
+    pub(crate) payload: Cow<'a, [u8]>,
 }
 
 impl<'a> Offer<'a> {
@@ -36,7 +39,17 @@ impl<'a> Offer<'a> {
             kind,
             flags: flags::WHOLE,
             number: 0,
-            payload: &[],
+            payload: Cow::Borrowed(&[]),
+        }
+    }
+
+    /// A Flow Control packet of this Sequence Number: the number stated is all its
+    /// payload, "one octet" (000, 4.2.4.4).
+    pub(crate) fn flow_control(number: u8, stated: u8) -> Offer<'a> {
+        Offer {
+            number,
+            payload: Cow::Owned(vec![stated]),
+            ..Offer::alone(kind::FLOW_CONTROL)
         }
     }
 
@@ -45,7 +58,7 @@ impl<'a> Offer<'a> {
             kind: kind::DATA,
             flags: segment.flags,
             number: sequence_number(segment.number),
-            payload: &segment.octets,
+            payload: Cow::Borrowed(&segment.octets),
         }
     }
 }

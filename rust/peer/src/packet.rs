@@ -38,7 +38,8 @@ pub mod kind {
     pub const HEARTBEAT: u8 = 4;
     /// Heartbeat Ack Packet (document 02, A2).
     pub const HEARTBEAT_ACK: u8 = 5;
-    /// Flow Control Packet or its Ack, not in the base.
+    /// Flow Control Packet or its Ack (document 02, A5). Which of them, its payload
+    /// tells: the packet has one, its Ack has none (000, 4.2.4.1).
     pub const FLOW_CONTROL: u8 = 6;
     /// Control Ack Packet.
     pub const CONTROL_ACK: u8 = 7;
@@ -166,16 +167,15 @@ fn test_crc(packet: &[u8]) -> Result<(), Refusal> {
     refuse_if(trailer != crc(body).to_be_bytes(), Refusal::Crc)
 }
 
-/// Test 4: what 000 has and this lacks: secondary headers and Flow Control. Every
-/// prefix that can be read is read (document 02, A7), and so is a Heartbeat (A2).
+/// Test 4: what 000 has and this lacks: secondary headers. Every prefix that can be
+/// read is read (document 02, A7), and so is every type that has a name (A2, A5).
 fn test_base(fields: &Fields) -> Result<(), Refusal> {
-    let lacking = fields.kind == kind::FLOW_CONTROL || fields.kind > kind::CONTROL_ACK;
+    let lacking = fields.kind > kind::CONTROL_ACK;
     refuse_if(fields.secondary != 0 || lacking, Refusal::NotInBase)
 }
 
-/// Test 3: the other header fields, the payload length among them. Only Data
-/// has a payload in the base (000, 4.2.4.1), or flags other than 11 (000,
-/// 4.2.3.4.4). Data with flags 01 or 00 has a payload (document 02, A8).
+/// Test 3: the other header fields, the payload length among them. Only Data has
+/// flags other than 11 (000, 4.2.3.4.4).
 fn test_header(fields: &Fields, payload: usize) -> Result<(), Refusal> {
     let data = fields.kind == kind::DATA;
     let flags_fit = if data {
@@ -183,16 +183,26 @@ fn test_header(fields: &Fields, payload: usize) -> Result<(), Refusal> {
     } else {
         fields.flags == flags::WHOLE
     };
-    let unfinished = [flags::FIRST, flags::CONTINUATION].contains(&fields.flags);
-    let payload_fits = if data {
-        payload <= MOST_PAYLOAD && !(unfinished && payload == 0)
-    } else {
-        payload == 0
-    };
     refuse_if(
-        fields.version != VERSION || !flags_fit || fields.reserved != 0 || !payload_fits,
+        fields.version != VERSION
+            || !flags_fit
+            || fields.reserved != 0
+            || !payload_fits(fields, payload),
         Refusal::Header,
     )
+}
+
+/// Whether a packet may have a payload of so many octets (000, 4.2.4.1). Data with
+/// flags 01 or 00 has one (document 02, A8). A Data Ack, a Control Ack and what
+/// belongs to Flow Control may have the one octet of the number stated (A5); whether
+/// they must is for their channel to judge.
+fn payload_fits(fields: &Fields, payload: usize) -> bool {
+    let unfinished = [flags::FIRST, flags::CONTINUATION].contains(&fields.flags);
+    match fields.kind {
+        kind::DATA => payload <= MOST_PAYLOAD && !(unfinished && payload == 0),
+        kind::DATA_ACK | kind::CONTROL_ACK | kind::FLOW_CONTROL => payload <= 1,
+        _ => payload == 0,
+    }
 }
 
 /// The fields of a packet of 12 + N octets or more (document 01, The packet).

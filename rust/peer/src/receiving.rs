@@ -3,8 +3,8 @@
 use std::collections::VecDeque;
 
 use crate::answer::{refuse_if, Refusal};
+use crate::flow_control::FlowControl;
 use crate::heartbeat::Heartbeat;
-use crate::offer::{Offer, Rank};
 use crate::packet::kind;
 use crate::segment::{rejoin, Segment};
 use crate::settings::Settings;
@@ -13,8 +13,10 @@ use crate::state::{Reason, State};
 
 use reception::{place, Place, Reception};
 
+mod handing_out;
 mod reception;
 mod seen;
+mod stating;
 #[cfg(test)]
 mod tests;
 
@@ -27,6 +29,7 @@ enum Phase {
     Open {
         reception: Reception,
         heartbeat: Heartbeat,
+        flow_control: FlowControl,
     },
     Closing {
         timer: u32,
@@ -92,11 +95,16 @@ impl ReceivingEnd {
         Ok(())
     }
 
-    /// Hands over the oldest complete unit. No state forbids it.
+    /// Hands over the oldest complete unit. No state forbids it. The slots that it
+    /// frees may change the number stated.
     pub(crate) fn take(&mut self, out: &mut [u8]) -> Result<usize, Refusal> {
         let oldest = self.complete.front().ok_or(Refusal::Nothing)?;
         let length = rejoin(oldest, out)?;
+        let before = self.stated();
         self.complete.pop_front();
+        if self.stated() != before {
+            self.make_flow_control();
+        }
         Ok(length)
     }
 
@@ -109,46 +117,33 @@ impl ReceivingEnd {
     }
 
     /// A tick; true if the channel went inactive in it, as it does when the
-    /// retries of a Heartbeat are used up (000, 4.5.3.7). The close timer "ends
-    /// and leads to CLOSED", which is not going inactive.
+    /// retries of a Flow Control packet or of a Heartbeat are used up (000, 4.5.3.7),
+    /// by the first before the other is looked at. The close timer "ends and leads to
+    /// CLOSED", which is not going inactive.
     pub(crate) fn tick(&mut self) -> bool {
-        let inactive = match &mut self.phase {
-            Phase::Closed(_) | Phase::Enabled => false,
-            Phase::Open { heartbeat, .. } => heartbeat.tick(self.settings.retries),
+        let retries = self.settings.retries;
+        let used_up = match &mut self.phase {
+            Phase::Closed(_) | Phase::Enabled => None,
+            Phase::Open {
+                heartbeat,
+                flow_control,
+                ..
+            } => match flow_control.tick(retries) {
+                true => Some(Reason::Retries),
+                false => heartbeat.tick(retries).then_some(Reason::Heartbeat),
+            },
             Phase::Closing { timer } => {
                 *timer -= 1;
                 if *timer == 0 {
                     self.phase = Phase::Closed(Reason::None);
                 }
-                false
+                None
             }
         };
-        if inactive {
-            self.go_inactive(Reason::Heartbeat);
+        if let Some(reason) = used_up {
+            self.go_inactive(reason);
         }
-        inactive
-    }
-
-    /// Whether a packet of this rank is ready. A receive end hands out Heartbeats
-    /// alone; its acks are written as their packets arrive.
-    pub(crate) fn is_ready(&self, rank: Rank) -> bool {
-        match &self.phase {
-            Phase::Open { heartbeat, .. } => rank == Rank::Control && heartbeat.is_ready(),
-            _ => false,
-        }
-    }
-
-    /// The packet of this rank that this end would hand out next, if any.
-    pub(crate) fn offer(&self, rank: Rank) -> Option<Offer<'_>> {
-        self.is_ready(rank).then(|| Offer::alone(kind::HEARTBEAT))
-    }
-
-    /// Notes that the packet of [`ReceivingEnd::offer`] was handed out.
-    pub(crate) fn hand_out(&mut self) {
-        let timeout = self.settings.timeout;
-        if let Some(heartbeat) = self.heartbeat() {
-            heartbeat.hand_out(timeout);
-        }
+        used_up.is_some()
     }
 
     /// An Open or a Close (000, 4.5.3.4 (2)). A number other than 0 is wrong
@@ -164,6 +159,7 @@ impl ReceivingEnd {
                 self.phase = Phase::Open {
                     reception: Reception::NEW,
                     heartbeat: Heartbeat::new(self.settings.interval),
+                    flow_control: FlowControl::default(),
                 };
                 Ok(Reaction::Accepted)
             }
@@ -212,12 +208,10 @@ impl ReceivingEnd {
 
     /// Files a new segment if there is room for it, and moves the start.
     fn accept(&mut self, segment: Segment, slots: &mut Slots) -> Result<Reaction, Refusal> {
-        let oldest_complete = self.complete.front().map(|unit| unit[0].number);
         let Phase::Open { reception, .. } = &mut self.phase else {
             return Err(Refusal::State);
         };
-        let oldest = oldest_complete.unwrap_or(reception.oldest());
-        let past = segment.number - oldest;
+        let past = segment.number - oldest_untaken(&self.complete, reception);
         refuse_if(past >= u64::from(self.settings.slots), Refusal::Full)?;
         slots.file(segment.number, &segment.octets);
         reception.hold(segment);
@@ -236,4 +230,10 @@ impl ReceivingEnd {
         self.phase = Phase::Closed(reason);
         Reaction::Inactive
     }
+}
+
+/// "the oldest segment not yet taken", in OPEN.
+fn oldest_untaken(complete: &VecDeque<Vec<Segment>>, reception: &Reception) -> u64 {
+    let waits = complete.front().map(|unit| unit[0].number);
+    waits.unwrap_or(reception.oldest())
 }

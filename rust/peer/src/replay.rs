@@ -68,7 +68,7 @@ fn answer(node: &mut Node, record: Record) -> u8 {
 
 /// The node of the replay: channel 0 transmits and is numbered 1; channel 1
 /// receives and "is then numbered 2" (document 02, A2), which changes nothing
-/// else there: neither makes a Heartbeat.
+/// else there: neither makes a Heartbeat, and neither uses Flow Control (A5).
 fn node() -> Node {
     let sending = Settings {
         direction: Direction::Sending,
@@ -84,6 +84,7 @@ fn node() -> Node {
         close_timeout: 4,
         retries: 2,
         interval: 0,
+        flow: 0,
     };
     let receiving = Settings {
         direction: Direction::Receiving,

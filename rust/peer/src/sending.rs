@@ -14,6 +14,7 @@ use crate::state::{Reason, State};
 
 use window::Window;
 
+mod recorded;
 mod seen;
 #[cfg(test)]
 mod tests;
@@ -142,13 +143,14 @@ impl SendingEnd {
     }
 
     /// A Control Ack (000, 4.4.3.3 and 4.4.3.5): it counts if it is "numbered
-    /// 0 and after the Open was handed out"; a Close's "by the same rule".
-    pub(crate) fn control_ack(&mut self, number: u8) -> Result<(), Refusal> {
+    /// 0 and after the Open was handed out"; a Close's "by the same rule". What the
+    /// one that leads to OPEN states is recorded.
+    pub(crate) fn control_ack(&mut self, number: u8, stated: Option<u8>) -> Result<(), Refusal> {
         let (course, next) = match &self.phase {
             Phase::Enabled { open, close_kept } if *close_kept => {
                 (open, Phase::Closing { close: Course::NEW })
             }
-            Phase::Enabled { open, .. } => (open, self.opened()),
+            Phase::Enabled { open, .. } => (open, self.opened(stated)),
             Phase::Closing { close } => (close, Phase::Closed(Reason::None)),
             Phase::Closed(_) | Phase::Open { .. } => return Err(Refusal::State),
         };
@@ -158,25 +160,37 @@ impl SendingEnd {
     }
 
     /// OPEN as it begins.
-    fn opened(&self) -> Phase {
+    fn opened(&self, stated: Option<u8>) -> Phase {
         Phase::Open {
-            window: Window::NEW,
+            window: Window::new(stated),
             heartbeat: Heartbeat::new(self.settings.interval),
         }
     }
 
     /// A Data Ack; gives how many units it confirmed. "A unit is confirmed
-    /// when the start has passed its last segment", so one beyond a gap is not.
-    pub(crate) fn data_ack(&mut self, number: u8) -> Result<usize, Refusal> {
+    /// when the start has passed its last segment", so one beyond a gap is not. One
+    /// that is ignored changes no record, so what it states is not recorded.
+    pub(crate) fn data_ack(&mut self, number: u8, stated: Option<u8>) -> Result<usize, Refusal> {
         let Phase::Open { window, .. } = &mut self.phase else {
             return Err(Refusal::State);
         };
         window.acknowledge(number)?;
+        window.record(stated, self.settings.window);
         let start = window.start();
         let is_passed = |unit: &&Vec<Segment>| unit.iter().all(|segment| segment.number < start);
         let confirmed = self.held.iter().take_while(is_passed).count();
         self.held.drain(..confirmed);
         Ok(confirmed)
+    }
+
+    /// A Flow Control packet (000, 4.4.4.6): it is acknowledged in OPEN, whatever it
+    /// states and whether that is recorded.
+    pub(crate) fn flow_control(&mut self, stated: Option<u8>) -> Result<(), Refusal> {
+        let Phase::Open { window, .. } = &mut self.phase else {
+            return Err(Refusal::State);
+        };
+        window.record(stated, self.settings.window);
+        Ok(())
     }
 
     /// The Heartbeat, in OPEN.

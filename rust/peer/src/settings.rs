@@ -88,6 +88,9 @@ pub struct Settings {
     /// The initial value of the Heartbeat timer of this end, to 65,535 ticks;
     /// 0 if it makes no Heartbeat (document 02, A2; 000, 4.4.4.7 and 4.5.3.6).
     pub interval: u32,
+    /// Whether the channel uses Flow Control: 0 if not, 1 if it does (document 02,
+    /// A5; 000, 4.4.4.6 and 4.5.3.5).
+    pub flow: u32,
 }
 
 impl Settings {
@@ -102,6 +105,7 @@ impl Settings {
             && (1..=65_535).contains(&self.close_timeout)
             && self.retries <= 255
             && self.interval <= 65_535
+            && self.flow <= 1
             && self.remote_prefix.in_range()
             && self.own_prefix.in_range()
     }
@@ -131,6 +135,11 @@ impl Settings {
         prefix: &[u8],
     ) -> bool {
         direction.is_none_or(|end| end == self.direction) && self.is_named(channel, remote, prefix)
+    }
+
+    /// Whether the channel uses Flow Control.
+    pub(crate) fn uses_flow_control(&self) -> bool {
+        self.flow == 1
     }
 
     /// The octets of memory that this channel needs: slots times P.

@@ -2,6 +2,7 @@
 //! held against another implementation. Looking changes nothing.
 
 use crate::course::Course;
+use crate::flow_control::FlowControl;
 use crate::heartbeat::Heartbeat;
 
 /// A packet that waits for its ack.
@@ -22,6 +23,15 @@ pub struct SegmentSight {
     pub flags: u8,
     /// At a transmit end in OPEN, while it is not acknowledged.
     pub course: Option<CourseSight>,
+}
+
+/// What a Flow Control packet was when it was first handed out.
+#[derive(Clone, Copy, Debug, PartialEq, Eq)]
+pub struct FlowSight {
+    /// Its Sequence Number.
+    pub number: u8,
+    /// The number that it stated.
+    pub stated: u8,
 }
 
 /// One record.
@@ -46,6 +56,16 @@ pub struct Sight {
     pub heartbeat_timer: u32,
     /// The Heartbeat that is ready or not acknowledged, in OPEN.
     pub heartbeat: Option<CourseSight>,
+    /// The Flow Control packet that is ready or not acknowledged, of a receive end
+    /// in OPEN.
+    pub flow_control: Option<CourseSight>,
+    /// What that was when it was first handed out, once it was.
+    pub flow_first: Option<FlowSight>,
+    /// The Sequence Number of the last packet that a receive end in OPEN has
+    /// transmitted, whether it uses Flow Control or not; else 0.
+    pub last_number: u8,
+    /// The number recorded, of a transmit end in OPEN that uses Flow Control; else 0.
+    pub recorded: u8,
 }
 
 impl Sight {
@@ -53,5 +73,15 @@ impl Sight {
     pub(crate) fn see(&mut self, heartbeat: &Heartbeat) {
         self.heartbeat_timer = heartbeat.timer();
         self.heartbeat = heartbeat.packet().map(Course::sight);
+    }
+
+    /// Adds the Flow Control packet, which a receive end has in OPEN.
+    pub(crate) fn see_flow_control(&mut self, flow_control: &FlowControl) {
+        self.flow_control = flow_control.packet().map(Course::sight);
+        self.flow_first = flow_control.first().map(|first| FlowSight {
+            number: first.number,
+            stated: first.stated,
+        });
+        self.last_number = flow_control.last();
     }
 }

@@ -41,6 +41,7 @@ pub(crate) const SENDING: Settings = Settings {
     close_timeout: 4,
     retries: 2,
     interval: 0,
+    flow: 0,
 };
 
 /// The settings of the replay's channel 1.
@@ -66,12 +67,24 @@ pub(crate) fn alone(kind: u8, number: u8) -> Vec<u8> {
 
 /// A packet without payload from the other end, for this channel number.
 pub(crate) fn packet_for(channel: u16, kind: u8, number: u8) -> Vec<u8> {
+    packet_with(channel, kind, number, &[])
+}
+
+/// A packet other than Data with this payload from the other end, for this channel
+/// number.
+pub(crate) fn packet_with(channel: u16, kind: u8, number: u8, payload: &[u8]) -> Vec<u8> {
     let fields = Fields {
         kind,
         number,
         ..THERE.header(HERE.own, channel)
     };
-    written(&fields, &[])
+    written(&fields, payload)
+}
+
+/// A packet for the sending channel that states a number: an Ack, or a Flow Control
+/// packet.
+pub(crate) fn stating(kind: u8, number: u8, stated: u8) -> Vec<u8> {
+    packet_with(SENDING.channel, kind, number, &[stated])
 }
 
 /// A Data packet from the other end.
@@ -132,10 +145,16 @@ impl Rig {
 
     /// A rig of one sending channel in OPEN.
     pub(crate) fn sending(settings: Settings) -> Rig {
+        let ack = alone(kind::CONTROL_ACK, 0);
+        Rig::sending_by(settings, &ack)
+    }
+
+    /// The same, which this Ack of its Open has led to OPEN.
+    pub(crate) fn sending_by(settings: Settings, ack: &[u8]) -> Rig {
         let mut rig = Rig::new(&[settings]);
         assert_eq!(rig.open(0), 0);
         assert_eq!(rig.next(), Ok((kind::OPEN, 0)));
-        assert_eq!(rig.arrive(&alone(kind::CONTROL_ACK, 0)), 0);
+        assert_eq!(rig.arrive(ack), 0);
         rig
     }
 
@@ -189,17 +208,30 @@ impl Rig {
 
     /// The whole answer of an arrival. A reply must be the packet's ack.
     pub(crate) fn arrival(&mut self, packet: &[u8]) -> Answer {
+        self.replied(packet).0
+    }
+
+    /// The answer number of an arrival, and what its reply carries.
+    pub(crate) fn carried(&mut self, packet: &[u8]) -> (u8, Vec<u8>) {
+        let (answer, reply) = self.replied(packet);
+        let payload = packet::read(&reply).map(|reading| reading.payload_of(&reply).to_vec());
+        (answer.number, payload.unwrap_or_default())
+    }
+
+    /// The whole answer of an arrival and its reply, which must be the packet's ack.
+    fn replied(&mut self, packet: &[u8]) -> (Answer, Vec<u8>) {
         let (answer, reply) = self.call(|node, out| node.arrival(packet, out));
         if answer.octets() > 0 {
             let fields = packet::read(packet).unwrap().fields;
             let ack = match fields.kind {
                 kind::DATA => kind::DATA_ACK,
                 kind::HEARTBEAT => kind::HEARTBEAT_ACK,
+                kind::FLOW_CONTROL => kind::FLOW_CONTROL,
                 _ => kind::CONTROL_ACK,
             };
             assert_eq!(kind_and_number(&reply), (ack, fields.number));
         }
-        answer
+        (answer, reply)
     }
 
     /// Kind and number of the next packet, or the answer number.

@@ -26,6 +26,7 @@ fn settings(remote: u8, direction: u8) -> [Settings; 1] {
         closing: 50,
         retries: 2,
         interval: 0,
+        flow: 0,
     };
     [Settings { addresses, limits }]
 }

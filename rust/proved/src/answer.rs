@@ -44,10 +44,10 @@ pub enum Refusal {
     /// The check sum is wrong.
     Damaged,
     /// Another header field is unexpected, or the payload is too long, or there
-    /// is one where none may be.
+    /// is one where none may be, or none where Flow Control asks for one.
     Strange,
-    /// Secondary header, Flow Control, or, to be written, a type over 7 or a
-    /// prefix of over 15 octets.
+    /// Secondary header, or, to be written, a type over 7 or a prefix of over 15
+    /// octets.
     Lacking,
     /// The state, or the direction, does not allow it.
     State,

@@ -197,9 +197,9 @@ pub fn reclaim(
     }
 }
 
-/// The packet that goes out next: 0, 11, 12 or 13. Control and Heartbeats before
-/// resent Data before new Data; of a rank that of the first in its line who has one
-/// ready. A receiver hands out its Heartbeats.
+/// The packet that goes out next: 0, 11, 12 or 13. Control, Heartbeats and Flow
+/// Control before resent Data before new Data; of a rank that of the first in its line
+/// who has one ready. A receiver hands out its Heartbeats and its Flow Control packets.
 pub fn next_packet(
     table: &mut [Channel],
     memory: &mut [u8],

@@ -15,8 +15,8 @@ mod words;
 pub use answer::{Answer, Outcome, Refusal};
 pub use c::{Fields, Reading, Said, Writing};
 pub use node_table::{storage, NodeTable};
-pub use record::{Addresses, Channel, Limits, Lone, Node, Phase, Prefix, Pulse, Settings};
-pub use record::{Timers, Window};
+pub use record::{Addresses, Channel, Flow, Limits, Lone, Node, Phase, Prefix, Pulse};
+pub use record::{Settings, Timers, Window};
 pub use words::{Reason, State};
 
 /// The check sum over these octets.

@@ -137,7 +137,8 @@ impl<'a> NodeTable<'a> {
     }
 
     /// The packet that goes out next, at the front of `out`. A node that only
-    /// receives is to be asked, too: its Heartbeats go out so.
+    /// receives is to be asked, too: its Heartbeats and Flow Control packets go out
+    /// so.
     pub fn next_packet(&mut self, out: &mut [u8]) -> Answer {
         let said = calls::next_packet(
             self.table,
@@ -151,8 +152,8 @@ impl<'a> NodeTable<'a> {
     }
 
     /// A packet that came in; its reply, if it has one, at the front of `reply`,
-    /// which has at least 12 octets, and N more where the channel's own prefix has
-    /// N.
+    /// which has at least 12 octets, N more where the channel's own prefix has N, and
+    /// one more for the Ack of Data or Control where Flow Control is used.
     pub fn arrival(&mut self, packet: &[u8], reply: &mut [u8]) -> Answer {
         let (table, memory) = (&mut *self.table, &mut *self.memory);
         let said = calls::arrival(

@@ -40,7 +40,7 @@ pub mod state {
 pub mod reason {
     /// It did not.
     pub const NONE: u8 = 0;
-    /// The retries of Data, an Open or a Close were used up.
+    /// The retries of Data, an Open, a Close or a Flow Control packet were used up.
     pub const RETRIES: u8 = 1;
     /// An Open came after Data was accepted.
     pub const LATE_OPEN: u8 = 2;

@@ -85,6 +85,8 @@ pub struct Limits {
     /// Ticks after which this end makes a Heartbeat if it has sent neither Data nor
     /// an Ack meanwhile, in OPEN; 0: it makes none.
     pub interval: u16,
+    /// 1: Flow Control is used; 0: it is not. The other end's must be the same.
+    pub flow: u16,
 }
 
 /// `PeatSettings`: of one channel.
@@ -97,8 +99,8 @@ pub struct Settings {
     pub limits: Limits,
 }
 
-/// `PeatLone`: one packet that is sent alone, a sender's Open or Close, or the
-/// Heartbeat of either end.
+/// `PeatLone`: one packet that is sent alone, a sender's Open or Close, the
+/// Heartbeat of either end, or a receiver's Flow Control packet.
 #[repr(C)]
 #[derive(Clone, Copy, Debug, Default, PartialEq, Eq)]
 pub struct Lone {
@@ -126,7 +128,27 @@ pub struct Phase {
     pub control: Lone,
 }
 
-/// `PeatPulse`: the Heartbeat of an end; all zeros out of OPEN, in a record that settings and calls alone have written.
+/// `PeatFlow`: Flow Control (document 02, A5). What a receiver states, and what a
+/// sender has recorded of it.
+#[repr(C)]
+#[derive(Clone, Copy, Debug, Default, PartialEq, Eq)]
+pub struct Flow {
+    /// Of a receiver: the Flow Control packet that is ready or not acknowledged.
+    pub packet: Lone,
+    /// Of a receiver: that packet's own number, once it was handed out; else 0.
+    pub number: u8,
+    /// Of a receiver: the number that it stated when it was first handed out; else 0.
+    pub stated: u8,
+    /// Of a receiver: the number of the last packet sent, whether Flow Control is used
+    /// or not. Of a sender it means nothing.
+    pub last: u8,
+    /// Of a sender: the number recorded, up to which it may send; 0 where Flow Control
+    /// is not used.
+    pub recorded: u8,
+}
+
+/// `PeatPulse`: the Heartbeat of an end, and Flow Control; all zeros out of OPEN, in a
+/// record that settings and calls alone have written.
 #[repr(C)]
 #[derive(Clone, Copy, Debug, Default, PartialEq, Eq)]
 pub struct Pulse {
@@ -134,6 +156,8 @@ pub struct Pulse {
     pub left: u16,
     /// The Heartbeat that is ready or not acknowledged.
     pub beat: Lone,
+    /// Flow Control.
+    pub flow: Flow,
 }
 
 /// `PeatWindow`: the window's first number, and what lies before it and from it
@@ -179,7 +203,7 @@ pub struct Channel {
     pub limits: Limits,
     /// Where an opening stands.
     pub phase: Phase,
-    /// Its Heartbeat.
+    /// Its Heartbeat, and Flow Control.
     pub pulse: Pulse,
     /// Where the window stands, and what is held.
     pub window: Window,
@@ -215,6 +239,19 @@ impl Lone {
     }
 }
 
+impl Flow {
+    /// No packet, and no number.
+    pub const fn blank() -> Self {
+        Flow {
+            packet: Lone::blank(),
+            number: 0,
+            stated: 0,
+            last: 0,
+            recorded: 0,
+        }
+    }
+}
+
 impl Timers {
     /// None runs.
     pub const fn blank() -> Self {
@@ -241,6 +278,7 @@ impl Channel {
                 closing: 0,
                 retries: 0,
                 interval: 0,
+                flow: 0,
             },
             phase: Phase {
                 state: state::CLOSED,
@@ -252,6 +290,7 @@ impl Channel {
             pulse: Pulse {
                 left: 0,
                 beat: Lone::blank(),
+                flow: Flow::blank(),
             },
             window: Window {
                 start: 0,

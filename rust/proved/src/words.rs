@@ -43,7 +43,7 @@ impl fmt::Display for State {
 /// Why a channel went inactive.
 #[derive(Clone, Copy, Debug, PartialEq, Eq)]
 pub enum Reason {
-    /// The retries of Data, an Open or a Close were used up.
+    /// The retries of Data, an Open, a Close or a Flow Control packet were used up.
     Retries,
     /// An Open came after Data was accepted.
     LateOpen,

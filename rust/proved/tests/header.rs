@@ -75,6 +75,7 @@ fn of_packets() -> Vec<(&'static str, usize)> {
         "CLOSE_COMMAND",
         "HEARTBEAT",
         "HEARTBEAT_ACK",
+        "FLOW_CONTROL",
     ];
     let flags = ["CONTINUATION", "FIRST", "LAST", "WHOLE"];
     let others = [("CONTROL_ACK", 7), ("VERSION", 1), ("ACK_OCTETS", 12)];

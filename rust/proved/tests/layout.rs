@@ -3,8 +3,8 @@
 //! That the library reads and writes them at these places is shown by the tests
 //! beside this one, `written` and `read`.
 
-use proved::{Addresses, Channel, Fields, Limits, Lone, Node, Phase, Prefix, Pulse, Reading};
-use proved::{Said, Settings, Timers, Window, Writing};
+use proved::{Addresses, Channel, Fields, Flow, Limits, Lone, Node, Phase, Prefix, Pulse};
+use proved::{Reading, Said, Settings, Timers, Window, Writing};
 use std::mem::{align_of, offset_of, size_of};
 
 const TABLE: &str = include_str!("../../../tests/layout.txt");
@@ -38,11 +38,12 @@ fn records_lie_as_the_table_says() {
         Node: address protocol;
         Prefix: length octets;
         Addresses: channel remote direction remote_prefix own_prefix;
-        Limits: window slots payload segments timeout closing retries interval;
+        Limits: window slots payload segments timeout closing retries interval flow;
         Settings: addresses limits;
         Lone: state timer tries;
         Phase: state reason kept accepted control;
-        Pulse: left beat;
+        Flow: packet number stated last recorded;
+        Pulse: left beat flow;
         Window: start place behind ahead flight way;
         Timers: closing left tries;
         Channel: addresses limits phase pulse window timers marks acked;

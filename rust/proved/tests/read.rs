@@ -82,7 +82,7 @@ fn all_refused(end: fn() -> End, overwrites: &[Overwrite]) {
 
 #[test]
 fn what_the_condition_bounds_of_either_end() {
-    let either: [Overwrite; 18] = [
+    let either: [Overwrite; 21] = [
         |record| record.addresses.direction = 2,
         |record| record.addresses.remote_prefix.length = 16,
         |record| record.addresses.remote_prefix.octets[14] = 1,
@@ -95,12 +95,15 @@ fn what_the_condition_bounds_of_either_end() {
         |record| record.limits.timeout = 0,
         |record| record.limits.closing = 0,
         |record| record.limits.retries = 256,
+        |record| record.limits.flow = 2,
+        |record| record.limits.flow = 0x0100,
         |record| record.phase.state = 4,
         |record| record.phase.reason = 7,
         |record| record.phase.kept = 2,
         |record| record.phase.accepted = 2,
         |record| record.phase.control.state = 4,
         |record| record.pulse.beat.state = 4,
+        |record| record.pulse.flow.packet.state = 4,
     ];
     all_refused(sending, &either);
     all_refused(receiving, &either);
@@ -160,6 +163,9 @@ fn settings_are_read_field_by_field() {
     assert_eq!(say(|of| of.limits.closing = 0), 13);
     assert_eq!(say(|of| of.limits.retries = 256), 13);
     assert_eq!(say(|of| of.limits.interval = 65_535), 0);
+    assert_eq!(say(|of| of.limits.flow = 1), 0);
+    assert_eq!(say(|of| of.limits.flow = 2), 13);
+    assert_eq!(say(|of| of.limits.flow = 0x0100), 13);
 }
 
 /// Each octet of a prefix, past a length of 0 in the standing condition, and of a

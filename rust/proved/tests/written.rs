@@ -12,8 +12,8 @@ mod ends;
 
 use ends::{both_open, done, End, HOST, LIMITS, STATION};
 use proved::record::{direction, lone, state, LINES, PREFIX, SLOTS};
-use proved::{calls, Addresses, Channel, Limits, Lone, Phase, Prefix, Pulse, Settings};
-use proved::{Timers, Window};
+use proved::{calls, Addresses, Channel, Flow, Limits, Lone, Phase, Prefix, Pulse};
+use proved::{Settings, Timers, Window};
 
 const SPOILT_LIMITS: Limits = Limits {
     window: usize::MAX - 1,
@@ -24,6 +24,7 @@ const SPOILT_LIMITS: Limits = Limits {
     closing: 0xB3B4,
     retries: 0xB5B6,
     interval: 0xB7B8,
+    flow: 0xB9BA,
 };
 
 const SPOILT_WINDOW: Window = Window {
@@ -33,6 +34,18 @@ const SPOILT_WINDOW: Window = Window {
     ahead: usize::MAX - 7,
     flight: usize::MAX - 8,
     way: usize::MAX - 9,
+};
+
+const SPOILT_FLOW: Flow = Flow {
+    packet: Lone {
+        state: 0xF1,
+        timer: 0xF2F3,
+        tries: 0xF4F5,
+    },
+    number: 0xF6,
+    stated: 0xF7,
+    last: 0xF8,
+    recorded: 0xF9,
 };
 
 const SPOILT_PREFIX: Prefix = Prefix {
@@ -68,6 +81,7 @@ const SPOILT: Channel = Channel {
             timer: 0xDDDE,
             tries: 0xDFE0,
         },
+        flow: SPOILT_FLOW,
     },
     window: SPOILT_WINDOW,
     timers: Timers {
@@ -99,6 +113,7 @@ fn settings_write_every_field() {
         closing: 0x0C0D,
         retries: 255,
         interval: 0x0E0F,
+        flow: 1,
     };
     let octets: Vec<u8> = (0x11..).take(4 * PREFIX).collect();
     let prefix = |place: usize, count| Prefix::of(&octets[place * PREFIX..][..count]).unwrap();
@@ -247,6 +262,8 @@ fn a_receiver_holds_and_closes() {
     expected.marks[1..5].copy_from_slice(&[4, 2, 0, 3]);
     let window = &mut expected.window;
     (window.start, window.place, window.behind, window.way) = (4, 3, 2, 1);
+    // The number of the last Ack; `flow_record` has the rest of Flow Control.
+    expected.pulse.flow.last = 3;
     assert_eq!(*station.record(), expected);
     assert_eq!((expected.phase.accepted, expected.phase.kept), (1, 0));
     assert_eq!(station.lengths, [1, 1, 16, 0, 8, 0, 0, 0]);

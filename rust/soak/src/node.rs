@@ -130,7 +130,7 @@ impl Node {
             lengths,
             lines,
         } = self;
-        let mut reply = [0; 12 + PREFIX];
+        let mut reply = [0; 13 + PREFIX];
         let said = calls::arrival(table, memory, lengths, lines, *own, packet, &mut reply);
         (said, reply[..said.written()].to_vec())
     }
@@ -166,9 +166,12 @@ impl Node {
         std::iter::from_fn(|| copy.reclaim(index)).collect()
     }
 
-    /// The ack that the Open or Close of a transmit end waits for.
+    /// The ack that the Open or Close of a transmit end waits for; it states a number
+    /// where Flow Control is used.
     fn control_ack(&self, index: usize) -> Vec<u8> {
-        let addresses = &self.table[index].addresses;
+        let Channel {
+            addresses, limits, ..
+        } = &self.table[index];
         let fields = Fields {
             destination: self.own.address,
             protocol: self.own.protocol,
@@ -180,8 +183,9 @@ impl Node {
             ..Fields::default()
         };
         let prefix = addresses.remote_prefix.said();
-        let mut ack = vec![0; 12 + prefix.len()];
-        let writing = proved::write_packet(fields, prefix, &[], &mut ack);
+        let stated = &[1][..limits.flow.into()];
+        let mut ack = vec![0; 12 + prefix.len() + stated.len()];
+        let writing = proved::write_packet(fields, prefix, stated, &mut ack);
         assert_eq!(writing.answer, 0);
         ack
     }

@@ -16,10 +16,11 @@ use tables::{accounts_of, prefixes_of, table_of};
 /// The addresses of the two nodes.
 const ADDRESSES: [u8; 2] = [64, 65];
 
-/// The packet types of Data, a Heartbeat and its Ack.
+/// The packet types of Data, a Heartbeat and its Ack, Flow Control and its Ack.
 const DATA: u8 = 0;
 const HEARTBEAT: u8 = 4;
 const HEARTBEAT_ACK: u8 = 5;
+const FLOW_CONTROL: u8 = 6;
 
 /// Two nodes and what a bystander knows of them.
 pub struct World {
@@ -126,7 +127,9 @@ impl World {
         let account = &mut self.accounts[channel];
         let subscriber = usize::from(account.subscriber.node == node);
         self.counts.heartbeats[subscriber] += u64::from(kind == HEARTBEAT);
-        assert!(subscriber == 0 || kind == HEARTBEAT, "of a subscriber");
+        self.counts.flow_controls[0] += u64::from(kind == FLOW_CONTROL);
+        let of_either = kind == HEARTBEAT;
+        assert!(of_either || (subscriber == 1) == (kind == FLOW_CONTROL));
         let segment = (kind == DATA).then(|| account.units.segment_sent(packet[7]));
         self.counts.regional += u64::from(packet[8] > 0);
         self.links[1 - node].send(&packet, segment, self.weather, &mut self.noise);
@@ -168,10 +171,12 @@ impl World {
             self.counts.units[1] += said.confirmed as u64;
         }
         self.counts.packets[3] += u64::from(said.number == 15);
+        self.counts.full[usize::from(account.limits.flow)] += u64::from(said.number == 8);
         if !flight.damaged && said.number == 0 {
             match flight.octets[2] & 0b111 {
                 HEARTBEAT => self.counts.heartbeats[2] += 1,
                 HEARTBEAT_ACK => self.counts.heartbeats[3] += 1,
+                FLOW_CONTROL => self.counts.flow_controls[1 + end] += 1,
                 _ => {}
             }
         }

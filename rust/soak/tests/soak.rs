@@ -17,6 +17,12 @@ const ORDERLY: Weather = Weather {
     ..FAIR
 };
 
+/// Loses, and brings the rest once and in order: what A5 of document 02 asks of a link.
+const LOSSY: Weather = Weather {
+    repeat: 0,
+    ..ORDERLY
+};
+
 /// Reorders as well, and brings back what was long forgotten.
 const UNSTEADY: Weather = Weather {
     lateness: 3,
@@ -58,6 +64,7 @@ fn limits([window, slots, payload, segments]: [usize; 4], retries: u16) -> Limit
         closing: 9,
         retries,
         interval: 0,
+        flow: 0,
     }
 }
 
@@ -66,6 +73,26 @@ fn with_intervals(channels: &mut [(usize, Limits)], from: usize) {
     for (place, (_, limits)) in (from..).zip(channels) {
         limits.interval = [0, 1, 0, 3, 0, 12][place % 6];
     }
+}
+
+/// Every third channel uses Flow Control.
+fn with_flow_control(channels: &mut [(usize, Limits)], from: usize) {
+    for (place, (_, limits)) in (from..).zip(channels) {
+        limits.flow = u16::from(place % 3 == 0);
+    }
+}
+
+/// Whether a channel must go on in the end. With Flow Control it may stand still for
+/// good where a packet is repeated or overtaken: two Flow Control packets may have one
+/// number, and the Ack of the first be taken for that of the second, which was lost.
+fn goes_on(limits: &Limits, weather: Weather) -> bool {
+    let Weather {
+        repeat,
+        lateness,
+        forgotten,
+        ..
+    } = weather;
+    limits.flow == 0 || (repeat, lateness, forgotten) == (0, 0, 0)
 }
 
 /// Runs a world, then lets it settle in fair weather: in the end every channel
@@ -88,24 +115,48 @@ fn run(channels: &[(usize, Limits)], weather: Weather, rounds: usize, seed: u64)
     }
     world.check();
     for account in &world.accounts {
-        assert_eq!(world.state(account.host), state::OPEN);
-        assert_eq!(world.state(account.subscriber), state::OPEN);
-        account.units.check_settled();
         world.counts.wrapped += u64::from(account.has_wrapped());
+        if goes_on(&account.limits, weather) {
+            assert_eq!(world.state(account.host), state::OPEN);
+            assert_eq!(world.state(account.subscriber), state::OPEN);
+            account.units.check_settled();
+        }
     }
     world.counts
 }
 
 /// Every shape of channel alone, from each seed.
 fn run_shapes(weather: Weather, retries: u16, rounds: usize) -> Counts {
+    run_shapes_with(|limits| limits, weather, retries, rounds)
+}
+
+/// The same, with these limits changed.
+fn run_shapes_with(
+    change: fn(Limits) -> Limits,
+    weather: Weather,
+    retries: u16,
+    rounds: usize,
+) -> Counts {
     let mut counts = Counts::default();
     for seed in 0..seeds() {
         for (place, shape) in (1..).zip(SHAPES) {
-            let mut channels = [(0, limits(shape, retries))];
+            let mut channels = [(0, change(limits(shape, retries)))];
             with_intervals(&mut channels, (seed + place) as usize);
             counts.add(&run(&channels, weather, rounds, 1_000 * seed + place));
         }
     }
+    counts
+}
+
+/// "on a link that loses but keeps order, answer 8 never arises between two ends that
+/// obey" (document 02, A5); here at every k.
+fn run_flow_control() -> Counts {
+    let flowing = |mut limits: Limits| {
+        limits.flow = 1;
+        limits
+    };
+    let counts = run_shapes_with(flowing, LOSSY, 20, 3_000);
+    assert_eq!(counts.full, [0, 0]);
     counts
 }
 
@@ -118,6 +169,7 @@ fn run_several() -> Counts {
     let mut counts = Counts::default();
     for seed in 0..seeds() {
         with_intervals(&mut channels, seed as usize);
+        with_flow_control(&mut channels, seed as usize);
         for weather in [ORDERLY, UNSTEADY, STORMY] {
             counts.add(&run(&channels, weather, 1_200, 1_000 * seed + 100));
         }
@@ -138,11 +190,12 @@ type Kind = (&'static str, fn() -> Counts);
 
 #[test]
 fn where_every_unit_is() {
-    let kinds: [Kind; 4] = [
+    let kinds: [Kind; 5] = [
         ("orderly links", || run_shapes(ORDERLY, 20, 3_000)),
         ("unsteady links", || run_shapes(UNSTEADY, 20, 1_500)),
         ("stormy links", || run_shapes(STORMY, 3, 1_500)),
         ("several channels", run_several),
+        ("lossy links, and Flow Control", run_flow_control),
     ];
     let mut all = Counts::default();
     thread::scope(|scope| {
@@ -166,6 +219,9 @@ fn where_every_unit_is() {
     assert!(retries > 0 && late_open > 0 && data > 0);
     assert_eq!((control, flags), (0, 0));
     assert!(all.heartbeats.iter().all(|&count| count > 1_000));
+    assert!(all.flow_controls.iter().all(|&count| count > 1_000));
+    // Without Flow Control the slots are found full again and again.
+    assert!(all.full[0] > 1_000);
     assert!(all.unanswered.iter().all(|&count| count > 0));
 }
 

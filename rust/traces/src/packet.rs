@@ -5,7 +5,7 @@ use crate::words;
 
 /// The numbers of the replay's two channels. Data Acks and Control Acks belong to
 /// the sending one, Data and Control to the receiving one; Heartbeats and their
-/// Acks to either.
+/// Acks to either; a Flow Control packet to the sending one, its Ack to the other.
 #[derive(Clone, Copy, Debug)]
 pub struct Numbers {
     /// Of channel 0.
@@ -46,6 +46,8 @@ pub const CLOSE: u8 = 3;
 pub const HEARTBEAT: u8 = 4;
 /// The code of Heartbeat Ack.
 pub const HEARTBEAT_ACK: u8 = 5;
+/// The code of Flow Control and its Ack.
+pub const FLOW_CONTROL: u8 = 6;
 /// The code of Control Ack.
 pub const CONTROL_ACK: u8 = 7;
 
@@ -58,7 +60,8 @@ pub struct Packet {
     destination: u8,
     protocol: u8,
     version: u8,
-    secondary: u8,
+    /// The secondary header flag.
+    pub secondary: u8,
     /// The sequence flags.
     pub flags: u8,
     kind: u8,
@@ -84,7 +87,8 @@ pub struct Packet {
 impl Packet {
     /// A packet of this type from the remote node, sound and empty, numbered 0. A
     /// Heartbeat or its Ack, of which "no field tells its end" (document 02, A2), is
-    /// for the receiving channel.
+    /// for the receiving channel, and so is type 6, which without payload is the Ack of
+    /// Flow Control (A5).
     pub fn new(kind: u8, numbers: Numbers) -> Packet {
         let channel = match kind {
             DATA_ACK | CONTROL_ACK => numbers.sending,

@@ -3,7 +3,8 @@
 use link::Noise;
 
 use crate::packet::{
-    Packet, CLOSE, CONTROL_ACK, DATA, DATA_ACK, HEARTBEAT, HEARTBEAT_ACK, NUMBERS, OPEN,
+    Packet, CLOSE, CONTROL_ACK, DATA, DATA_ACK, FLOW_CONTROL, HEARTBEAT, HEARTBEAT_ACK, NUMBERS,
+    OPEN,
 };
 use crate::record::Record;
 
@@ -153,14 +154,19 @@ fn damaged(mut record: Vec<u8>, noise: &mut Noise) -> Vec<u8> {
 }
 
 /// A packet of any type with no payload, numbered 0 most times, and at times with
-/// a prefix, which the replay's channels do not have. A Heartbeat or its Ack may be
-/// for either channel.
+/// a prefix, which the replay's channels do not have, or with a secondary header. A
+/// Heartbeat or its Ack may be for either channel. An Ack, Flow Control or its Ack may
+/// have an octet or two.
 fn lone(kind: u8, noise: &mut Noise) -> Vec<u8> {
     let mut packet = Packet::new(kind, NUMBERS);
     packet.number = u8::from(noise.one_in(8));
-    if [HEARTBEAT, HEARTBEAT_ACK].contains(&kind) && noise.one_in(2) {
+    if [HEARTBEAT, HEARTBEAT_ACK, FLOW_CONTROL].contains(&kind) && noise.one_in(2) {
         packet.channel = NUMBERS.sending;
     }
+    if [DATA_ACK, FLOW_CONTROL, CONTROL_ACK].contains(&kind) && noise.one_in(2) {
+        packet.payload = vec![0x04; noise.one_of(&[1, 1, 2])];
+    }
+    packet.secondary = u8::from(noise.one_in(8));
     if noise.one_in(4) {
         packet.prefix = vec![0; noise.one_of(&[1, 2, 14, 15])];
     }

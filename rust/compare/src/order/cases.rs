@@ -10,9 +10,21 @@ use crate::tally::Tally;
 use crate::twin::Twin;
 
 /// Every case of the lines that a run must have had.
-pub const ORDERS: [&str; 13] = [
-    LOWER, BACK, SMALL, TOGETHER, ACKED, ANSWERED, CLOSED, INACTIVE, RECEIVES, PASSED, UNSERVED,
-    NEW_FIRST, RECEIVER,
+pub const ORDERS: [&str; 14] = [
+    LOWER,
+    BACK,
+    SMALL,
+    TOGETHER,
+    ACKED,
+    ANSWERED,
+    CLOSED,
+    INACTIVE,
+    RECEIVES,
+    PASSED,
+    UNSERVED,
+    NEW_FIRST,
+    RECEIVER,
+    FLOW_ANSWERED,
 ];
 
 const LOWER: &str = "lines: a lower index is ready, and stands behind the one served";
@@ -21,6 +33,7 @@ const SMALL: &str = "lines: 11 at the head, and others stand behind it";
 const TOGETHER: &str = "lines: several join in one tick";
 const ACKED: &str = "lines: one leaves by a Data Ack";
 const ANSWERED: &str = "lines: one leaves by a Heartbeat Ack";
+const FLOW_ANSWERED: &str = "lines: one leaves by the Ack of a Flow Control packet";
 const CLOSED: &str = "lines: one leaves by a Close directive";
 const INACTIVE: &str = "lines: one leaves by inactivity";
 const RECEIVES: &str = "lines: a receiver is served, and a sender stands behind it";
@@ -29,8 +42,8 @@ const UNSERVED: &str = "written lines: one who is ready stands nowhere, and 12";
 const NEW_FIRST: &str = "written lines: new Data before the channel's resent Data";
 const RECEIVER: &str = "written lines: a receiver leaves a line of Data by a call of its own";
 
-fn is_heartbeat_ack(packet: &[u8]) -> bool {
-    packet[2] & 0b111 == kind::HEARTBEAT_ACK
+fn is_of(kind: u8, packet: &[u8]) -> bool {
+    packet[2] & 0b111 == kind
 }
 
 impl Twin {
@@ -84,8 +97,11 @@ impl Twin {
                     tally.case(RECEIVER);
                 }
                 (Call::Arrival(_), 0, Some(_)) if rank == 1 => tally.case(ACKED),
-                (Call::Arrival(packet), 0, Some(_)) if is_heartbeat_ack(packet) => {
+                (Call::Arrival(packet), 0, Some(_)) if is_of(kind::HEARTBEAT_ACK, packet) => {
                     tally.case(ANSWERED);
+                }
+                (Call::Arrival(packet), 0, Some(_)) if is_of(kind::FLOW_CONTROL, packet) => {
+                    tally.case(FLOW_ANSWERED);
                 }
                 _ => {}
             }

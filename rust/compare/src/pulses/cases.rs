@@ -117,7 +117,7 @@ fn note_tick(old: &Channel, new: &Channel, end: usize, tally: &mut Tally) {
         (dead, DEAD[end]),
         (dead && held, HELD),
         (dead && untaken, UNTAKEN),
-        (inactive && spent && !dead, FIRST),
+        (inactive && spent && !dead && end == 0, FIRST),
     ];
     note_all(&cases, tally);
 }
@@ -127,7 +127,7 @@ fn note_next(old: &Channel, new: &Channel, end: usize, tally: &mut Tally) {
     let cases = [
         (goes && old.pulse.beat.state == lone::READY, OUT[end]),
         (goes && old.pulse.beat.state == lone::AGAIN, RESENT[end]),
-        (new.pulse.left > old.pulse.left, BY_DATA),
+        (end == 0 && new.pulse.left > old.pulse.left, BY_DATA),
     ];
     note_all(&cases, tally);
 }
@@ -145,7 +145,10 @@ fn note_arrival(packet: &[u8], said: Said, old: &Channel, new: &Channel, tally: 
         (acked && old.pulse.beat.state == lone::AGAIN, LATE),
         (is_gone(old, new), GONE[1]),
         (restarted && answered, BY_HEARTBEAT),
-        (restarted && !answered && said.number == 0, BY_ACK),
+        (
+            restarted && !answered && said.number == 0 && end == 1,
+            BY_ACK,
+        ),
         (restarted && said.number == 15, BY_REPEAT),
     ];
     note_all(&cases, tally);

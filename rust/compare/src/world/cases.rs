@@ -2,11 +2,11 @@
 
 use super::*;
 use crate::found::{BY_DIRECTION, FIRST};
-use crate::overwriting::ANOTHER_HEARTBEAT;
+use crate::overwriting::{ANOTHER_FLOW, ANOTHER_HEARTBEAT};
 use proved::Said;
 
 /// Every case that a run must have had, beside those with a list of their own.
-pub const CASES: [&str; 27] = [
+pub const CASES: [&str; 28] = [
     "inactive: retries",
     "inactive: late Open",
     "inactive: Control number",
@@ -34,6 +34,7 @@ pub const CASES: [&str; 27] = [
     BY_DIRECTION,
     FIRST,
     ANOTHER_HEARTBEAT,
+    ANOTHER_FLOW,
 ];
 
 impl World {
@@ -54,6 +55,8 @@ impl World {
             Some(kind::CLOSE) => "read Close",
             Some(kind::HEARTBEAT) => "read Heartbeat",
             Some(kind::HEARTBEAT_ACK) => "read Heartbeat Ack",
+            Some(kind::FLOW_CONTROL) if packet[3..5] == [0, 0] => "read Flow Control Ack",
+            Some(kind::FLOW_CONTROL) => "read Flow Control",
             _ => "read Control Ack",
         };
         self.tally.answer(line, said.number);
@@ -78,7 +81,8 @@ impl World {
             1 | 2 | 4 | 13 => false,
             // The first test wants 12, the one behind 14 more.
             11 => said.length > 12,
-            // Either a field unexpected, or Data that is too long for its channel.
+            // Either a field unexpected, or Data that is too long for its channel, or
+            // what Flow Control asks for or forbids there.
             3 => peer::packet::read(packet).is_ok_and(|reading| {
                 let fields = reading.fields;
                 fields.destination == own.address && fields.protocol == own.protocol

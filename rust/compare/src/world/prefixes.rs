@@ -7,8 +7,8 @@ use proved::Said;
 /// Every case of prefixes that a run must have had.
 pub const PREFIXES: [&str; 6] = [EXACT, SMALL, ACK, UNKNOWN, AMONG_TWO, PACKET];
 
-const EXACT: &str = "prefix: exactly 12 + N octets for a reply";
-const SMALL: &str = "prefix: an octet under 12 + N for a reply";
+const EXACT: &str = "prefix: exactly the octets that a reply has";
+const SMALL: &str = "prefix: an octet too few for a reply";
 const ACK: &str = "prefix: 12 octets for an Ack are enough";
 const UNKNOWN: &str = "prefix: 14 where a reply would not fit either";
 const AMONG_TWO: &str = "prefix: found among two that differ in no more";

@@ -26,6 +26,7 @@ pub fn settings(channel: u16, timeout: u32, retries: u32) -> Settings {
         close_timeout: timeout,
         retries,
         interval: 0,
+        flow: 0,
     }
 }
 
@@ -97,7 +98,7 @@ impl Nodes {
     pub fn exchange(&mut self) {
         while let Some(packet) = self.packet() {
             let arrival = Call::Arrival(&packet);
-            let ack = self.twins[1].call(arrival, 12 + 15, &mut self.tally).octets;
+            let ack = self.twins[1].call(arrival, 13 + 15, &mut self.tally).octets;
             assert_eq!(self.call(0, Call::Arrival(&ack), 12), 0);
         }
     }

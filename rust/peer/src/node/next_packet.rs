@@ -1,5 +1,5 @@
 //! The next packet for the link (document 01, Sending: "Each call for a packet
-//! hands out one"; document 02, A2 and A4; 000, 4.6.2).
+//! hands out one"; document 02, A2, A4 and A5; 000, 4.6.2).
 
 use crate::answer::{Answer, Refusal};
 use crate::channel::Channel;
@@ -44,7 +44,7 @@ fn hand_out_of(
         ..node.header(settings.remote, settings.channel)
     };
     let own_prefix = settings.own_prefix;
-    let length = packet::write(&fields, own_prefix.said(), offer.payload, out)?;
+    let length = packet::write(&fields, own_prefix.said(), &offer.payload, out)?;
     channel.hand_out(rank);
     Ok(length)
 }

@@ -1,5 +1,6 @@
 mod arrivals;
 mod channels;
+mod flow_control;
 mod heartbeat;
 mod lines;
 mod lines_written;

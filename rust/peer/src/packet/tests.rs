@@ -98,8 +98,8 @@ fn what_is_written_is_read() {
 }
 
 #[test]
-fn every_type_but_6_without_payload_is_read() {
-    for kind in [0, 1, 2, 3, 4, 5, 7] {
+fn every_type_without_payload_is_read() {
+    for kind in 0..=7 {
         let packet = written(&alone(kind), b"");
         assert_eq!(read(&packet).unwrap().fields, alone(kind));
     }
@@ -160,10 +160,12 @@ fn reading_tests_4_before_3() {
     let packet = written(&alone(kind::OPEN), b"");
     let cases = [
         (vec![(2, 0x7A)], Refusal::NotInBase),
-        (vec![(2, 0x5E)], Refusal::NotInBase),
-        (vec![(2, 0x9E)], Refusal::NotInBase),
+        (vec![(2, 0x7E)], Refusal::NotInBase),
+        (vec![(2, 0xBE)], Refusal::NotInBase),
         (vec![(2, 0x7A), (8, 0xF0)], Refusal::NotInBase),
         (vec![(2, 0x9A)], Refusal::Header),
+        (vec![(2, 0x9E)], Refusal::Header),
+        (vec![(2, 0x4E)], Refusal::Header),
         (vec![(2, 0x4A)], Refusal::Header),
         (vec![(2, 0x44)], Refusal::Header),
         (vec![(2, 0x55)], Refusal::Header),
@@ -174,13 +176,41 @@ fn reading_tests_4_before_3() {
     }
 }
 
+/// Of all but Data no payload is over one octet, and only Acks of Data and Control
+/// and what belongs to Flow Control have that (000, 4.2.4.1).
 #[test]
-fn only_data_has_a_payload() {
-    let packet = written(&data(flags::WHOLE), b"x");
-    for kind in [1, 2, 3, 4, 5, 7] {
-        let other = changed(&packet, &[(2, 0x58 | kind)]);
-        assert_eq!(read(&other), Err(Refusal::Header));
-        assert_eq!(refused(alone(kind), b"x", 13), Refusal::Header);
+fn payloads_of_all_but_data() {
+    for length in [1, 2, 255, 256, MOST_PAYLOAD] {
+        let payload = vec![0x5A; length];
+        let packet = written(&data(flags::WHOLE), &payload);
+        for kind in 1..=7 {
+            let other = changed(&packet, &[(2, 0x58 | kind)]);
+            if length == 1 && [1, 6, 7].contains(&kind) {
+                let reading = read(&other).unwrap();
+                assert_eq!((reading.fields, reading.start), (alone(kind), 10));
+                assert_eq!(reading.payload_of(&other), payload);
+                assert_eq!(written(&alone(kind), &payload), other);
+            } else {
+                assert_eq!(read(&other), Err(Refusal::Header));
+                let refusal = refused(alone(kind), &payload, 12 + length);
+                assert_eq!(refusal, Refusal::Header);
+            }
+        }
+    }
+}
+
+/// Every number stated comes back, from behind every prefix.
+#[test]
+fn a_number_stated_is_read() {
+    let prefix = [7; 15];
+    for (stated, kind) in (0..=255).flat_map(|stated| [1, 6, 7].map(|kind| (stated, kind))) {
+        let prefix = &prefix[..usize::from(stated) % 16];
+        let packet = written_from(prefix, &alone(kind), &[stated]);
+        assert_eq!(packet.len(), 13 + prefix.len());
+        let reading = read(&packet).unwrap();
+        assert_eq!(reading.fields, alone(kind));
+        assert_eq!(reading.prefix_of(&packet), prefix);
+        assert_eq!(reading.payload_of(&packet), [stated]);
     }
 }
 
@@ -201,7 +231,10 @@ fn writing_tests_4_then_3_then_11() {
         ..whole
     };
     assert_eq!(refused(secondary, b"", 0), Refusal::NotInBase);
-    assert_eq!(refused(alone(6), b"x", 0), Refusal::NotInBase);
+    assert_eq!(refused(alone(14), b"x", 0), Refusal::NotInBase);
+    assert_eq!(refused(alone(6), b"xy", 0), Refusal::Header);
+    let stating = Refusal::Buffer { wanted: 13 };
+    assert_eq!(refused(alone(6), b"x", 12), stating);
     assert_eq!(refused(alone(8), b"x", 0), Refusal::NotInBase);
     assert_eq!(refused(reserved, b"", 0), Refusal::Header);
     assert_eq!(refused(version, b"", 0), Refusal::Header);

@@ -16,6 +16,7 @@ impl ReceivingEnd {
             Phase::Open {
                 reception,
                 heartbeat,
+                flow_control,
             } => {
                 let segments = reception.segments();
                 sight
@@ -25,6 +26,7 @@ impl ReceivingEnd {
                 sight.unfinished = reception.unfinished();
                 sight.accepted = reception.has_accepted();
                 sight.see(heartbeat);
+                sight.see_flow_control(flow_control);
             }
             Phase::Closing { timer } => sight.close_timer = Some(*timer),
         }

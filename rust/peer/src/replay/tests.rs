@@ -1,3 +1,4 @@
+mod flow_control;
 mod input;
 mod receiving;
 mod sending;

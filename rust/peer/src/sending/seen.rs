@@ -21,6 +21,7 @@ impl SendingEnd {
             Phase::Open { window, heartbeat } => {
                 sight.start = Some(window.start());
                 sight.see(heartbeat);
+                sight.recorded = window.recorded().number().unwrap_or(0);
             }
             Phase::Closing { close } => sight.control = Some(close.sight()),
         }

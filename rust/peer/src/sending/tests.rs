@@ -1,5 +1,6 @@
 mod data;
 mod directives;
+mod flow_control;
 mod timers;
 mod units;
 

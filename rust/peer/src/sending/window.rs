@@ -7,6 +7,8 @@ use crate::course::Course;
 use crate::offer::Rank;
 use crate::segment::sequence_number;
 
+use super::recorded::Recorded;
+
 /// The segments of an opening, by number: those that wait for their ack, and
 /// those that are still to be handed out.
 #[derive(Clone, Debug, PartialEq, Eq)]
@@ -17,15 +19,25 @@ pub(super) struct Window {
     new: u64,
     /// The next to be accepted.
     next: u64,
+    /// How far the other end lets it send.
+    recorded: Recorded,
 }
 
 impl Window {
-    /// "Segments are numbered from 1 at each opening".
-    pub(super) const NEW: Window = Window {
-        waiting: BTreeMap::new(),
-        new: 1,
-        next: 1,
-    };
+    /// "Segments are numbered from 1 at each opening". The Ack of the Open states
+    /// this number, where Flow Control is used.
+    pub(super) fn new(stated: Option<u8>) -> Window {
+        Window {
+            waiting: BTreeMap::new(),
+            new: 1,
+            next: 1,
+            recorded: Recorded::new(stated),
+        }
+    }
+
+    pub(super) fn recorded(&self) -> Recorded {
+        self.recorded
+    }
 
     /// The window start: the lowest number not acknowledged, as "the start
     /// moves past every leading acknowledged number".
@@ -61,6 +73,13 @@ impl Window {
         Ok(())
     }
 
+    /// The other end states this number, where Flow Control is used. The highest
+    /// number sent is the one before the next new one, acknowledged or not.
+    pub(super) fn record(&mut self, stated: Option<u8>, window: u32) {
+        let highest = sequence_number(self.new - 1);
+        self.recorded.record(stated, highest, window);
+    }
+
     /// All timers fall; true if one ended with its retries used up.
     pub(super) fn tick(&mut self, retries: u32) -> bool {
         let mut used_up = false;
@@ -72,7 +91,8 @@ impl Window {
 
     /// Of this rank the packet to be handed out next: "within a channel the
     /// lowest segment", and "Only the k numbers from the window start may be
-    /// sent".
+    /// sent". The number recorded holds back new Data alone (000, 4.4.4.6 speaks of
+    /// the number after the last one transmitted).
     pub(super) fn next_ready(&self, window: u32, rank: Rank) -> Option<u64> {
         match rank {
             Rank::Control => None,
@@ -82,8 +102,10 @@ impl Window {
                 again.map(|(&segment, _)| segment)
             }
             Rank::NewData => {
-                let end = self.next.min(self.start() + u64::from(window));
-                (self.new < end).then_some(self.new)
+                let start = self.start();
+                let end = self.next.min(start + u64::from(window));
+                let allowed = self.recorded.allows(self.new, start);
+                (self.new < end && allowed).then_some(self.new)
             }
         }
     }

@@ -85,6 +85,14 @@ fn interval() {
     assert_eq!(good, [true, true, true, false]);
 }
 
+/// Flow Control is off or on (document 02, A5).
+#[test]
+fn flow() {
+    let with = |flow| Settings { flow, ..SENDING };
+    let good = [0, 1, 2, 256, u32::MAX].map(|flow| accepted(with(flow)));
+    assert_eq!(good, [true, true, false, false, false]);
+}
+
 /// "No two records may have equal channel number, remote address and
 /// direction."
 #[test]

@@ -1,10 +1,13 @@
-//! The exchanges of 000, Appendix B, that the base has.
+//! The exchanges of 000, Appendix B.
 
+use peer::node::Node;
 use peer::packet::kind;
+use peer::settings::Settings;
 use peer::state::{Reason, State};
 
 use crate::calls::take_all;
-use crate::traps::{exchange, opened, received, sent, ticks};
+use crate::heartbeats;
+use crate::traps::{exchange, opened, opened_as, received, sent, ticks, SENDING};
 
 /// B.2, normal case: Open, Data, Close, each with its ack.
 #[test]
@@ -69,6 +72,42 @@ fn ack_error_case() {
     assert_eq!(number, 15);
     assert_eq!(nodes[0].arrival(&ack, &mut [0; 12]).confirmed, 1);
     assert_eq!(take_all(&mut nodes[1], 0), [b"a"]);
+}
+
+/// B.5, flow control case, as far as its text goes: what goes to the receiver has its
+/// number, what comes back its number and the one stated.
+#[test]
+fn flow_control_case() {
+    let settings = Settings {
+        slots: 4,
+        flow: 1,
+        ..SENDING
+    };
+    let mut nodes = opened_as(settings, 0);
+    let exchanged = |nodes: &mut [Node; 2], units: usize| {
+        let mut told = Vec::new();
+        for _ in 0..units {
+            assert_eq!(nodes[0].transfer(0, b"u").number, 0);
+        }
+        while let Some(packet) = sent(nodes) {
+            let (_, ack) = received(nodes, &packet);
+            told.push((packet[7], ack[7], ack[10]));
+            assert_eq!(nodes[0].arrival(&ack, &mut [0; 12]).number, 0);
+        }
+        told
+    };
+    let first = [(1, 1, 4), (2, 2, 4), (3, 3, 4), (4, 4, 4)];
+    assert_eq!(exchanged(&mut nodes, 4), first);
+    assert_eq!(exchanged(&mut nodes, 2), []);
+    assert_eq!(nodes[1].take(0, &mut [0; 16]).number, 0);
+    let packet = heartbeats::sent(&mut nodes[1]).unwrap();
+    assert_eq!(packet[2] & 0b111, kind::FLOW_CONTROL);
+    assert_eq!((packet[7], packet[10]), (4, 5));
+    let (number, ack) = heartbeats::received(&mut nodes[0], &packet);
+    assert_eq!((number, ack.len(), ack[7]), (0, 12, 4));
+    assert_eq!(nodes[1].arrival(&ack, &mut [0; 12]).number, 0);
+    assert_eq!(exchanged(&mut nodes, 0), [(5, 5, 5)]);
+    assert_eq!(take_all(&mut nodes[1], 0).len(), 4);
 }
 
 /// A lost Close ack: CLOSING acknowledges the resent Close.

@@ -9,14 +9,14 @@ use crate::calls::packet;
 use crate::traps::{opened, opened_with, ticks};
 
 /// The next packet of a node, if there is one.
-fn sent(node: &mut Node) -> Option<Vec<u8>> {
+pub fn sent(node: &mut Node) -> Option<Vec<u8>> {
     let mut out = [0; 64];
     let answer = node.next_packet(&mut out);
     (answer.number == 0).then(|| out[..answer.length].to_vec())
 }
 
 /// A node's answer to a packet, and its ack.
-fn received(node: &mut Node, packet: &[u8]) -> (u8, Vec<u8>) {
+pub fn received(node: &mut Node, packet: &[u8]) -> (u8, Vec<u8>) {
     let mut reply = [0; 64];
     let answer = node.arrival(packet, &mut reply);
     (answer.number, reply[..answer.octets()].to_vec())

@@ -2,6 +2,7 @@
 
 mod calls;
 mod exchanges;
+mod flow_control;
 mod heartbeats;
 mod pair;
 mod random_calls;

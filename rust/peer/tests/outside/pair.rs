@@ -2,11 +2,11 @@
 
 use link::{Place, Units};
 use peer::node::Node;
-use peer::packet::kind;
+use peer::packet::{flags, kind};
 use peer::settings::Settings;
 use peer::state::State;
 
-use crate::calls::{behind, packet, reclaim_all, take_all};
+use crate::calls::{behind, data, reclaim_all, take_all};
 
 /// A channel and its history.
 #[derive(Clone, Debug)]
@@ -70,7 +70,9 @@ impl Pair {
     fn acknowledge(&self, node: &mut Node) {
         while node.next_packet(&mut [0; 64]).number == 0 {}
         let channel = self.settings.channel;
-        let ack = packet(self.sender.node, channel, kind::CONTROL_ACK, 0);
+        let stated = &[0][..self.settings.flow as usize];
+        let to = self.sender.node;
+        let ack = data(to, channel, kind::CONTROL_ACK, 0, flags::WHOLE, stated);
         let ack = behind(&self.settings.remote_prefix, &ack);
         assert_eq!(node.arrival(&ack, &mut [0; 12]).number, 0);
     }

@@ -40,6 +40,7 @@ fn table(noise: &mut Noise, prefixes: &[Prefix; 4]) -> Vec<Settings> {
             close_timeout: 1 + noise.below(4) as u32,
             retries: noise.below(3) as u32,
             interval: noise.below(4) as u32,
+            flow: noise.below(2) as u32,
         }
     };
     [0, 1, 2, 3].map(settings).to_vec()
@@ -51,7 +52,9 @@ struct Player {
     noise: Noise,
     /// The remote prefix of each channel.
     prefixes: [Prefix; 4],
-    /// The number of the last packet that each channel accepted, Heartbeats apart.
+    /// Whether each channel uses Flow Control.
+    flows: [bool; 4],
+    /// The number of the last Data, Control or Ack of these that each channel accepted.
     accepted: [u8; 4],
 }
 
@@ -65,6 +68,7 @@ impl Player {
             node,
             noise,
             prefixes,
+            flows: [0, 1, 2, 3].map(|index: usize| table[index].flow == 1),
             accepted: [0; 4],
         }
     }
@@ -94,15 +98,33 @@ impl Player {
             let payload = noise.octets(length.max(least));
             data(0, channel, kind, number, flags, &payload)
         } else {
-            let named = kind == kind::DATA_ACK || noise.percent(3);
+            let named = kind == kind::DATA_ACK || kind == kind::FLOW_CONTROL || noise.percent(3);
             let number = if named { number } else { 0 };
-            data(0, channel, kind, number, flags::WHOLE, &[])
+            let stated = self.stated(kind, usize::from(channel), number);
+            data(0, channel, kind, number, flags::WHOLE, stated.as_slice())
         };
+        let noise = &mut self.noise;
         let mut packet = behind(&region, &packet);
         if noise.percent(4) {
             spoil(&mut packet, noise);
         }
         packet
+    }
+
+    /// The number that a packet of this kind and number states, mostly if it should: one
+    /// that lets the other end send a little, or any.
+    fn stated(&mut self, kind: u8, channel: usize, number: u8) -> Option<u8> {
+        let noise = &mut self.noise;
+        let should = match kind {
+            kind::DATA_ACK | kind::CONTROL_ACK => self.flows[channel],
+            kind::FLOW_CONTROL => ENDS[channel] == Direction::Sending,
+            _ => return None,
+        };
+        let stated = match noise.percent(90) {
+            true => number.wrapping_add(noise.below(10) as u8),
+            false => noise.octet(),
+        };
+        (should != noise.percent(3)).then_some(stated)
     }
 
     /// One random call; gives its answer number.
@@ -132,9 +154,7 @@ impl Player {
             assert!(memory == self.node.memory() && lengths == self.node.lengths());
         }
         if let (0..=9, 0, Some(index)) = (choice, answer.number, answer.index) {
-            if ![kind::HEARTBEAT, kind::HEARTBEAT_ACK].contains(&(octets[2] & 0b111)) {
-                self.accepted[index] = octets[7];
-            }
+            self.note(index, &octets);
         }
         match choice {
             17 => self.check_tick(&before, answer),
@@ -144,6 +164,14 @@ impl Player {
             assert_eq!(before.would_transfer(index, octets.len()), answer);
         }
         answer.number
+    }
+
+    /// A channel has accepted this packet.
+    fn note(&mut self, index: usize, packet: &[u8]) {
+        let others = [kind::HEARTBEAT, kind::HEARTBEAT_ACK, kind::FLOW_CONTROL];
+        if !others.contains(&(packet[2] & 0b111)) {
+            self.accepted[index] = packet[7];
+        }
     }
 
     /// "an arrival or request reads and changes its own channel alone", the one
@@ -166,14 +194,14 @@ impl Player {
     }
 
     /// A reason stands in CLOSED alone, and each direction has its own but for the
-    /// Heartbeat.
+    /// Heartbeat, and but for the retries where a receive end uses Flow Control.
     fn check(&self) {
         for index in 0..4 {
             let sending = self.node.direction(index) == Some(Direction::Sending);
             match self.node.reason(index).unwrap() {
                 Reason::None => continue,
                 Reason::Heartbeat => {}
-                Reason::Retries => assert!(sending),
+                Reason::Retries => assert!(sending || self.flows[index]),
                 _ => assert!(!sending),
             }
             assert_eq!(self.node.state(index), Some(State::Closed));
@@ -183,11 +211,9 @@ impl Player {
 
 /// The kind of a packet: Data as often as all others together.
 fn kind_of(noise: &mut Noise) -> u8 {
-    use kind::{CLOSE, CONTROL_ACK, DATA, DATA_ACK, HEARTBEAT, HEARTBEAT_ACK, OPEN};
-    let others = [DATA_ACK, OPEN, CLOSE, CONTROL_ACK, HEARTBEAT, HEARTBEAT_ACK];
     match noise.percent(50) {
-        true => DATA,
-        false => noise.one_of(&others),
+        true => kind::DATA,
+        false => noise.one_of(&[1, 2, 3, 4, 5, 6, 7]),
     }
 }
 
@@ -195,7 +221,7 @@ fn kind_of(noise: &mut Noise) -> u8 {
 fn channel_for(kind: u8, noise: &mut Noise) -> usize {
     match kind {
         _ if noise.percent(3) => noise.below(4),
-        kind::HEARTBEAT | kind::HEARTBEAT_ACK => noise.below(4),
+        kind::HEARTBEAT | kind::HEARTBEAT_ACK | kind::FLOW_CONTROL => noise.below(4),
         kind::DATA_ACK | kind::CONTROL_ACK => noise.one_of(&[0, 3]),
         _ => noise.one_of(&[1, 2]),
     }

@@ -54,6 +54,7 @@ fn settings(channel: u16, window: u32, slots: u32, payload: u32, segments: u32) 
         close_timeout: 7,
         retries: 20,
         interval: 0,
+        flow: 0,
     }
 }
 
@@ -113,18 +114,33 @@ const SHAPES: [(u32, u32, u32, u32); 14] = [
 
 /// Runs every shape of channel alone; gives all answers seen.
 fn run_shapes(weather: Weather, retries: u32, rounds: usize, least: u64) -> BTreeSet<u8> {
+    let with = |settings| Settings {
+        retries,
+        ..settings
+    };
+    let (seen, flow_controls) = run_shapes_with(with, weather, rounds, least);
+    assert_eq!(flow_controls, 0);
+    seen
+}
+
+/// The same, with settings made from these; gives the Flow Control packets, too.
+fn run_shapes_with(
+    with: impl Fn(Settings) -> Settings,
+    weather: Weather,
+    rounds: usize,
+    least: u64,
+) -> (BTreeSet<u8>, usize) {
     let mut seen = BTreeSet::new();
+    let mut flow_controls = 0;
     for (seed, &(window, slots, payload, segments)) in (1..).zip(&SHAPES) {
-        let channel = Settings {
-            retries,
-            ..settings(0, window, slots, payload, segments)
-        };
+        let channel = with(settings(0, window, slots, payload, segments));
         let (world, most) = run(&[(0, channel)], weather, rounds, seed);
         check_settled(&world);
         assert!(most >= least, "{window} {slots}: {most} segments");
+        flow_controls += world.flow_controls;
         seen.extend(world.seen);
     }
-    seen
+    (seen, flow_controls)
 }
 
 /// Openings of many segments: the numbers wrap again and again.
@@ -132,6 +148,24 @@ fn run_shapes(weather: Weather, retries: u32, rounds: usize, least: u64) -> BTre
 fn orderly_links() {
     let seen = run_shapes(ORDERLY, 20, 16_000, 600);
     assert!(BTreeSet::from([0, 1, 2, 5, 6, 7, 8, 12, 15, 16]).is_subset(&seen));
+}
+
+/// "on a link that loses but keeps order, answer 8 never arises between two ends that
+/// obey" (document 02, A5).
+#[test]
+fn orderly_links_with_flow_control() {
+    let weather = Weather {
+        repeat: 0,
+        ..ORDERLY
+    };
+    let flowing = |settings| Settings {
+        flow: 1,
+        ..settings
+    };
+    let (seen, flow_controls) = run_shapes_with(flowing, weather, 8_000, 300);
+    assert!(flow_controls > 1_000, "{flow_controls}");
+    assert!(BTreeSet::from([0, 1, 2, 5, 6, 7, 12, 15]).is_subset(&seen));
+    assert!(!seen.contains(&8));
 }
 
 #[test]
@@ -166,6 +200,29 @@ fn several_channels() {
         let (world, _) = run(&several(), weather, 5_000, seed);
         check_settled(&world);
         assert_eq!(world.heartbeats, [0; 2]);
+    }
+}
+
+/// Some with Flow Control, some without, some with Heartbeats as well. A link that
+/// reorders may stop one with Flow Control for good, so no more is asked there than the
+/// claims that every round asks.
+#[test]
+fn several_channels_with_flow_control() {
+    for (seed, weather) in (300..).zip([ORDERLY, UNSTEADY, STORMY]) {
+        let flowing = |(node, settings): (usize, Settings)| {
+            let flow = u32::from(settings.channel != 1);
+            let interval = 7 * u32::from(settings.channel % 2);
+            (
+                node,
+                Settings {
+                    flow,
+                    interval,
+                    ..settings
+                },
+            )
+        };
+        let (world, _) = run(&several().map(flowing), weather, 5_000, seed);
+        assert!(world.flow_controls > 100);
     }
 }
 

@@ -10,7 +10,7 @@ use peer::state::State;
 use crate::calls::{new_node, reclaim_all, take_all, ADDRESSES};
 
 /// Settings of the channel of all traps.
-const SENDING: Settings = Settings {
+pub const SENDING: Settings = Settings {
     direction: Direction::Sending,
     channel: 1,
     remote: ADDRESSES[1],
@@ -24,6 +24,7 @@ const SENDING: Settings = Settings {
     close_timeout: 9,
     retries: 2,
     interval: 0,
+    flow: 0,
 };
 
 /// A sender and a receiver, both OPEN.
@@ -37,11 +38,16 @@ pub fn opened_with(intervals: [u32; 2]) -> [Node; 2] {
         interval: intervals[0],
         ..SENDING
     };
+    opened_as(sending, intervals[1])
+}
+
+/// The same with these settings at both ends, but for the receiver's interval.
+pub fn opened_as(sending: Settings, interval: u32) -> [Node; 2] {
     let receiving = Settings {
         direction: Direction::Receiving,
         remote: ADDRESSES[0],
-        interval: intervals[1],
-        ..SENDING
+        interval,
+        ..sending
     };
     let mut noise = Noise::new(7);
     let mut nodes = [

@@ -20,6 +20,12 @@ use shadow::Shadow;
 /// The load at which the sending applications also close their channels.
 const BUSY: usize = 60;
 
+/// The kinds of packets that a transmit end hands out, and a receive end.
+const HANDED_OUT: [&[u8]; 2] = [
+    &[kind::DATA, kind::OPEN, kind::CLOSE, kind::HEARTBEAT],
+    &[kind::HEARTBEAT, kind::FLOW_CONTROL],
+];
+
 /// Any packet and any unit fits into this buffer.
 const BUFFER: usize = 512;
 
@@ -32,6 +38,8 @@ pub struct World {
     pub load: usize,
     /// The Heartbeats that the sending ends handed out, and the receiving ones.
     pub heartbeats: [usize; 2],
+    /// The Flow Control packets that the receiving ends handed out.
+    pub flow_controls: usize,
     nodes: [Node; 2],
     shadows: [Shadow; 2],
     /// The links, each to the node of its index.
@@ -53,6 +61,7 @@ impl World {
             weather,
             load: BUSY,
             heartbeats: [0; 2],
+            flow_controls: 0,
             nodes,
             shadows,
             links: [0, 1].map(|_| Link::new(one_bit)),
@@ -126,7 +135,8 @@ impl World {
         let kind = packet[2] & 0b111;
         let receives = usize::from(pair.receiver.node == node);
         self.heartbeats[receives] += usize::from(kind == kind::HEARTBEAT);
-        assert!(receives == 0 || kind == kind::HEARTBEAT);
+        self.flow_controls += usize::from(kind == kind::FLOW_CONTROL);
+        assert!(HANDED_OUT[receives].contains(&kind));
         let segment = (kind == kind::DATA).then(|| pair.units.segment_sent(packet[7]));
         if let Some(segment) = segment {
             let filed = self.shadows[node].read(pair.sender.index, segment);

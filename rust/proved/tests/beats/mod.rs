@@ -1,4 +1,5 @@
-//! What the tests of Heartbeats share: packets for an end, and what it hands out.
+//! What the tests of Heartbeats and of Flow Control share: packets for an end, and what
+//! it hands out.
 #![allow(dead_code)] // each test uses a part of it
 
 use crate::ends::{both_open, unserved, End, LIMITS};
@@ -7,9 +8,13 @@ use proved::{write_packet, Addresses, Fields, Limits, Said};
 
 /// Packet types.
 pub const DATA: u8 = 0;
+pub const DATA_ACK: u8 = 1;
+pub const OPEN: u8 = 2;
 pub const CLOSE: u8 = 3;
 pub const HEARTBEAT: u8 = 4;
 pub const HEARTBEAT_ACK: u8 = 5;
+pub const FLOW_CONTROL: u8 = 6;
+pub const CONTROL_ACK: u8 = 7;
 
 pub const LIVELY: Limits = Limits {
     timeout: 2,
@@ -35,6 +40,11 @@ pub fn both(limits: Limits) -> [End; 2] {
 
 /// A packet of this type for an end, from the other.
 pub fn packet_for(end: &mut End, kind: u8, number: u8) -> Vec<u8> {
+    packet_with(end, kind, number, &[])
+}
+
+/// The same, with a payload.
+pub fn packet_with(end: &mut End, kind: u8, number: u8, payload: &[u8]) -> Vec<u8> {
     let Addresses {
         channel,
         remote,
@@ -52,8 +62,8 @@ pub fn packet_for(end: &mut End, kind: u8, number: u8) -> Vec<u8> {
         source: remote,
         ..Fields::default()
     };
-    let mut packet = vec![0; 12 + remote_prefix.said().len()];
-    let writing = write_packet(fields, remote_prefix.said(), &[], &mut packet);
+    let mut packet = vec![0; 12 + remote_prefix.said().len() + payload.len()];
+    let writing = write_packet(fields, remote_prefix.said(), payload, &mut packet);
     assert_eq!((writing.answer, writing.length), (0, packet.len()));
     packet
 }

@@ -21,6 +21,7 @@ pub const LIMITS: Limits = Limits {
     closing: 7,
     retries: 2,
     interval: 0,
+    flow: 0,
 };
 
 /// What untouched octets of a buffer hold.
@@ -191,7 +192,8 @@ pub fn both_open(limits: Limits) -> (End, End) {
     let mut host = End::enabled(HOST, STATION, direction::SENDS, limits);
     let mut station = End::enabled(STATION, HOST, direction::RECEIVES, limits);
     let (said, ack) = station.arrival(&host.packet());
-    assert_eq!(said, done(12, 0));
+    // With Flow Control the Ack states a number.
+    assert_eq!(said, done(12 + usize::from(limits.flow), 0));
     assert_eq!(host.arrival(&ack), (done(0, 0), vec![]));
     assert_eq!(host.record().phase.state, state::OPEN);
     assert_eq!(station.record().phase.state, state::OPEN);

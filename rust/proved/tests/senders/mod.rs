@@ -25,6 +25,7 @@ pub const LIMITS: Limits = Limits {
     closing: 5,
     retries: 9,
     interval: 0,
+    flow: 0,
 };
 
 pub struct Senders {

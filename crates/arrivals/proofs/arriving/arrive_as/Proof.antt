@@ -1,35 +1,40 @@
 -- `arrivals::arriving::arrive_as` meets its contract: by the packet's kind.
 -- Assumes nothing.
 use mathlib.Core.Path.{_≡_, refl, sym, ap, ap₂, _∙_, subst}
-use mathlib.Core.List.{List}
-use Prim.Native.Nat.{ℕ, _+_, _-_}
-use native.Mathlib.Omega.{arith}
-use borrow.Author.Tests.{eqb-true}
 use mathlib.Core.Bool.{true, false}
+use mathlib.Core.List.{List, []}
+use Prim.Native.Nat.{ℕ, _+_, _-_, _≤_}
+use native.Mathlib.Omega.{arith}
+use borrow.Author.Tests.{eqb-true, ne-eqb}
+use lib.Dec.{eqb}
 use lib.ListN.{length, take, drop, length-drop}
 use lib.Seq.{length-take-le}
+use Rattle.laws.proofs.Choice.{passed-by}
 use Rattle.packet.specs.declared.kinds.Kind.{Kind}
 use Rattle.packet.specs.declared.kinds.Kind.the-variants.{Data, DataAck, Open, Close, Heartbeat, HeartbeatAck, FlowControl, ControlAck}
-use Rattle.packet.specs.Layout.{lengthAt, payloadIn}
-use Rattle.walks.specs.Serving.{works}
+use Rattle.packet.specs.Layout.{least, lengthAt, payloadIn}
+use Rattle.walks.specs.Serving.{Worked, works}
 use Rattle.channel.specs.declared.record.Channel.{Channel}
 use Rattle.channel.specs.declared.step.Stepped.{Stepped}
 use Rattle.channel.specs.declared.answer.Refusal.the-variants as refusal
-use Rattle.channel.specs.Steps.{refusing}
+use Rattle.channel.specs.Steps.{refusing, outgoingLength}
 use Rattle.channel.proofs.StandingLaws.{ringed, own-fits}
-use Rattle.sender_acks.specs.Acks.{dataAckStep, controlAckStep}
+use Rattle.sender_acks.specs.Stated.{dataAckStated, controlAckStated}
 use Rattle.channel.specs.Record.{receives}
 use Rattle.channel.specs.Pulse.{heartbeatStep, heartbeatAckStep}
 use Rattle.receiver.specs.declared.acks.Acked.the-variants as acked
-use Rattle.receiver.specs.Receiving.{controlStep}
+use Rattle.receiver.specs.Receiving.{carrying, controlStep}
 use Rattle.table.specs.Surveying.{stepping}
+use Rattle.table.specs.Waiting.{rankIn}
+use Rattle.table.specs.Surveying.{mine, mineLens}
 use Rattle.table.proofs.OneLaws.{kind-finds}
 use Rattle.table.proofs.Parts.{quiet}
 use Rattle.arrivals.specs.Finding.{prefixRead}
 use Rattle.arrivals.specs.Replying.{repliedBy, acknowledging}
 use Rattle.arrivals.specs.Data.{dataFor}
+use Rattle.arrivals.specs.Arriving.{Replies, statedIn, sixFor, arriveAs}
 use Rattle.arrivals.proofs.DataLaws.{fit-payload}
-use Rattle.arrivals.specs.Arriving.{Replies, arriveAs}
+use Rattle.arrivals.proofs.StatedLaws.{six-carries, six-quiet}
 use borrow.Author.Needs.{needs}
 use Rattle.arrivals.proofs.arriving.arrive_as.Statement.{statement}
 use Rattle.arrivals.proofs.arriving.arrive_as.Tie as tie
@@ -37,20 +42,19 @@ use Rattle.arrivals.proofs.arriving.arrive_as.Reads as reads
 use Rattle.arrivals.proofs.arriving.arrive_as.Lts as lts
 use Rattle.arrivals.proofs.data.arrive_data.Reads as arrive-data-reads
 use Rattle.channel.proofs.step.refused.Reads as refused-reads
-use Rattle.sender_acks.proofs.control_ack_step.Reads as control-ack-step-reads
-use Rattle.sender_acks.proofs.data_ack_step.Reads as data-ack-step-reads
 use Rattle.channel.proofs.pulse.heartbeat_ack_step.Reads as heartbeat-ack-step-reads
+use Rattle.sender_acks.proofs.control_ack_stated.Reads as control-ack-stated-reads
+use Rattle.sender_acks.proofs.data_ack_stated.Reads as data-ack-stated-reads
 use Rattle.arrivals.proofs.arriving.arrive_control.Reads as arrive-control-reads
 use Rattle.arrivals.proofs.arriving.arrive_heartbeat.Reads as arrive-heartbeat-reads
+use Rattle.arrivals.proofs.arriving.arrive_six.Reads as arrive-six-reads
+use Rattle.arrivals.proofs.arriving.stated_in.Reads as stated-in-reads
 
 enum-told : tie.Need-enum-told
 enum-told c = search needs
 
 add-end : tie.Need-add-end
-add-end c =
-    let a = c .before .before .before .before .before .before .args in
-    let g = c .before .before .before .before .before .before .pre .1 in
-    omega (arith, g .whole, g .start, c .before .before .before .before .before .before .good .1 .1 .1 .1 .1 .1 .1 .1 .1 .0)
+add-end c = let g = c .before .before .before .before .before .before .pre .1 in omega (arith, g .whole, g .start, c .before .before .before .before .before .before .good .1 .1 .1 .1 .1 .1 .1 .1 .1 .0)
 
 sub-arrive-data : tie.Need-sub-arrive-data
 sub-arrive-data c = search needs
@@ -81,11 +85,11 @@ arrive-data-requires c κs =
 enum-told-2 : tie.Need-enum-told-2
 enum-told-2 c = search needs
 
-data-ack-step-requires : tie.Need-data-ack-step-requires
-data-ack-step-requires c κs =
-    let a = c .before .before .before .before .before .before .args in
-    let s = c .before .before .before .before .before .before .pre .0 in
-    ringed (a .c) _ (s .standing)
+stated-in-requires : tie.Need-stated-in-requires
+stated-in-requires c κs = let g = c .before .before .before .before .before .before .pre .1 in omega (arith, g .whole, g .start)
+
+data-ack-stated-requires : tie.Need-data-ack-stated-requires
+data-ack-stated-requires c κs = let a = c .before .before .before .before .before .before .before .args in ringed (a .c) _ (c .before .before .before .before .before .before .before .pre .0 .standing)
 
 enum-told-3 : tie.Need-enum-told-3
 enum-told-3 c = search needs
@@ -112,7 +116,7 @@ arrive-heartbeat-requires : tie.Need-arrive-heartbeat-requires
 arrive-heartbeat-requires c κs =
     let a = c .before .before .before .before .before .before .before .args in
     let p = c .before .before .before .before .before .before .before .pre in
-    (own-fits (a .c) _ (p .0 .standing), subst (λ (z : Kind). Replies (a .c) z (a .length) (a .out .now)) (c .before .enum-told5 .given .1) (p .3))
+    (ringed (a .c) _ (p .0 .standing) .window, own-fits (a .c) _ (p .0 .standing), subst (λ (z : Kind). Replies (a .c) z (a .length) (a .out .now)) (c .before .enum-told5 .given .1) (p .3))
 
 enum-told-6 : tie.Need-enum-told-6
 enum-told-6 c = search needs
@@ -123,23 +127,36 @@ heartbeat-ack-step-requires c κs = search needs
 enum-told-7 : tie.Need-enum-told-7
 enum-told-7 c = search needs
 
-refused-requires : tie.Need-refused-requires
-refused-requires c κs = search needs
+stated-in-requires-2 : tie.Need-stated-in-requires-2
+stated-in-requires-2 c κs = let g = c .before .before .before .before .before .before .pre .1 in omega (arith, g .whole, g .start)
+
+arrive-six-requires : tie.Need-arrive-six-requires
+arrive-six-requires c κs =
+    let a = c .before .before .before .before .before .before .before .before .args in
+    let p = c .before .before .before .before .before .before .before .before .pre in
+    let kind = c .before .before .enum-told7 .given .1 in (
+      ringed (a .c) _ (p .0 .standing),
+      own-fits (a .c) _ (p .0 .standing),
+      λ sender.
+          subst (λ (n : ℕ). n ≤ length (a .out .now))
+          (passed-by (eqb (a .length) 0) least (outgoingLength (a .c .addresses) 0) (ne-eqb (a .length) 0 (six-carries (a .c .addresses) (a .f) (a .length) (prefixRead (a .packet .now)) (p .1 .ours) (p .2 ∙ kind) sender)))
+          (subst (λ (z : Kind). Replies (a .c) z (a .length) (a .out .now)) (c .before .before .enum-told7 .given .1) (p .3)),
+    )
 
 enum-told-8 : tie.Need-enum-told-8
 enum-told-8 c = search needs
 
-control-ack-step-requires : tie.Need-control-ack-step-requires
-control-ack-step-requires c κs =
-    let a = c .before .before .before .before .before .before .args in
-    let s = c .before .before .before .before .before .before .pre .0 in
-    ringed (a .c) _ (s .standing)
+stated-in-requires-3 : tie.Need-stated-in-requires-3
+stated-in-requires-3 c κs = let g = c .before .before .before .before .before .before .pre .1 in omega (arith, g .whole, g .start)
+
+control-ack-stated-requires : tie.Need-control-ack-stated-requires
+control-ack-stated-requires c κs = let a = c .before .before .before .before .before .before .before .args in ringed (a .c) _ (c .before .before .before .before .before .before .before .pre .0 .standing)
 
 enum-told-9 : tie.Need-enum-told-9
 enum-told-9 c = search needs
 
-refused-requires-2 : tie.Need-refused-requires-2
-refused-requires-2 c κs = search needs
+refused-requires : tie.Need-refused-requires
+refused-requires c κs = search needs
 
 same-length : tie.Need-same-length
 same-length c = search needs
@@ -161,10 +178,11 @@ returns c =
 
 returns-2 : tie.Need-returns-2
 returns-2 c =
-    let a = c .before .before .before .before .before .before .before .args in
-    ap (λ (x : Stepped). works x (a .mem .now) (a .lens .now) (a .out .now)) (c .data-ack-step .ensures)
-    ∙ quiet (arriveAs DataAck (a .node) (a .f) (payloadIn (a .packet .now))) (a .c) (a .d) (a .mem .now) (a .lens .now) (a .out .now) (dataAckStep (a .c) (a .f .number)) (a .out .now) refl
-    ∙ sym (ap (λ (z : Kind). stepping (arriveAs z (a .node) (a .f) (payloadIn (a .packet .now))) (a .c) (a .d) (a .mem .now) (a .lens .now) (a .out .now)) (c .before .enum-told2 .given .1))
+    let a = c .before .before .before .before .before .before .before .before .args in
+    let g = c .before .before .before .before .before .before .before .before .pre .1 in
+    ap (λ (x : Stepped). works x (a .mem .now) (a .lens .now) (a .out .now)) (c .data-ack-stated .ensures ∙ ap (dataAckStated (a .c) (a .f .number)) (c .before .stated-in .ensures ∙ ap₂ (λ (n at : ℕ). statedIn (take n (drop at (a .packet .now)))) (g .count) (g .start)))
+    ∙ quiet (arriveAs DataAck (a .node) (a .f) (payloadIn (a .packet .now))) (a .c) (a .d) (a .mem .now) (a .lens .now) (a .out .now) (dataAckStated (a .c) (a .f .number) (statedIn (payloadIn (a .packet .now)))) (a .out .now) refl
+    ∙ sym (ap (λ (z : Kind). stepping (arriveAs z (a .node) (a .f) (payloadIn (a .packet .now))) (a .c) (a .d) (a .mem .now) (a .lens .now) (a .out .now)) (c .before .before .enum-told2 .given .1))
 
 same-length-4 : tie.Need-same-length-4
 same-length-4 c = search needs
@@ -174,8 +192,8 @@ returns-3 c =
     let a = c .before .before .before .before .before .before .before .before .before .before .args in
     let st = controlStep (a .c) true (a .f .number) in
     ap₂ (λ (x : Stepped) (y : List ℕ). works x (a .mem .now) (a .lens .now) y) (c .before .before .arrive-control .ensures .0) (c .before .before .arrive-control .ensures .1)
-    ∙ quiet (arriveAs Open (a .node) (a .f) (payloadIn (a .packet .now))) (a .c) (a .d) (a .mem .now) (a .lens .now) (a .out .now) (acknowledging st)
-    (repliedBy (st .answer) (a .node) (a .c .addresses) acked.Control (a .f .number) (a .out .now)) refl
+    ∙ quiet (arriveAs Open (a .node) (a .f) (payloadIn (a .packet .now))) (a .c) (a .d) (a .mem .now) (a .lens .now) (a .out .now) (acknowledging (a .f .number) st)
+    (repliedBy (st .answer) (a .node) (a .c .addresses) acked.Open (a .f .number) (carrying acked.Open (a .c .limits) (st .channel .window)) (a .out .now)) refl
     ∙ sym (ap (λ (z : Kind). stepping (arriveAs z (a .node) (a .f) (payloadIn (a .packet .now))) (a .c) (a .d) (a .mem .now) (a .lens .now) (a .out .now)) (c .before .before .before .before .enum-told3 .given .1))
 
 same-length-5 : tie.Need-same-length-5
@@ -186,8 +204,8 @@ returns-4 c =
     let a = c .before .before .before .before .before .before .before .before .before .before .args in
     let st = controlStep (a .c) false (a .f .number) in
     ap₂ (λ (x : Stepped) (y : List ℕ). works x (a .mem .now) (a .lens .now) y) (c .before .before .arrive-control2 .ensures .0) (c .before .before .arrive-control2 .ensures .1)
-    ∙ quiet (arriveAs Close (a .node) (a .f) (payloadIn (a .packet .now))) (a .c) (a .d) (a .mem .now) (a .lens .now) (a .out .now) (acknowledging st)
-    (repliedBy (st .answer) (a .node) (a .c .addresses) acked.Control (a .f .number) (a .out .now)) refl
+    ∙ quiet (arriveAs Close (a .node) (a .f) (payloadIn (a .packet .now))) (a .c) (a .d) (a .mem .now) (a .lens .now) (a .out .now) (acknowledging (a .f .number) st)
+    (repliedBy (st .answer) (a .node) (a .c .addresses) acked.Close (a .f .number) (carrying acked.Close (a .c .limits) (st .channel .window)) (a .out .now)) refl
     ∙ sym (ap (λ (z : Kind). stepping (arriveAs z (a .node) (a .f) (payloadIn (a .packet .now))) (a .c) (a .d) (a .mem .now) (a .lens .now) (a .out .now)) (c .before .before .before .before .enum-told4 .given .1))
 
 same-length-6 : tie.Need-same-length-6
@@ -198,8 +216,8 @@ returns-5 c =
     let a = c .before .before .before .before .before .before .before .before .before .before .args in
     let st = heartbeatStep (a .c) in
     ap₂ (λ (x : Stepped) (y : List ℕ). works x (a .mem .now) (a .lens .now) y) (c .before .before .arrive-heartbeat .ensures .0) (c .before .before .arrive-heartbeat .ensures .1)
-    ∙ quiet (arriveAs Heartbeat (a .node) (a .f) (payloadIn (a .packet .now))) (a .c) (a .d) (a .mem .now) (a .lens .now) (a .out .now) (acknowledging st)
-    (repliedBy (st .answer) (a .node) (a .c .addresses) acked.Heartbeat (a .f .number) (a .out .now)) refl
+    ∙ quiet (arriveAs Heartbeat (a .node) (a .f) (payloadIn (a .packet .now))) (a .c) (a .d) (a .mem .now) (a .lens .now) (a .out .now) (acknowledging (a .f .number) st)
+    (repliedBy (st .answer) (a .node) (a .c .addresses) acked.Heartbeat (a .f .number) (carrying acked.Heartbeat (a .c .limits) (st .channel .window)) (a .out .now)) refl
     ∙ sym (ap (λ (z : Kind). stepping (arriveAs z (a .node) (a .f) (payloadIn (a .packet .now))) (a .c) (a .d) (a .mem .now) (a .lens .now) (a .out .now)) (c .before .before .before .before .enum-told5 .given .1))
 
 returns-6 : tie.Need-returns-6
@@ -209,24 +227,32 @@ returns-6 c =
     ∙ quiet (arriveAs HeartbeatAck (a .node) (a .f) (payloadIn (a .packet .now))) (a .c) (a .d) (a .mem .now) (a .lens .now) (a .out .now) (heartbeatAckStep (a .c) (a .f .number)) (a .out .now) refl
     ∙ sym (ap (λ (z : Kind). stepping (arriveAs z (a .node) (a .f) (payloadIn (a .packet .now))) (a .c) (a .d) (a .mem .now) (a .lens .now) (a .out .now)) (c .before .enum-told6 .given .1))
 
+same-length-7 : tie.Need-same-length-7
+same-length-7 c = search needs
+
 returns-7 : tie.Need-returns-7
 returns-7 c =
-    let a = c .before .before .before .before .before .before .before .args in
-    ap (λ (x : Stepped). works x (a .mem .now) (a .lens .now) (a .out .now)) (c .refused .ensures)
-    ∙ quiet (λ (c₁ : Channel) (r : ℕ) (m₁ l₁ o₁ : List ℕ). works (refusing c₁ refusal.Strange) m₁ l₁ o₁) (a .c) (a .d) (a .mem .now) (a .lens .now) (a .out .now) (refusing (a .c) refusal.Strange) (a .out .now) refl
-    ∙ sym (ap (λ (z : Kind). stepping (arriveAs z (a .node) (a .f) (payloadIn (a .packet .now))) (a .c) (a .d) (a .mem .now) (a .lens .now) (a .out .now)) (c .before .enum-told7 .given .1))
+    let a = c .before .before .before .before .before .before .before .before .before .before .before .args in
+    let g = c .before .before .before .before .before .before .before .before .before .before .before .pre .1 in
+    let said = statedIn (payloadIn (a .packet .now)) in
+    let six = c .before .before .arrive-six .ensures ∙ ap (λ (n : ℕ). sixFor (a .node) (a .f .number) n (a .c) [] [] (a .out .now)) (c .before .before .before .before .stated-in2 .ensures ∙ ap₂ (λ (n at : ℕ). statedIn (take n (drop at (a .packet .now)))) (g .count) (g .start)) in
+    ap (λ (w : Worked Stepped). works (w .made) (a .mem .now) (a .lens .now) (w .out)) six
+    ∙ quiet (arriveAs FlowControl (a .node) (a .f) (payloadIn (a .packet .now))) (a .c) (a .d) (a .mem .now) (a .lens .now) (a .out .now) _ _
+    (six-quiet (a .node) (a .f .number) said (a .c) (mine (a .c) (a .d) (a .mem .now)) (mineLens (a .c) (a .d) (a .lens .now)) (a .out .now))
+    ∙ sym (ap (λ (z : Kind). stepping (arriveAs z (a .node) (a .f) (payloadIn (a .packet .now))) (a .c) (a .d) (a .mem .now) (a .lens .now) (a .out .now)) (c .before .before .before .before .before .enum-told7 .given .1))
 
 returns-8 : tie.Need-returns-8
 returns-8 c =
-    let a = c .before .before .before .before .before .before .before .args in
-    ap (λ (x : Stepped). works x (a .mem .now) (a .lens .now) (a .out .now)) (c .control-ack-step .ensures)
-    ∙ quiet (arriveAs ControlAck (a .node) (a .f) (payloadIn (a .packet .now))) (a .c) (a .d) (a .mem .now) (a .lens .now) (a .out .now) (controlAckStep (a .c) (a .f .number)) (a .out .now) refl
-    ∙ sym (ap (λ (z : Kind). stepping (arriveAs z (a .node) (a .f) (payloadIn (a .packet .now))) (a .c) (a .d) (a .mem .now) (a .lens .now) (a .out .now)) (c .before .enum-told8 .given .1))
+    let a = c .before .before .before .before .before .before .before .before .args in
+    let g = c .before .before .before .before .before .before .before .before .pre .1 in
+    ap (λ (x : Stepped). works x (a .mem .now) (a .lens .now) (a .out .now)) (c .control-ack-stated .ensures ∙ ap (controlAckStated (a .c) (a .f .number)) (c .before .stated-in3 .ensures ∙ ap₂ (λ (n at : ℕ). statedIn (take n (drop at (a .packet .now)))) (g .count) (g .start)))
+    ∙ quiet (arriveAs ControlAck (a .node) (a .f) (payloadIn (a .packet .now))) (a .c) (a .d) (a .mem .now) (a .lens .now) (a .out .now) (controlAckStated (a .c) (a .f .number) (statedIn (payloadIn (a .packet .now)))) (a .out .now) refl
+    ∙ sym (ap (λ (z : Kind). stepping (arriveAs z (a .node) (a .f) (payloadIn (a .packet .now))) (a .c) (a .d) (a .mem .now) (a .lens .now) (a .out .now)) (c .before .before .enum-told8 .given .1))
 
 returns-9 : tie.Need-returns-9
 returns-9 c =
     let a = c .before .before .before .before .before .before .before .args in
-    ap (λ (x : Stepped). works x (a .mem .now) (a .lens .now) (a .out .now)) (c .refused2 .ensures)
+    ap (λ (x : Stepped). works x (a .mem .now) (a .lens .now) (a .out .now)) (c .refused .ensures)
     ∙ quiet (λ (c₁ : Channel) (r : ℕ) (m₁ l₁ o₁ : List ℕ). works (refusing c₁ refusal.Lacking) m₁ l₁ o₁) (a .c) (a .d) (a .mem .now) (a .lens .now) (a .out .now) (refusing (a .c) refusal.Lacking) (a .out .now) refl
     ∙ sym (ap (λ (z : Kind). stepping (arriveAs z (a .node) (a .f) (payloadIn (a .packet .now))) (a .c) (a .d) (a .mem .now) (a .lens .now) (a .out .now)) (c .before .enum-told9 .given .1))
 
@@ -241,7 +267,8 @@ arrive-as-spec =
     part-arrive-data-end
     arrive-data-requires
     enum-told-2
-    data-ack-step-requires
+    stated-in-requires
+    data-ack-stated-requires
     enum-told-3
     arrive-control-requires
     enum-told-4
@@ -251,11 +278,13 @@ arrive-as-spec =
     enum-told-6
     heartbeat-ack-step-requires
     enum-told-7
-    refused-requires
+    stated-in-requires-2
+    arrive-six-requires
     enum-told-8
-    control-ack-step-requires
+    stated-in-requires-3
+    control-ack-stated-requires
     enum-told-9
-    refused-requires-2
+    refused-requires
     same-length
     same-length-2
     same-length-3
@@ -268,6 +297,7 @@ arrive-as-spec =
     same-length-6
     returns-5
     returns-6
+    same-length-7
     returns-7
     returns-8
     returns-9)

@@ -1,6 +1,6 @@
 -- `arrivals::data::reply_length` meets its contract: by the packet's kind.
 -- Assumes nothing.
-use mathlib.Core.Path.{_≡_, sym, ap, _∙_}
+use mathlib.Core.Path.{sym, ap, _∙_}
 use Rattle.packet.specs.declared.kinds.Kind.{Kind}
 use Rattle.arrivals.specs.Data.{replyLength}
 use borrow.Author.Needs.{needs}
@@ -35,8 +35,8 @@ ack-length-requires-3 c κs = search needs
 enum-told-5 : tie.Need-enum-told-5
 enum-told-5 c = search needs
 
-ack-length-requires-4 : tie.Need-ack-length-requires-4
-ack-length-requires-4 c κs = search needs
+flow-reply-requires : tie.Need-flow-reply-requires
+flow-reply-requires c κs = search needs
 
 enum-told-6 : tie.Need-enum-told-6
 enum-told-6 c = search needs
@@ -44,8 +44,8 @@ enum-told-6 c = search needs
 enum-told-7 : tie.Need-enum-told-7
 enum-told-7 c = search needs
 
-flow-reply-requires : tie.Need-flow-reply-requires
-flow-reply-requires c κs = search needs
+flow-reply-requires-2 : tie.Need-flow-reply-requires-2
+flow-reply-requires-2 c κs = search needs
 
 enum-told-8 : tie.Need-enum-told-8
 enum-told-8 c = search needs
@@ -54,41 +54,31 @@ enum-told-9 : tie.Need-enum-told-9
 enum-told-9 c = search needs
 
 returns : tie.Need-returns
-returns c =
-    let a = c .before .before .before .args in
-    c .ack-length .ensures ∙ sym (ap (λ (z : Kind). replyLength (a .c) z (a .length)) (c .before .enum-told .given .1))
+returns c = let a = c .before .before .before .args in c .ack-length .ensures ∙ sym (ap (λ (z : Kind). replyLength (a .c) z (a .length)) (c .before .enum-told .given .1))
 
 returns-2 : tie.Need-returns-2
-returns-2 c = sym (ap (λ (z : Kind). replyLength (c .before .before .args .c) z (c .before .before .args .length)) (c .enum-told2 .given .1))
+returns-2 c = let a = c .before .before .args in sym (ap (λ (z : Kind). replyLength (a .c) z (a .length)) (c .enum-told2 .given .1))
 
 returns-3 : tie.Need-returns-3
-returns-3 c =
-    let a = c .before .before .before .args in
-    c .ack-length2 .ensures ∙ sym (ap (λ (z : Kind). replyLength (a .c) z (a .length)) (c .before .enum-told3 .given .1))
+returns-3 c = let a = c .before .before .before .args in c .ack-length2 .ensures ∙ sym (ap (λ (z : Kind). replyLength (a .c) z (a .length)) (c .before .enum-told3 .given .1))
 
 returns-4 : tie.Need-returns-4
-returns-4 c =
-    let a = c .before .before .before .args in
-    c .ack-length3 .ensures ∙ sym (ap (λ (z : Kind). replyLength (a .c) z (a .length)) (c .before .enum-told4 .given .1))
+returns-4 c = let a = c .before .before .before .args in c .ack-length3 .ensures ∙ sym (ap (λ (z : Kind). replyLength (a .c) z (a .length)) (c .before .enum-told4 .given .1))
 
 returns-5 : tie.Need-returns-5
-returns-5 c =
-    let a = c .before .before .before .args in
-    c .ack-length4 .ensures ∙ sym (ap (λ (z : Kind). replyLength (a .c) z (a .length)) (c .before .enum-told5 .given .1))
+returns-5 c = let a = c .before .before .before .args in c .flow-reply .ensures ∙ sym (ap (λ (z : Kind). replyLength (a .c) z (a .length)) (c .before .enum-told5 .given .1))
 
 returns-6 : tie.Need-returns-6
-returns-6 c = sym (ap (λ (z : Kind). replyLength (c .before .before .args .c) z (c .before .before .args .length)) (c .enum-told6 .given .1))
+returns-6 c = let a = c .before .before .args in sym (ap (λ (z : Kind). replyLength (a .c) z (a .length)) (c .enum-told6 .given .1))
 
 returns-7 : tie.Need-returns-7
-returns-7 c =
-    let a = c .before .before .before .args in
-    c .flow-reply .ensures ∙ sym (ap (λ (z : Kind). replyLength (a .c) z (a .length)) (c .before .enum-told7 .given .1))
+returns-7 c = let a = c .before .before .before .args in c .flow-reply2 .ensures ∙ sym (ap (λ (z : Kind). replyLength (a .c) z (a .length)) (c .before .enum-told7 .given .1))
 
 returns-8 : tie.Need-returns-8
-returns-8 c = sym (ap (λ (z : Kind). replyLength (c .before .before .args .c) z (c .before .before .args .length)) (c .enum-told8 .given .1))
+returns-8 c = let a = c .before .before .args in sym (ap (λ (z : Kind). replyLength (a .c) z (a .length)) (c .enum-told8 .given .1))
 
 returns-9 : tie.Need-returns-9
-returns-9 c = sym (ap (λ (z : Kind). replyLength (c .before .before .args .c) z (c .before .before .args .length)) (c .enum-told9 .given .1))
+returns-9 c = let a = c .before .before .args in sym (ap (λ (z : Kind). replyLength (a .c) z (a .length)) (c .enum-told9 .given .1))
 
 pub reply-length-spec : {M : Type 1} → statement M
 reply-length-spec =
@@ -102,10 +92,10 @@ reply-length-spec =
     enum-told-4
     ack-length-requires-3
     enum-told-5
-    ack-length-requires-4
+    flow-reply-requires
     enum-told-6
     enum-told-7
-    flow-reply-requires
+    flow-reply-requires-2
     enum-told-8
     enum-told-9
     returns

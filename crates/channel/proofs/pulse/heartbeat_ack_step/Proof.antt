@@ -4,6 +4,8 @@ use mathlib.Core.Path.{sym, ap, _∙_}
 use borrow.Author.Tests.{not-true, not-false}
 use Rattle.channel.specs.declared.record.Lone.{Lone}
 use Rattle.channel.specs.Record.{withPulse}
+use Rattle.channel.specs.declared.record.Pulse.{Pulse}
+use Rattle.channel.specs.Pulse.{withBeat}
 use Rattle.channel.specs.Steps.{doing}
 use Rattle.channel.proofs.PulseLaws.{beat-ack-shut, beat-ack-number, beat-ack-early, beat-ack-done}
 use borrow.Author.Needs.{needs}
@@ -13,6 +15,7 @@ use Rattle.channel.proofs.pulse.heartbeat_ack_step.Reads as reads
 use Rattle.channel.proofs.pulse.heartbeat_ack_step.Lts as lts
 use Rattle.channel.proofs.lone.is_out.Reads as is-out-reads
 use Rattle.channel.proofs.pulse.no_beat.Reads as no-beat-reads
+use Rattle.channel.proofs.pulse.with_beat.Reads as with-beat-reads
 use Rattle.channel.proofs.step.done.Reads as done-reads
 use Rattle.channel.proofs.step.refused.Reads as refused-reads
 
@@ -43,15 +46,18 @@ returns-3 c =
 no-beat-requires : tie.Need-no-beat-requires
 no-beat-requires c κs = search needs
 
+with-beat-requires : tie.Need-with-beat-requires
+with-beat-requires c κs = search needs
+
 done-requires : tie.Need-done-requires
 done-requires c κs = search needs
 
 returns-4 : tie.Need-returns-4
 returns-4 c =
-    let a = c .before .before .before .before .before .before .before .args in
+    let a = c .before .before .before .before .before .before .before .before .args in
     c .done .ensures
-    ∙ ap (λ (l : Lone). doing (withPulse (a .c) (record { left = a .c .pulse .left; beat = l })) 0) (c .before .no-beat .ensures)
-    ∙ sym (beat-ack-done (a .c) (a .number) (c .before .before .before .before .before .if1 .left) (c .before .before .before .before .if2 .left) (sym (c .before .before .before .is-out .ensures) ∙ not-false _ (c .before .before .if3 .left)))
+    ∙ ap (λ (p : Pulse). doing (withPulse (a .c) p) 0) (c .before .with-beat .ensures ∙ ap (withBeat (a .c .pulse)) (c .before .before .no-beat .ensures))
+    ∙ sym (beat-ack-done (a .c) (a .number) (c .before .before .before .before .before .before .if1 .left) (c .before .before .before .before .before .if2 .left) (sym (c .before .before .before .before .is-out .ensures) ∙ not-false _ (c .before .before .before .if3 .left)))
 
 pub heartbeat-ack-step-spec : {M : Type 1} → statement M
 heartbeat-ack-step-spec =
@@ -65,5 +71,6 @@ heartbeat-ack-step-spec =
     refused-requires-3
     returns-3
     no-beat-requires
+    with-beat-requires
     done-requires
     returns-4)

@@ -1,4 +1,4 @@
--- `channel::pulse::start` meets its contract: it is made of no Heartbeat.
+-- `channel::pulse::start` meets its contract: it is made of no Heartbeat and no Flow Control.
 -- Assumes nothing.
 use borrow.Author.Needs.{needs}
 use Rattle.channel.proofs.pulse.start.Statement.{statement}
@@ -6,12 +6,16 @@ use Rattle.channel.proofs.pulse.start.Tie as tie
 use Rattle.channel.proofs.pulse.start.Reads as reads
 use Rattle.channel.proofs.pulse.start.Lts as lts
 use Rattle.channel.proofs.pulse.no_beat.Reads as no-beat-reads
+use Rattle.channel.proofs.pulse.no_flow.Reads as no-flow-reads
 
 no-beat-requires : tie.Need-no-beat-requires
 no-beat-requires c κs = search needs
+
+no-flow-requires : tie.Need-no-flow-requires
+no-flow-requires c κs = search needs
 
 returns : tie.Need-returns
 returns c = cc
 
 pub start-spec : {M : Type 1} → statement M
-start-spec = tie.close (tie.spec no-beat-requires returns)
+start-spec = tie.close (tie.spec no-beat-requires no-flow-requires returns)

@@ -2,8 +2,8 @@
 -- Assumes nothing.
 use mathlib.Core.Path.{_≡_, sym, _∙_}
 use mathlib.Core.Bool.{true, false}
-use borrow.Author.Tests.{lt-leb, le-leb, not-true, not-false}
-use Rattle.channel.specs.Settings.{fitWindow, fitUnits, fitLimits}
+use borrow.Author.Tests.{not-true, not-false}
+use Rattle.channel.specs.Settings.{fitWindow, fitUnits, fitTimers, fitLimits}
 use borrow.Author.Needs.{needs}
 use Rattle.channel.proofs.settings.fits_limits.Statement.{statement}
 use Rattle.channel.proofs.settings.fits_limits.Tie as tie
@@ -25,22 +25,32 @@ fits-units-requires c κs = search needs
 
 returns-2 : tie.Need-returns-2
 unfolding fitLimits
-returns-2 c = let l = c .before .before .before .before .args .l in let w : fitWindow l ≡ true = sym (c .before .before .before .fits-window .ensures) ∙ not-false _ (c .before .before .if1 .left) in let u : fitUnits l ≡ false = sym (c .before .fits-units .ensures) ∙ not-true _ (c .if2 .taken) in simp (w, u)
+returns-2 c =
+    let l = c .before .before .before .before .args .l in
+    let w : fitWindow l ≡ true = sym (c .before .before .before .fits-window .ensures) ∙ not-false _ (c .before .before .if1 .left) in
+    let u : fitUnits l ≡ false = sym (c .before .fits-units .ensures) ∙ not-true _ (c .if2 .taken) in
+    simp (w, u)
 
 fits-timers-requires : tie.Need-fits-timers-requires
 fits-timers-requires c κs = search needs
 
 returns-3 : tie.Need-returns-3
 unfolding fitLimits
-returns-3 c = let l = c .before .before .before .before .before .args .l in let w : fitWindow l ≡ true = sym (c .before .before .before .before .fits-window .ensures) ∙ not-false _ (c .before .before .before .if1 .left) in let u : fitUnits l ≡ true = sym (c .before .before .fits-units .ensures) ∙ not-false _ (c .before .if2 .left) in simp (w, u) (c .fits-timers .ensures)
+returns-3 c =
+    let l = c .before .before .before .before .before .before .args .l in
+    let w : fitWindow l ≡ true = sym (c .before .before .before .before .before .fits-window .ensures) ∙ not-false _ (c .before .before .before .before .if1 .left) in
+    let u : fitUnits l ≡ true = sym (c .before .before .before .fits-units .ensures) ∙ not-false _ (c .before .before .if2 .left) in
+    let t : fitTimers l ≡ false = sym (c .before .fits-timers .ensures) ∙ not-true _ (c .if3 .taken) in
+    simp (w, u, t)
+
+returns-4 : tie.Need-returns-4
+unfolding fitLimits
+returns-4 c =
+    let l = c .before .before .before .before .before .before .before .args .l in
+    let w : fitWindow l ≡ true = sym (c .before .before .before .before .before .before .fits-window .ensures) ∙ not-false _ (c .before .before .before .before .before .if1 .left) in
+    let u : fitUnits l ≡ true = sym (c .before .before .before .before .fits-units .ensures) ∙ not-false _ (c .before .before .before .if2 .left) in
+    let t : fitTimers l ≡ true = sym (c .before .before .fits-timers .ensures) ∙ not-false _ (c .before .if3 .left) in
+    simp (w, u, t)
 
 pub fits-limits-spec : {M : Type 1} → statement M
-fits-limits-spec =
-    tie.close
-    (tie.spec
-    fits-window-requires
-    returns
-    fits-units-requires
-    returns-2
-    fits-timers-requires
-    returns-3)
+fits-limits-spec = tie.close (tie.spec fits-window-requires returns fits-units-requires returns-2 fits-timers-requires returns-3 returns-4)

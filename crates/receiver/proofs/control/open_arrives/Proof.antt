@@ -31,7 +31,7 @@ returns c =
     let k = c .before .before .before .before .before .before .args .c in
     c .done .ensures
     ∙ ap (doing (withPulse (withState k opened) (c .before .before .before .start .result))) (c .before .ack-length .ensures)
-    ∙ ap (λ (p : Pulse). doing (withPulse (withState k opened) p) (ackLength (k .addresses))) (c .before .before .before .start .ensures)
+    ∙ ap (λ (p : Pulse). doing (withPulse (withState k opened) p) (ackLength k)) (c .before .before .before .start .ensures)
     ∙ sym (open-opens k (c .before .before .before .before .if1 .taken))
 
 refused-requires : tie.Need-refused-requires

@@ -1,6 +1,6 @@
 -- `receiver_data::taking::take_step` meets its contract: a law of `takeStep` and of `takeOut` for each case.
 -- Assumes nothing.
-use mathlib.Core.Path.{sym, ap, ap₂, _∙_}
+use mathlib.Core.Path.{sym, ap, ap₂, _∙_, subst}
 use Prim.Native.Nat.{ℕ, _≤_, _<_}
 use native.Mathlib.Omega.{arith}
 use lib.ListN.{length}
@@ -10,7 +10,8 @@ use Rattle.store.specs.Store.{unitOf}
 use Rattle.channel.specs.declared.record.Channel.{Channel}
 use Rattle.channel.specs.declared.answer.Refusal.the-variants as refusal
 use Rattle.channel.specs.Steps.{refusing, doing}
-use Rattle.receiver_data.specs.Taking.{completeIn, unitAt, sizeAt, dropped}
+use Rattle.receiver_data.specs.Taking.{completeIn, unitAt, sizeAt, taken}
+use Rattle.channel.specs.Flow.{telling}
 use Rattle.channel.proofs.StandingLaws.{ringed}
 use Rattle.receiver_data.proofs.TakeLaws.{each-fits, take-nothing, take-small, take-done, out-nothing, out-small, out-done, unit-is, size-is, octets-are, unit-behind}
 use borrow.Author.Needs.{needs}
@@ -19,6 +20,7 @@ use Rattle.receiver_data.proofs.taking.take_step.Tie as tie
 use Rattle.receiver_data.proofs.taking.take_step.Reads as reads
 use Rattle.receiver_data.proofs.taking.take_step.Lts as lts
 use Rattle.channel.proofs.step.done.Reads as done-reads
+use Rattle.channel.proofs.flow.tell_in.Reads as tell-in-reads
 use Rattle.channel.proofs.step.refused.Reads as refused-reads
 use Rattle.receiver_data.proofs.taking.drop_oldest.Reads as drop-oldest-reads
 use Rattle.slots.proofs.ring.back.Reads as back-reads
@@ -116,6 +118,12 @@ drop-oldest-requires c κs =
     let all = size-is (a .c) (a .lens .now) from n size ef en es in
     (r, omega (arith, unit, unit-behind (a .c)), ef)
 
+tell-in-requires : tie.Need-tell-in-requires
+tell-in-requires c κs =
+    let a = c .before .before .before .before .before .before .before .before .before .before .before .before .before .before .before .args in
+    let r = ringed (a .c) (a .lens .now) (c .before .before .before .before .before .before .before .before .before .before .before .before .before .before .before .pre .standing) in
+    subst (λ (x : Channel). x .limits .window ≤ 128) (sym (c .drop-oldest .ensures)) (r .window)
+
 done-requires : tie.Need-done-requires
 done-requires c κs = tt
 
@@ -124,20 +132,21 @@ same-length c = search needs
 
 returns-3 : tie.Need-returns-3
 returns-3 c =
-    let a = c .before .before .before .before .before .before .before .before .before .before .before .before .before .before .before .before .args in
-    let r = ringed (a .c) (a .lens .now) (c .before .before .before .before .before .before .before .before .before .before .before .before .before .before .before .before .pre .standing) in
-    let from = c .before .before .before .before .before .before .before .before .before .back .result in
-    let n = c .before .before .before .before .before .before .before .before .unit-of .result in
-    let size = c .before .before .before .before .before .before .before .size-in .result in
-    let ef = c .before .before .before .before .before .before .before .before .before .back .ensures in
-    let en = c .before .before .before .before .before .before .before .before .unit-of .ensures in
-    let es = c .before .before .before .before .before .before .before .size-in .ensures in
+    let a = c .before .before .before .before .before .before .before .before .before .before .before .before .before .before .before .before .before .args in
+    let r = ringed (a .c) (a .lens .now) (c .before .before .before .before .before .before .before .before .before .before .before .before .before .before .before .before .before .pre .standing) in
+    let from = c .before .before .before .before .before .before .before .before .before .before .back .result in
+    let n = c .before .before .before .before .before .before .before .before .before .unit-of .result in
+    let size = c .before .before .before .before .before .before .before .before .size-in .result in
+    let ef = c .before .before .before .before .before .before .before .before .before .before .back .ensures in
+    let en = c .before .before .before .before .before .before .before .before .before .unit-of .ensures in
+    let es = c .before .before .before .before .before .before .before .before .size-in .ensures in
     let unit = unit-is (a .c) (a .lens .now) from n size ef en es in
     let all = size-is (a .c) (a .lens .now) from n size ef en es in
-    let some = c .before .before .before .before .before .before .before .before .before .before .before .if1 .left in
-    let room : sizeAt (a .c) (a .lens .now) ≤ length (a .out .now) = omega (arith, all, c .before .before .before .before .before .before .if2 .left) in (
-      c .done .ensures ∙ ap (λ (x : Channel). doing x size) (c .before .drop-oldest .ensures) ∙ ap₂ (λ (k l : ℕ). doing (dropped (a .c) k) l) unit all ∙ sym (take-done (a .c) (a .lens .now) (length (a .out .now)) some room),
-      c .before .before .before .before .gather .ensures ∙ ap (laid (a .out .now) 0) (octets-are (a .c) (a .lens .now) from n size ef en es (a .mem .now)) ∙ sym (out-done (a .c) (a .lens .now) (a .mem .now) (a .out .now) some room),
+    let some = c .before .before .before .before .before .before .before .before .before .before .before .before .if1 .left in
+    let room : sizeAt (a .c) (a .lens .now) ≤ length (a .out .now) = omega (arith, all, c .before .before .before .before .before .before .before .if2 .left) in
+    let told = c .before .tell-in .ensures ∙ ap (telling (a .c .window)) (c .before .before .drop-oldest .ensures) in (
+      c .done .ensures ∙ ap (λ (x : Channel). doing x size) told ∙ ap₂ (λ (k l : ℕ). doing (taken (a .c) k) l) unit all ∙ sym (take-done (a .c) (a .lens .now) (length (a .out .now)) some room),
+      c .before .before .before .before .before .gather .ensures ∙ ap (laid (a .out .now) 0) (octets-are (a .c) (a .lens .now) from n size ef en es (a .mem .now)) ∙ sym (out-done (a .c) (a .lens .now) (a .mem .now) (a .out .now) some room),
     )
 
 pub take-step-spec : {M : Type 1} → statement M
@@ -154,6 +163,7 @@ take-step-spec =
     returns-2
     gather-requires
     drop-oldest-requires
+    tell-in-requires
     done-requires
     same-length
     returns-3)

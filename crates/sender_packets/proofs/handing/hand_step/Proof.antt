@@ -24,7 +24,10 @@ use Rattle.sender_packets.proofs.handing.hand_data.Reads as hand-data-r
 use Rattle.sender_packets.proofs.handing.new_out.Reads as new-out-reads
 
 hand-single-requires : tie.Need-hand-single-requires
-hand-single-requires c κs = let a = c .before .before .before .before .before .args in own-fits (a .c) (a .lens .now) (c .before .before .before .before .before .pre .0 .standing)
+hand-single-requires c κs =
+    let a = c .before .before .before .before .before .args in
+    let h = c .before .before .before .before .before .pre .0 .standing in
+    (own-fits (a .c) (a .lens .now) h, ringed (a .c) (a .lens .now) h .window)
 
 same-length : tie.Need-same-length
 same-length c = search needs

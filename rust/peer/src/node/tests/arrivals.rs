@@ -3,7 +3,7 @@
 
 use super::*;
 use crate::crc::crc;
-use crate::packet::kind::{HEARTBEAT, HEARTBEAT_ACK};
+use crate::packet::kind::{FLOW_CONTROL, HEARTBEAT, HEARTBEAT_ACK};
 
 /// The packet with some octets changed and the trailer made right again.
 fn changed(packet: &[u8], changes: &[(usize, u8)]) -> Vec<u8> {
@@ -68,13 +68,15 @@ fn crc_before_base_before_header() {
     let mut rig = Rig::receiving(RECEIVING);
     let cases = [
         (changed(&whole(1, b""), &[(2, 0x78)]), 4),
-        (changed(&whole(1, b""), &[(2, 0x5E)]), 4),
-        (changed(&whole(1, b""), &[(2, 0x9E), (0, 9)]), 4),
+        (changed(&whole(1, b""), &[(2, 0x7E)]), 4),
+        (changed(&whole(1, b""), &[(2, 0xBE), (0, 9)]), 4),
+        (changed(&whole(1, b""), &[(2, 0x9E)]), 3),
         (changed(&whole(1, b""), &[(2, 0x98)]), 3),
         (changed(&whole(1, b""), &[(8, 0x10)]), 3),
         (changed(&alone(OPEN, 0), &[(2, 0x4A)]), 3),
         (changed(&whole(1, b"a"), &[(2, 0x5A)]), 3),
-        (changed(&whole(1, b"a"), &[(2, 0x5F)]), 3),
+        (changed(&whole(1, b"ab"), &[(2, 0x5F)]), 3),
+        (changed(&whole(1, b"ab"), &[(2, 0x5E)]), 3),
         (changed(&whole(1, b"a"), &[(2, 0x5C)]), 3),
         (changed(&whole(1, b""), &[(2, 0x4D)]), 3),
     ];
@@ -113,14 +115,23 @@ fn no_record_for_the_packet_gives_14() {
     assert_eq!(rig.arrive(&ack), 14);
 }
 
-/// An Ack, Control or Heartbeat with payload is refused with 3 before any record
-/// is looked for.
+/// A payload of two octets in any packet but Data is refused with 3 before any record
+/// is looked for, and so is one of one octet in a Control or Heartbeat packet or in a
+/// Heartbeat Ack.
 #[test]
 fn a_payload_where_none_may_be_comes_before_14() {
     let mut rig = Rig::receiving(RECEIVING);
-    for kind in [DATA_ACK, OPEN, CLOSE, HEARTBEAT, HEARTBEAT_ACK, CONTROL_ACK] {
+    for kind in 1..=7 {
+        let packet = changed(&whole(1, b"ab"), &[(2, 0x58 | kind), (6, 9)]);
+        assert_eq!(rig.arrive(&packet), 3);
+    }
+    for kind in [OPEN, CLOSE, HEARTBEAT, HEARTBEAT_ACK] {
         let packet = changed(&whole(1, b"a"), &[(2, 0x58 | kind), (6, 9)]);
         assert_eq!(rig.arrive(&packet), 3);
+    }
+    for kind in [DATA_ACK, CONTROL_ACK, FLOW_CONTROL] {
+        let packet = changed(&whole(1, b"a"), &[(2, 0x58 | kind), (6, 9)]);
+        assert_eq!(rig.arrive(&packet), 14);
     }
 }
 

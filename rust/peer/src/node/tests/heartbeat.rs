@@ -45,19 +45,23 @@ fn a_heartbeat_is_answered_in_open() {
     }
 }
 
-/// It moves no Data: what is in flight, held or complete stays.
+/// It moves no Data: what is in flight, held or complete stays. A receive end keeps
+/// the number of its Ack, the last that it transmitted, and no more (A5).
 #[test]
 fn a_heartbeat_moves_no_data() {
     let mut rig = both_open([SENDING, RECEIVING]);
     rig.transfer(0, b"a");
     rig.next().unwrap();
     rig.arrive(&whole(2, b"b"));
-    let before = rig.node.clone();
+    let before = [0, 1].map(|index| rig.node.sight(index).unwrap());
     for channel in [1, 2] {
         assert_eq!(rig.arrive(&packet_for(channel, HEARTBEAT, 1)), 0);
         assert_eq!(rig.arrive(&packet_for(channel, HEARTBEAT_ACK, 1)), 16);
     }
-    assert_eq!(rig.node, before);
+    let [sending, mut receiving] = before;
+    assert_eq!(rig.node.sight(0), Some(sending));
+    assert_eq!(std::mem::replace(&mut receiving.last_number, 1), 2);
+    assert_eq!(rig.node.sight(1), Some(receiving));
 }
 
 /// Heartbeats belong to OPEN (000, 4.4.4.4 and 4.5.3.7); elsewhere they give 5, and
