@@ -28,3 +28,4 @@ pub mod Pulses
 -- The units that a record holds stay as they are.
 pub mod UnitsStay
 pub mod PulseMoves
+pub mod FlowPlaces
