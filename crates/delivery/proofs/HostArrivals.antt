@@ -208,6 +208,7 @@ module _ {h s : End} {past : List Event} {x : Sender} {y : Receiver} {t : List C
         k .numbered .back copy u replied named kind,
         omega (arith, late, k .now .counted, window),
       )
+      (refl, named, kind, refl, k .numbered .back copy u replied named kind)
       refl
       (chosen (names h u) (confirmed h past + confirmedOf a) (confirmed h past) named
       ∙ ap (λ (m : ℕ). confirmed h past + m) (before .0 .2)

@@ -59,7 +59,7 @@ module _ (h s : End) (fresh-h : Fresh h) (fresh-s : Fresh s) (alike : Alike h s)
       (is host arrives (hostCall r copy) ≡ true → binds h (r .octets) ≡ true
       → Replied s past copy (r .octets) × (IsDataAck (r .octets) → NotLate (endWith h t mem lens lines n) copy))
       → (granted host opens (h .index) (hostEvent r copy n (indexTold (endWith h t mem lens lines n) r) (g .answer) (g .out)) ≡ true → openings host (h .index) past ≡ 0)
-      → HostNext h s past y (hostEvent r copy n (indexTold (endWith h t mem lens lines n) r) (g .answer) (g .out)) n (recordAt t (h .index)) (recordAt (g .table) (h .index))
+      → HostNext h s past y x (hostEvent r copy n (indexTold (endWith h t mem lens lines n) r) (g .answer) (g .out)) n (recordAt t (h .index)) (recordAt (g .table) (h .index))
       (ownMem (g .table) (h .index) (g .mem)) (ownLens (g .table) (h .index) (g .lens))
 
   by-kind : (kind : Kind) (i : ℕ) (u b : List ℕ) (copy : ℕ) → HostCall (asking kind i u b) copy

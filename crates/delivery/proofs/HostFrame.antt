@@ -19,8 +19,8 @@ use Rattle.protocol.specs.History as protocol
 use Rattle.protocol.proofs.Invariant.{Inv}
 use Rattle.means.specs.Meaning.{carried}
 use Rattle.means.proofs.Sends.{Sends}
-use Rattle.delivery.specs.Calls.{End, hands, Request, countedOn}
-use Rattle.delivery.specs.History.{host, Call, Event, is, written, names, IsData, Toward, segmentOf, openings, accepted, confirmed, reclaimed, taken}
+use Rattle.delivery.specs.Calls.{End, hands, arrives, Request, countedOn}
+use Rattle.delivery.specs.History.{host, Call, Event, is, written, names, IsData, IsDataAck, Toward, segmentOf, openings, accepted, confirmed, reclaimed, taken}
 use Rattle.delivery.proofs.Known.{Out, Back, back-later, limits, InvOf, Numbered, inv-links}
 use Rattle.delivery.proofs.Counting.{counted-same}
 use Rattle.delivery.proofs.Protocol.{FairAck, sender-keeps}
@@ -45,10 +45,28 @@ sent-before (SenderCall.ack j q) a i g x = x
 sent-before SenderCall.reclaim a i g x = x
 sent-before SenderCall.noise a i g x = x
 
+-- an Ack that the protocol is told of came with the call, and has the number of its segment
+abbrev pub AckCame : End → Event → SenderCall → Type 0
+AckCame h e (SenderCall.control p) = Unit {0}
+AckCame h e (SenderCall.transfer u) = Unit {0}
+AckCame h e (SenderCall.handOut i) = Unit {0}
+AckCame h e (SenderCall.ack i q) =
+    (is host arrives (e .call) ≡ true)
+    × (names h (e .call .request .octets) ≡ true)
+    × IsDataAck (e .call .request .octets)
+    × (e .call .copyOf ≡ i)
+    × (q ≡ numberAt i)
+AckCame h e SenderCall.reclaim = Unit {0}
+AckCame h e SenderCall.noise = Unit {0}
+
 module _ (h s : End) (past : List Event) (y : Receiver) where
-  -- what is to be shown after the event e, where the window had started at n, the record was `before`, and now is c with its octets and lengths
-  pub record HostNext (e : Event) (n : ℕ) (before c : Channel) (mem lens : List ℕ) : Type 0 where
+  -- what is to be shown after the event e, where the record meant x, the window had started at n, the record was `before`, and now is c with its octets
+  -- and lengths: it means what a call of the protocol leads to
+  pub record HostNext (x : Sender) (e : Event) (n : ℕ) (before c : Channel) (mem lens : List ℕ) : Type 0 where
     pub sender : Sender
+    pub call : SenderCall
+    pub stepped : sender ≡ senderStep (limits h s) x call .0
+    pub came : AckCame h e call
     pub inv : InvOf h s (e ∷ past) sender y
     pub numbered : Numbered h s (e ∷ past)
     pub means : Sends c mem lens sender
@@ -85,6 +103,7 @@ module _ (h s : End) (past : List Event) (y : Receiver) where
 
     pub host-next : (k : SenderCall)
         → FairAck (limits h s) small (accepted h past) (confirmed h past) (reclaimed h past) (taken s past) (Out h s past) (Back h s past) x y v k
+        → AckCame h event k
         → accepted h (event ∷ past) ≡ protocol.acceptedBy k (senderStep (limits h s) x k .1) (accepted h past)
         → confirmed h (event ∷ past) ≡ protocol.confirmedBy k (senderStep (limits h s) x k .1) (confirmed h past)
         → reclaimed h (event ∷ past) ≡ protocol.reclaimedBy k (senderStep (limits h s) x k .1) (reclaimed h past)
@@ -93,9 +112,9 @@ module _ (h s : End) (past : List Event) (y : Receiver) where
         → Sends c mem lens (senderStep (limits h s) x k .0)
         → countedOn n before c ≡ senderStep (limits h s) x k .0 .start
         → (openings host (h .index) (event ∷ past) ≡ 0 → senderStep (limits h s) x k .0 .phase ≡ fresh)
-        → HostNext event n before c mem lens
-    host-next k fair acc cnt back handing before c mem lens means counted waits =
-        record { sender = x2; inv = inv2; numbered = numbered2; means = means; counted = counted; waits = waits }
+        → HostNext x event n before c mem lens
+    host-next k fair came acc cnt back handing before c mem lens means counted waits =
+        record { sender = x2; call = k; stepped = refl; came = came; inv = inv2; numbered = numbered2; means = means; counted = counted; waits = waits }
       where
         said : ends.Answer
         said = senderStep (limits h s) x k .1
@@ -140,8 +159,8 @@ module _ (h s : End) (past : List Event) (y : Receiver) where
         → Sends c mem lens x
         → n ≡ x .start
         → (openings host (h .index) (event ∷ past) ≡ 0 → x .phase ≡ fresh)
-        → HostNext event n c c mem lens
+        → HostNext x event n c c mem lens
     host-quiet c mem lens acc cnt back none-handed means counted waits =
-        host-next SenderCall.noise tt acc cnt back
+        host-next SenderCall.noise tt tt acc cnt back
         (λ j packet is wrote toward at named kind. absurd (none-handed packet is wrote toward named kind))
         c c mem lens means (counted-same n c c (λ q. refl) ∙ counted) waits

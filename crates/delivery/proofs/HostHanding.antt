@@ -63,11 +63,11 @@ use Rattle.delivery.proofs.HostNow.{HostAt, asking, own, octets, length
 
 -- ---- what an address test has shown
 
-ours-to : (node : Node) (f : Fields) → isOurs node f ≡ true → f .destination ≡ node .address
+pub ours-to : (node : Node) (f : Fields) → isOurs node f ≡ true → f .destination ≡ node .address
 unfolding isOurs
 ours-to node f e = eqb-true (f .destination) (node .address) (both (eqb (f .destination) (node .address)) (eqb (f .protocol) (node .protocol)) e .0)
 
-same-channel : (a : Addresses) (f : Fields) (x : ℕ) (q : Prefix) → same a f x q ≡ true → a .channel ≡ f .channel
+pub same-channel : (a : Addresses) (f : Fields) (x : ℕ) (q : Prefix) → same a f x q ≡ true → a .channel ≡ f .channel
 unfolding same
 same-channel a f x q e =
     let p = both (eqb (a .channel) (f .channel) && eqb (a .remote) (f .source) && samePrefix (a .prefix) q) (looksFor (kindOf (f .kind)) x (a .direction)) e in
@@ -140,7 +140,7 @@ module _ {h s : End} {past : List Event} {x : Sender} {y : Receiver} {t : List C
   hand-single z o carries =
       let c = nextOut (own k) 0 in
       let means = single-out-sends (own k) (octets k) (lengths k) x (asked k) (own-sends k) (k .now .means) in
-      host-next h s past y x (k .inv) (k .numbered) (small k) request copy n (indexFor k request) (Done z 0) o SenderCall.noise tt refl refl refl
+      host-next h s past y x (k .inv) (k .numbered) (small k) request copy n (indexFor k request) (Done z 0) o SenderCall.noise tt tt refl refl refl
       (λ j packet _ wrote _ _ _ kind.
       let fields = subst (Carries (h .node) (own k) (octets k) (lengths k) 0) wrote carries .fields ∙ next-single (h .node) (own k) 0 refl in
       absurd (single-kind (h .node) (own k) (sym (ap (λ (f : Fields). kindOf (f .kind)) fields) ∙ kind)))
@@ -216,7 +216,7 @@ module _ {h s : End} {past : List Event} {x : Sender} {y : Receiver} {t : List C
         let means : Sends c (octets k) (lengths k) (handedOut q x segment .0)
         = subst (λ (q : Bool). Sends c (octets k) (lengths k) (handedOut q x segment .0)) (sym may) (out .related)
         in
-        host-next h s past y x (k .inv) (k .numbered) (small k) request copy n (indexFor k request) (Done z 0) o (SenderCall.handOut segment) tt refl refl refl
+        host-next h s past y x (k .inv) (k .numbered) (small k) request copy n (indexFor k request) (Done z 0) o (SenderCall.handOut segment) tt tt refl refl refl
         (λ j packet _ wrote _ at _ _.
         let got = subst (Carries (h .node) (own k) (octets k) (lengths k) r) wrote carries in
         let is : segment ≡ j = sym (segment-is packet got) ∙ at in (

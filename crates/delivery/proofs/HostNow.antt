@@ -93,7 +93,7 @@ module _ {h s : End} {past : List Event} {x : Sender} {y : Receiver} {t : List C
   indexFor r = indexTold (endWith h t mem lens lines n) r
 
   abbrev pub Next : Request → ℕ → View
-  Next r copy a o c m l = HostNext h s past y (hostEvent r copy n (indexFor r) a o) n own c m l
+  Next r copy a o c m l = HostNext h s past y x (hostEvent r copy n (indexFor r) a o) n own c m l
 
   pub waits-on : (e : Event) → openings host (h .index) (e ∷ past) ≡ 0 → x .phase ≡ fresh
   waits-on e q = k .now .waits (none-opened (granted host opens (h .index) e) (openings host (h .index) past) q)
@@ -167,7 +167,7 @@ module _ {h s : End} {past : List Event} {x : Sender} {y : Receiver} {t : List C
   moves-on r copy a o acc cnt back none c w =
       let b = ltb (rank (x .phase)) (rank (w .phase)) in
       let z = controlled b x (w .phase) .0 in
-      host-next h s past y x (k .inv) (k .numbered) small r copy n (indexFor r) a o (SenderCall.control (w .phase)) tt acc cnt back
+      host-next h s past y x (k .inv) (k .numbered) small r copy n (indexFor r) a o (SenderCall.control (w .phase)) tt tt acc cnt back
       (λ j packet q. absurd (true≢false (sym q ∙ none)))
       own c octets lengths (w .related)
       (counts-same c octets lengths z (w .related) (moved-start b (w .phase)) (moved-was b (w .phase) refl (w .waits)))

@@ -125,7 +125,7 @@ module _ {h s : End} {past : List Event} {x : Sender} {y : Receiver} {t : List C
           let counted : openings host (h .index) (e ∷ past) ≡ suc (openings host (h .index) past)
           = chosen (eqb i (h .index) && eqb (numberOf a) 0) _ _ (ap₂ (λ (p r : Bool). p && r) (eq-eqb i (h .index) at) q)
           in
-          host-next h s past y x (k .inv) (k .numbered) (small k) (asking opens i u b) copy n (indexFor k (asking opens i u b)) a o (SenderCall.control (w .phase)) tt refl refl refl
+          host-next h s past y x (k .inv) (k .numbered) (small k) (asking opens i u b) copy n (indexFor k (asking opens i u b)) a o (SenderCall.control (w .phase)) tt tt refl refl refl
           (λ j packet z. absurd (true≢false (sym z)))
           (own k) c (octets k) (lengths k) (w .related)
           (counted-same n (own k) c (λ z. absurd (omega (arith, z, open-enables (own k) q))) ∙ k .now .counted ∙ sym (moved-start k on (w .phase)))

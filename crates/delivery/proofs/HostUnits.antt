@@ -91,7 +91,7 @@ module _ {h s : End} {past : List Event} {x : Sender} {y : Receiver} {t : List C
       (transfer-sends (own k) (octets k) (lengths k) x (asked k) (own-sends k) (k .now .means) u)
       in
       let z = senderStep (limits h s) x call .0 in
-      host-next h s past y x (k .inv) (k .numbered) (small k) (asking transfers i u b) copy n (indexFor k (asking transfers i u b)) a o call tt
+      host-next h s past y x (k .inv) (k .numbered) (small k) (asking transfers i u b) copy n (indexFor k (asking transfers i u b)) a o call tt tt
       (ap₂ (λ (p : Bool) (q : ℕ). if p && eqb q 0 then accepted h past ++ (u ∷ []) else accepted h past) (eq-eqb i (h .index) at) (w .1))
       refl refl
       (λ j packet q. absurd (true≢false (sym q)))
@@ -189,7 +189,7 @@ module _ {h s : End} {past : List Event} {x : Sender} {y : Receiver} {t : List C
           = ap₂ (λ (p : ℕ) (r : List ℕ). take p r) (wrote .0 ∙ w .3 ∙ ap length (w .2)) (wrote .1) ∙ laid-first b unit ∙ sym (w .2)
           in
           let was = history.reclaimed h past in
-          host-next h s past y x (k .inv) (k .numbered) (small k) (asking reclaims i u b) copy n (indexFor k (asking reclaims i u b)) a o call tt refl refl
+          host-next h s past y x (k .inv) (k .numbered) (small k) (asking reclaims i u b) copy n (indexFor k (asking reclaims i u b)) a o call tt tt refl refl
           (chosen (eqb i (h .index) && eqb (numberOf a) 0) _ _ (ap₂ (λ (p r : Bool). p && r) (eq-eqb i (h .index) at) q)
           ∙ ap (λ (p : List ℕ). was ++ (p ∷ [])) is-unit
           ∙ sym (chosen (eqb (said .number) 0) (was ++ (said .unit ∷ [])) was (eq-eqb (said .number) 0 (w .1))))

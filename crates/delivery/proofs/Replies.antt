@@ -1,6 +1,6 @@
 -- What an arrival writes: nothing, or one Ack of the channel that it served, which is read back as it was written.
 -- Assumes nothing.
-use mathlib.Core.Path.{_≡_, refl, sym, ap, _∙_, subst}
+use mathlib.Core.Path.{_≡_, refl, sym, ap, ap₂, _∙_, subst}
 use mathlib.Core.Bool.{Bool, true, false, not, _&&_, _||_}
 use mathlib.Core.List.{List, [], _++_}
 use mathlib.Core.Logic.{_⊎_, inl, inr, ⊎-elim}
@@ -128,11 +128,12 @@ pub record Acks (node : Node) (a : Addresses) (kind : Kind) (number : ℕ) (pack
   pub fields : fieldsAt packet ≡ outgoingOf node a kind flagsWhole number
   pub prefix : prefixRead packet ≡ prefixWith (a .own .length) (prefixOf (a .own))
 
--- one that is no Data Ack
+-- one that is no Data Ack; that of Control is a receiver's
 pub record OtherAck (node : Node) (a : Addresses) (number : ℕ) (packet : List ℕ) : Type 0 where
   pub kind : Kind
   pub known : carried kind ≡ true
   pub other : codeOf kind ≡ codeOf DataAck → ⊥
+  pub receiving : codeOf kind ≡ codeOf ControlAck → a .direction ≡ receives
   pub acks : Acks node a kind number packet
 
 module _ (node : Node) (a : Addresses) (number : ℕ) (fits : fitPrefix (a .own) ≡ true) (of : Acked) (l : Limits) (w : Window) (out : List ℕ)
@@ -149,9 +150,14 @@ module _ (node : Node) (a : Addresses) (number : ℕ) (fits : fitPrefix (a .own)
   long : length p ≡ carries of l
   long = carrying-length of l w
 
-  pub ack-written : Acks node a (ackKind of) number (take (outgoingLength a (carries of l)) (ackOut node a of number p out))
+  abbrev Whole : ℕ → Type 0
+  Whole n =
+      let packet = take (outgoingLength a n) (ackOut node a of number p out) in
+      Acks node a (ackKind of) number packet × (payloadIn packet ≡ p)
+
+  whole : Whole (carries of l)
   unfolding afterWrite
-  ack-written =
+  whole =
       let own = prefix-length (a .own) in
       let few : length p ≤ mostCarried (ackKind of) = subst (λ (n : ℕ). n ≤ mostCarried (ackKind of)) (sym long) (carries-few of l) in
       let enough : outgoingLength a (length p) ≤ length out = subst (λ (n : ℕ). outgoingLength a n ≤ length out) (sym long) room in
@@ -160,16 +166,25 @@ module _ (node : Node) (a : Addresses) (number : ℕ) (fits : fitPrefix (a .own)
       let r = written-then-read f q p out (outgoingLength a (length p)) done in
       let packet = take (outgoingLength a (length p)) (ackOut node a of number p out) in
       let got = accepted packet f (length q) (payloadAt (length q)) (length p) (r .answer) in
-      subst (λ (n : ℕ). Acks node a (ackKind of) number (take (outgoingLength a n) (ackOut node a of number p out))) long
-      (record {
-        count = length p;
-        read = r .answer;
-        fields = got .fields;
-        prefix =
-            ap (λ (n : ℕ). prefixWith n (take n (drop prefixFrom packet))) (got .prefix)
-            ∙ ap (prefixWith (length q)) (r .prefix)
-            ∙ ap (λ (n : ℕ). prefixWith n q) own;
-      })
+      subst Whole long (
+        record {
+          count = length p;
+          read = r .answer;
+          fields = got .fields;
+          prefix =
+              ap (λ (n : ℕ). prefixWith n (take n (drop prefixFrom packet))) (got .prefix)
+              ∙ ap (prefixWith (length q)) (r .prefix)
+              ∙ ap (λ (n : ℕ). prefixWith n q) own;
+        },
+        ap₂ (λ (n k : ℕ). take n (drop (payloadAt k) packet)) (got .payload) (got .prefix) ∙ r .payload,
+      )
+
+  pub ack-written : Acks node a (ackKind of) number (take (outgoingLength a (carries of l)) (ackOut node a of number p out))
+  ack-written = whole .0
+
+  -- with the octets that it carries
+  pub ack-carries : payloadIn (take (outgoingLength a (carries of l)) (ackOut node a of number p out)) ≡ p
+  ack-carries = whole .1
 
   -- what is written by an answer: nothing, or the Ack
   pub reply-written : (r : Answer) → AsLong (outgoingLength a (carries of l)) r
@@ -243,15 +258,17 @@ module _ (node : Node) (packet out : List ℕ) (at rank : ℕ) (c : Channel) (me
       fits : fitPrefix (c .addresses .own) ≡ true
       fits = own-fits c lens (given .standing)
 
-      other : (kind : Kind) (o : List ℕ) → carried kind ≡ true → (codeOf kind ≡ codeOf DataAck → ⊥) → Acks node (c .addresses) kind n o → OtherAck node (c .addresses) n o
-      other kind o known not k = record { kind = kind; known = known; other = not; acks = k }
+      other : (kind : Kind) (o : List ℕ) → carried kind ≡ true → (codeOf kind ≡ codeOf DataAck → ⊥) → (codeOf kind ≡ codeOf ControlAck → c .addresses .direction ≡ receives)
+          → Acks node (c .addresses) kind n o
+          → OtherAck node (c .addresses) n o
+      other kind o known not way k = record { kind = kind; known = known; other = not; receiving = way; acks = k }
 
-      control : ackLength c ≤ length out → (of : Acked) → ackKind of ≡ ControlAck → carries of (c .limits) ≡ statedCount (c .limits) → (opens : Bool)
+      control : ackLength c ≤ length out → (of : Acked) → ackKind of ≡ ControlAck → carries of (c .limits) ≡ statedCount (c .limits) → c .addresses .direction ≡ receives → (opens : Bool)
           → Wrote (replying node c of n (controlStep c opens n) mem lens out)
-      control room of is-control count opens =
+      control room of is-control count way opens =
           let step = controlStep c opens n in
           ⊎-elim (λ e. inl e)
-          (λ e. inr (inl (other (ackKind of) _ (ap carried is-control) (λ z. omega (arith, sym (ap codeOf is-control) ∙ z)) e)))
+          (λ e. inr (inl (other (ackKind of) _ (ap carried is-control) (λ z. omega (arith, sym (ap codeOf is-control) ∙ z)) (λ z. way) e)))
           (reply-written node (c .addresses) n fits of (c .limits) (step .channel .window) out (subst (λ (k : ℕ). outgoingLength (c .addresses) k ≤ length out) (sym count) room) (step .answer)
           (subst (λ (k : ℕ). AsLong (outgoingLength (c .addresses) k) (step .answer)) (sym count) (control-long c opens n)))
 
@@ -263,10 +280,10 @@ module _ (node : Node) (packet out : List ℕ) (at rank : ℕ) (c : Channel) (me
           ⊎-elim (λ e. inl e) (λ e. inr (inr (eqb-true _ _ (kind-finds (c .addresses) f x (prefixRead packet) Data (told .ours) is), e)))
           (reply-written node (c .addresses) n fits acked.Data (c .limits) (dataStep c n (f .flags) .channel .window) out room (dataStep c n (f .flags) .answer) (data-long c n (f .flags)))
       as-kind DataAck is room = silent (dataAckStated c n m) (ap lengthOf (data-stated-answer c n m) ∙ data-ack-silent c n)
-      as-kind Open is room = control room acked.Open refl refl true
-      as-kind Close is room = control room acked.Close refl refl false
+      as-kind Open is room = control room acked.Open refl refl (eqb-true _ _ (kind-finds (c .addresses) f x (prefixRead packet) Open (told .ours) is)) true
+      as-kind Close is room = control room acked.Close refl refl (eqb-true _ _ (kind-finds (c .addresses) f x (prefixRead packet) Close (told .ours) is)) false
       as-kind Heartbeat is room =
-          ⊎-elim (λ e. inl e) (λ e. inr (inl (other HeartbeatAck _ refl (λ z. omega (arith, z)) e)))
+          ⊎-elim (λ e. inl e) (λ e. inr (inl (other HeartbeatAck _ refl (λ z. omega (arith, z)) (λ z. absurd (omega (arith, z))) e)))
           (reply-written node (c .addresses) n fits acked.Heartbeat (c .limits) (heartbeatStep c .channel .window) out room (heartbeatStep c .answer) (heartbeat-long c))
       as-kind HeartbeatAck is room = silent (heartbeatAckStep c n) (heartbeat-ack-silent c n)
       as-kind FlowControl is room =
@@ -275,7 +292,7 @@ module _ (node : Node) (packet out : List ℕ) (at rank : ℕ) (c : Channel) (me
           (λ e.
           let some = six-carries (c .addresses) f x (prefixRead packet) (told .ours) is (eqb-false _ _ e) in
           let enough = subst (λ (k : ℕ). k ≤ length out) (passed-by (eqb x 0) least (outgoingLength (c .addresses) 0) (ne-eqb x 0 some)) room in
-          ⊎-elim (λ z. inl z) (λ z. inr (inl (other FlowControl _ refl (λ y. omega (arith, y)) z)))
+          ⊎-elim (λ z. inl z) (λ z. inr (inl (other FlowControl _ refl (λ y. omega (arith, y)) (λ y. absurd (omega (arith, y))) z)))
           (reply-written node (c .addresses) n fits acked.Flow (c .limits) (flowStep c m .channel .window) out enough (flowStep c m .answer) (flow-long c m)))
       as-kind ControlAck is room = silent (controlAckStated c n m) (ap lengthOf (control-stated-answer c n m) ∙ control-ack-silent c n)
       as-kind (Lacking code) is room = inl refl

@@ -32,7 +32,7 @@ module _ (h s : End) (fresh-h : Fresh h) (fresh-s : Fresh s) (alike : Alike h s)
     pub at-host : Host h past (e .table) (e .mem) (e .lens) (e .start) sender
     pub at-subscriber : Subscriber s past (f .table) (f .mem) (f .lens) (f .start) receiver
 
-  pub begins : Holds [] h s
+  unfoldable pub begins : Holds [] h s
   begins =
       record {
         sender = freshSender;

@@ -33,7 +33,7 @@ module _ (h s : End) (fresh-h : Fresh h) (fresh-s : Fresh s) (alike : Alike h s)
 
   abbrev After : Request → ℕ → Type 0
   After r copy =
-      SubscriberNext h s past x (event r copy) n (recordAt t (s .index)) (recordAt (outcome r .table) (s .index))
+      SubscriberNext h s past x y (event r copy) n (recordAt t (s .index)) (recordAt (outcome r .table) (s .index))
       (ownMem (outcome r .table) (s .index) (outcome r .mem)) (ownLens (outcome r .table) (s .index) (outcome r .lens))
 
   -- the premises on a call

@@ -224,7 +224,7 @@ module _ {h s : End} {past : List Event} {x : Sender} {y : Receiver} {t : List C
     data-open : rank (y .phase) ≡ 2 → Next w request copy (made .answer) (outOf (made .answer)) kept (dataMem c (f .number) p m) (dataLens c (f .number) p l)
     data-open now-open =
         subscriber-next h s past x y (w .inv) (w .numbered) (small w) request copy n (indexFor w request) (made .answer) (outOf (made .answer)) call
-        (out, number-is, not-late) refl (reply-by (made .answer) (data-long c (f .number) (f .flags)) (related .1))
+        (out, number-is, not-late) (refl, named, kind, refl, number-is) refl (reply-by (made .answer) (data-long c (f .number) (f .flags)) (related .1))
         c kept (dataMem c (f .number) p m) (dataLens c (f .number) p l) (related .0)
         (counted-next w z kept (dataMem c (f .number) p m) (dataLens c (f .number) p l) (related .0)
         (λ q. omega (arith, now-open)) (λ q. omega (arith, now-open)) (near .0) (omega (arith, near .1))

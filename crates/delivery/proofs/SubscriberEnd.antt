@@ -122,7 +122,7 @@ module _ {h s : End} {past : List Event} {x : Sender} {y : Receiver} {t : List C
   indexFor r = indexTold (endWith s t mem lens lines n) r
 
   abbrev pub Next : Request → ℕ → View
-  Next r copy a o k m2 l2 = SubscriberNext h s past x (subscriberEvent r copy n (indexFor r) a o) n c k m2 l2
+  Next r copy a o k m2 l2 = SubscriberNext h s past x y (subscriberEvent r copy n (indexFor r) a o) n c k m2 l2
 
   -- how far the start is counted on
   pub counted-next : (z : Receiver) (k : Channel) (m2 l2 : List ℕ) → Receives k m2 l2 z
@@ -169,7 +169,7 @@ module _ {h s : End} {past : List Event} {x : Sender} {y : Receiver} {t : List C
       -- a move to a later phase
       pub moves-next : (k : Channel) → Moves c k m l y → Next r copy a o k m l
       moves-next k q =
-          subscriber-next h s past x y (w .inv) (w .numbered) small r copy n (indexFor r) a o call tt taken-same
+          subscriber-next h s past x y (w .inv) (w .numbered) small r copy n (indexFor r) a o call tt tt taken-same
           (no-reply h s past x y (w .inv) (w .numbered) small r copy n (indexFor r) a o call unreplied (λ j b. b))
           c k m l (q .related) (counted (ltb (rank (y .phase)) (rank (q .phase))) refl (q .related)) (waits (ltb (rank (y .phase)) (rank (q .phase))))
         where

@@ -19,7 +19,7 @@ use Rattle.protocol.specs.History as protocol
 use Rattle.protocol.proofs.Invariant.{Inv}
 use Rattle.means.proofs.Receives.{Receives}
 use Rattle.delivery.specs.Calls.{End, arrives, Request, countedOn}
-use Rattle.delivery.specs.History.{subscriber, Call, Event, is, written, names, IsDataAck, Toward, openings, accepted, confirmed, reclaimed, taken}
+use Rattle.delivery.specs.History.{subscriber, Call, Event, is, written, names, IsData, IsDataAck, Toward, openings, accepted, confirmed, reclaimed, taken}
 use Rattle.delivery.proofs.Known.{Out, Back, back-later, limits, InvOf, Numbered, inv-links}
 use Rattle.delivery.proofs.Counting.{counted-same}
 use Rattle.delivery.proofs.Protocol.{FairData, receiver-keeps}
@@ -42,10 +42,26 @@ acked-before (ReceiverCall.arrival j q g) a i {P = P} x = go (protocol.replied a
 acked-before ReceiverCall.takeUnit a i x = x
 acked-before ReceiverCall.noise a i x = x
 
+-- Data that the protocol is told of came with the call, and has the number of its segment
+abbrev pub DataCame : End → Event → ReceiverCall → Type 0
+DataCame s e (ReceiverCall.control p) = Unit {0}
+DataCame s e (ReceiverCall.arrival i q g) =
+    (is subscriber arrives (e .call) ≡ true)
+    × (names s (e .call .request .octets) ≡ true)
+    × IsData (e .call .request .octets)
+    × (e .call .copyOf ≡ i)
+    × (q ≡ numberAt i)
+DataCame s e ReceiverCall.takeUnit = Unit {0}
+DataCame s e ReceiverCall.noise = Unit {0}
+
 module _ (h s : End) (past : List Event) (x : Sender) where
-  -- what is to be shown after the event e, where the window had started at n, the record was `before`, and now is c with its octets and lengths
-  pub record SubscriberNext (e : Event) (n : ℕ) (before c : Channel) (mem lens : List ℕ) : Type 0 where
+  -- what is to be shown after the event e, where the record meant y, the window had started at n, the record was `before`, and now is c with its octets
+  -- and lengths: it means what a call of the protocol leads to
+  pub record SubscriberNext (y : Receiver) (e : Event) (n : ℕ) (before c : Channel) (mem lens : List ℕ) : Type 0 where
     pub receiver : Receiver
+    pub call : ReceiverCall
+    pub stepped : receiver ≡ receiverStep (limits h s) y call .0
+    pub came : DataCame s e call
     pub inv : InvOf h s (e ∷ past) x receiver
     pub numbered : Numbered h s (e ∷ past)
     pub means : Receives c mem lens receiver
@@ -92,15 +108,16 @@ module _ (h s : End) (past : List Event) (x : Sender) where
 
     pub subscriber-next : (k : ReceiverCall)
         → FairData (limits h s) small (accepted h past) (confirmed h past) (reclaimed h past) (taken s past) (Out h s past) (Back h s past) x y v k
+        → DataCame s event k
         → taken s (event ∷ past) ≡ protocol.takenBy k (receiverStep (limits h s) y k .1) (taken s past)
         → Replying k
         → (before c : Channel) (mem lens : List ℕ)
         → Receives c mem lens (receiverStep (limits h s) y k .0)
         → (rank (receiverStep (limits h s) y k .0 .phase) ≤ 2 → countedOn n before c ≡ startOf (receiverStep (limits h s) y k .0))
         → (openings subscriber (s .index) (event ∷ past) ≡ 0 → receiverStep (limits h s) y k .0 .phase ≡ fresh)
-        → SubscriberNext event n before c mem lens
-    subscriber-next k fair tak replying before c mem lens means counted waits =
-        record { receiver = y2; inv = inv2; numbered = numbered2; means = means; counted = counted; waits = waits }
+        → SubscriberNext y event n before c mem lens
+    subscriber-next k fair came tak replying before c mem lens means counted waits =
+        record { receiver = y2; call = k; stepped = refl; came = came; inv = inv2; numbered = numbered2; means = means; counted = counted; waits = waits }
       where
         said : ends.Answer
         said = receiverStep (limits h s) y k .1
@@ -152,7 +169,7 @@ module _ (h s : End) (past : List Event) (x : Sender) where
         → Receives c mem lens y
         → (rank (y .phase) ≤ 2 → n ≡ startOf y)
         → (openings subscriber (s .index) (event ∷ past) ≡ 0 → y .phase ≡ fresh)
-        → SubscriberNext event n c c mem lens
+        → SubscriberNext y event n c c mem lens
     subscriber-quiet c mem lens tak none-written means counted waits =
-        subscriber-next ReceiverCall.noise tt tak (no-reply ReceiverCall.noise none-written (λ j b. b)) c c mem lens means
+        subscriber-next ReceiverCall.noise tt tt tak (no-reply ReceiverCall.noise none-written (λ j b. b)) c c mem lens means
         (λ q. counted-same n c c (λ z. refl) ∙ counted q) waits

@@ -177,7 +177,7 @@ module _ {h s : End} {past : List Event} {x : Sender} {y : Receiver} {t : List C
 
   opens-done : channel ≡ i → openStep c ≡ doing (enabledOf c noLone) 0 → First (Done 0 0) buffer (enabledOf c noLone) m l
   opens-done own e first =
-      subscriber-next h s past x y (w .inv) (w .numbered) (small w) (request opens) copy n (indexFor w (request opens)) (Done 0 0) buffer call tt refl
+      subscriber-next h s past x y (w .inv) (w .numbered) (small w) (request opens) copy n (indexFor w (request opens)) (Done 0 0) buffer call tt tt refl
       (no-reply h s past x y (w .inv) (w .numbered) (small w) (request opens) copy n (indexFor w (request opens)) (Done 0 0) buffer call (λ packet q. absurd (true≢false (sym q))) (λ j b. b))
       c (enabledOf c noLone) m l (q .related)
       (λ z. counted-same n c (enabledOf c noLone) (λ k. absurd (omega (arith, k))) ∙ w .now .counted (omega (arith, ap rank fresh-yet)) ∙ start (ltb (rank (y .phase)) (rank (q .phase))))

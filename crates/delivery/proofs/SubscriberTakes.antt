@@ -90,7 +90,7 @@ module _ {h s : End} {past : List Event} {x : Sender} {y : Receiver} {t : List C
   takes-done : channel ≡ i → takeStep c l (length buffer) ≡ doing (spec.taken c (unitAt c)) (sizeAt c l) → sizeAt c l ≤ length buffer
       → Next w request copy (Done (sizeAt c l) 0) (laid buffer 0 unit) (spec.taken c (unitAt c)) m l
   takes-done own e room =
-      subscriber-next h s past x y (w .inv) (w .numbered) (small w) request copy n (indexFor w request) said (laid buffer 0 unit) ReceiverCall.takeUnit tt grows
+      subscriber-next h s past x y (w .inv) (w .numbered) (small w) request copy n (indexFor w request) said (laid buffer 0 unit) ReceiverCall.takeUnit tt tt grows
       (no-reply h s past x y (w .inv) (w .numbered) (small w) request copy n (indexFor w request) said (laid buffer 0 unit) ReceiverCall.takeUnit (λ packet q. absurd (true≢false (sym q))) (λ j b. b))
       c (spec.taken c (unitAt c)) m l related
       (counted-next w z (spec.taken c (unitAt c)) m l related (λ q. omega (arith, q, phase-same)) (λ q. omega (arith, q, phase-same))

@@ -69,7 +69,7 @@ module _ (c : Limits) where
     sorted-near true d g = in-window-near (r .filed (startOf r + d)) (startOf r + d) g
     sorted-near false d g = outside-near (leb (256 - c .window) d)
 
-    arrived-near : (b : Bool) (d : ℕ) (g : Segment) → To (receiver.arrived c b r d g .0)
+    pub arrived-near : (b : Bool) (d : ℕ) (g : Segment) → To (receiver.arrived c b r d g .0)
     arrived-near false d g = still
     arrived-near true d g = sorted-near (ltb d (c .window)) d g
 

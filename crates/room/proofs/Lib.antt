@@ -1,0 +1,19 @@
+-- Never-eight: Data finds a slot.
+pub mod Steps
+pub mod HostFlow
+pub mod HostSeen
+pub mod Chains
+pub mod Marks
+pub mod Known
+pub mod Link
+pub mod HostSaid
+pub mod HostLink
+pub mod Says
+pub mod SaysArrivals
+pub mod SaysHands
+pub mod SaysCalls
+pub mod Filled
+pub mod SubscriberLink
+pub mod SubscriberSaid
+pub mod Full
+pub mod NeverEight
