@@ -40,6 +40,10 @@
  * gets no answer closes its channel with the reason PEAT_RETRIES. The sender records what is stated, and new Data past it is not ready; Data
  * that was sent is resent all the same.
  *
+ * A pair of routes: a sender may name another sender of the table as its spare. On both, and on no other channel, a unit has a leading octet in
+ * front of its own: 0 as it was transferred. It is filed, sent, taken and reclaimed with the unit. So M x P octets are one too many there, and an
+ * empty unit is one octet. Nothing is moved from one route to the other yet.
+ *
  * A packet has 12 + N + X octets: N, 0 to 15, are of the prefix of its source address, X of its payload. What goes out has the own prefix of
  * its channel, and begins with the other node's logical address. The destination identifiers before that (000, 4.2.2.1), by which it is led
  * to another region, are the driver's: the library neither writes nor reads them. They are the octets of the channel's remote prefix, and
@@ -61,7 +65,8 @@ extern "C" {
 /* Makes the table afresh, one record of each of the settings, CLOSED and empty. It reads no old record, and alone may drop held units. The
  * memory and lengths are only measured: their octets may be anything, and so may those of the lines, which it sets to 0.
  *   13  not 1 to 16 settings; not as many as records; one out of its bounds, a prefix or flow too; two that agree in channel, remote and remote
- *       prefix, whatever their directions; memory, lengths or lines not of their size
+ *       prefix, whatever their directions; a spare that is no other sending record, or that a receiver names; lead other than 1 on a pair and
+ *       0 elsewhere; memory, lengths or lines not of their size
  *   0   else, and the lines are empty */
 PeatSaid peat_settings(PeatChannel *table, size_t records, const uint8_t *memory, size_t octets, const uint16_t *lengths, size_t slots,
                        uint8_t *lines, size_t line_octets, const PeatSettings *settings, size_t count);
@@ -85,7 +90,7 @@ PeatSaid peat_close(PeatChannel *table, size_t records, uint8_t *memory, size_t 
 /* A unit of any length, 0 too, for a sender to hold and send. The unit is only read, and need not be kept.
  *   13, 14  as above
  *   5       a receiver; a sender that is not OPEN
- *   6, 7    the unit has over M segments; slots held and slots needed are over the slots
+ *   6, 7    the unit, with its leading octet if it has one, has over M segments; slots held and slots needed are over the slots
  *   0       accepted: its segments lie in the memory, with their lengths; a slot's octets past its segment stay */
 PeatSaid peat_transfer(PeatChannel *table, size_t records, uint8_t *memory, size_t octets, uint16_t *lengths, size_t slots, uint8_t *lines,
                        size_t line_octets, size_t index, const uint8_t *unit, size_t count);

@@ -113,6 +113,8 @@ typedef struct PeatLimits {
                         * none of its own is under way; 0: it makes none. Each end has its own, and answers those of the other whatever its own is */
     uint16_t flow;     /* 1: Flow Control is used, 0: it is not. The other end's must be the same: else every Ack of Data, Open or Close is refused
                         * with 3 */
+    uint16_t spare;    /* of a sender: its spare, by the index and 1 more of another sending record of the table; 0: it names none */
+    uint16_t lead;     /* 1 exactly if the record names a spare or is named as one: a unit of it has a leading octet, else 0 */
 } PeatLimits;
 
 typedef struct PeatSettings {

@@ -28,7 +28,7 @@ static PeatSaid expect(const char *what, PeatSaid said) {
 }
 
 static void make(End *end, uint8_t own, uint8_t remote, uint8_t direction) {
-    PeatSettings settings = {{7, remote, direction, PEAT_NO_PREFIX, PEAT_NO_PREFIX}, {4, SLOTS, PAYLOAD, 4, 10, 50, 2, 0, 0}};
+    PeatSettings settings = {{7, remote, direction, PEAT_NO_PREFIX, PEAT_NO_PREFIX}, {4, SLOTS, PAYLOAD, 4, 10, 50, 2, 0, 0, 0, 0}};
     PeatLent lent = {end->table, 1, end->memory, sizeof end->memory, end->lengths, SLOTS, end->lines, PEAT_LINES};
     end->lent = lent;
     end->node.address = own;

@@ -64,8 +64,8 @@ static size_t exchange(const PeatLent *lent) {
 /* Both ends are the node's. What comes back has a prefix of one octet, which alone tells them apart. */
 static void an_empty_unit(void) {
     static const PeatSettings settings[2] = {
-        {{1, 64, PEAT_SENDS, {1, {7}}, PEAT_NO_PREFIX}, {1, 2, 1, 1, 9, 9, 0, 0, 0}},
-        {{1, 64, PEAT_RECEIVES, PEAT_NO_PREFIX, {1, {7}}}, {1, 2, 1, 1, 9, 9, 0, 0, 0}},
+        {{1, 64, PEAT_SENDS, {1, {7}}, PEAT_NO_PREFIX}, {1, 2, 1, 1, 9, 9, 0, 0, 0, 0, 0}},
+        {{1, 64, PEAT_RECEIVES, PEAT_NO_PREFIX, {1, {7}}}, {1, 2, 1, 1, 9, 9, 0, 0, 0, 0, 0}},
     };
     static PeatChannel table[2];
     static uint8_t memory[4], lines[PEAT_LINES];

@@ -32,14 +32,14 @@ static End host, station;
 /* What stands before the source address, both ways: nothing, but where a test is of that. */
 static PeatPrefix prefix;
 
-static const PeatLimits USED = {WINDOW, SLOTS, PAYLOAD, 1, TIMEOUT, 9, RETRIES, 0, 1};
+static const PeatLimits USED = {WINDOW, SLOTS, PAYLOAD, 1, TIMEOUT, 9, RETRIES, 0, 1, 0, 0};
 
 static int says(PeatSaid said, uint32_t number, size_t length) {
     return said.number == number && said.length == length && said.index == 0;
 }
 
 static PeatSaid make(End *end, uint8_t own, uint8_t remote, uint8_t direction, PeatLimits limits) {
-    PeatSettings settings = {{CHANNEL, 0, 0, PEAT_NO_PREFIX, PEAT_NO_PREFIX}, {0, 0, 0, 0, 0, 0, 0, 0, 0}};
+    PeatSettings settings = {{CHANNEL, 0, 0, PEAT_NO_PREFIX, PEAT_NO_PREFIX}, {0, 0, 0, 0, 0, 0, 0, 0, 0, 0, 0}};
     PeatLent lent = {end->table, 1, end->memory, sizeof end->memory, end->lengths, SLOTS, end->lines, PEAT_LINES};
     settings.addresses.remote = remote;
     settings.addresses.direction = direction;

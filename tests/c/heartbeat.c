@@ -59,8 +59,8 @@ static void ticks(int count) {
 /* Both channels are open; one has this interval, the other none. */
 static void open_both(size_t lively, uint16_t retries) {
     static const PeatSettings settings[RECORDS] = {
-        {{SENDER, 65, PEAT_SENDS, PEAT_NO_PREFIX, {PREFIX, {1, 2, 3}}}, {2, SLOTS, PAYLOAD, 2, TIMEOUT, 9, RETRIES, 0, 0}},
-        {{RECEIVER, 65, PEAT_RECEIVES, PEAT_NO_PREFIX, {PREFIX, {1, 2, 3}}}, {2, SLOTS, PAYLOAD, 2, TIMEOUT, 9, RETRIES, 0, 0}},
+        {{SENDER, 65, PEAT_SENDS, PEAT_NO_PREFIX, {PREFIX, {1, 2, 3}}}, {2, SLOTS, PAYLOAD, 2, TIMEOUT, 9, RETRIES, 0, 0, 0, 0}},
+        {{RECEIVER, 65, PEAT_RECEIVES, PEAT_NO_PREFIX, {PREFIX, {1, 2, 3}}}, {2, SLOTS, PAYLOAD, 2, TIMEOUT, 9, RETRIES, 0, 0, 0, 0}},
     };
     PeatSettings these[RECORDS];
     memcpy(these, settings, sizeof settings);

@@ -39,6 +39,8 @@ static void what_the_caller_fills(void) {
     FIELD(Limits, retries);
     FIELD(Limits, interval);
     FIELD(Limits, flow);
+    FIELD(Limits, spare);
+    FIELD(Limits, lead);
     WHOLE(Settings);
     FIELD(Settings, addresses);
     FIELD(Settings, limits);

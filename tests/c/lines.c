@@ -9,8 +9,8 @@ enum { RECORDS = 2, SLOTS = 2, PAYLOAD = 4, OCTETS = RECORDS * SLOTS * PAYLOAD, 
 
 static const PeatNode NODE = {64, PEAT_PROTOCOL};
 static const PeatSettings SETTINGS[RECORDS] = {
-    {{1, 64, PEAT_SENDS, PEAT_NO_PREFIX, PEAT_NO_PREFIX}, {1, SLOTS, PAYLOAD, 1, 9, 9, 0, 0, 0}},
-    {{2, 64, PEAT_RECEIVES, PEAT_NO_PREFIX, PEAT_NO_PREFIX}, {1, SLOTS, PAYLOAD, 1, 9, 9, 0, 0, 0}},
+    {{1, 64, PEAT_SENDS, PEAT_NO_PREFIX, PEAT_NO_PREFIX}, {1, SLOTS, PAYLOAD, 1, 9, 9, 0, 0, 0, 0, 0}},
+    {{2, 64, PEAT_RECEIVES, PEAT_NO_PREFIX, PEAT_NO_PREFIX}, {1, SLOTS, PAYLOAD, 1, 9, 9, 0, 0, 0, 0, 0}},
 };
 
 /* All that a node lends. The octet past the lines shows that a call stays within them. */

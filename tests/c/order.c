@@ -53,7 +53,7 @@ static void open_all(size_t window) {
     PeatSettings settings[RECORDS];
     size_t index;
     for (index = 0; index < RECORDS; index++) {
-        PeatSettings one = {{(uint16_t)index, 65, PEAT_SENDS, PEAT_NO_PREFIX, PEAT_NO_PREFIX}, {1, SLOTS, PAYLOAD, SLOTS, TIMEOUT, 9, 9, 0, 0}};
+        PeatSettings one = {{(uint16_t)index, 65, PEAT_SENDS, PEAT_NO_PREFIX, PEAT_NO_PREFIX}, {1, SLOTS, PAYLOAD, SLOTS, TIMEOUT, 9, 9, 0, 0, 0, 0}};
         settings[index] = one;
         settings[index].limits.window = window;
     }

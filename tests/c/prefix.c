@@ -22,7 +22,7 @@ static const PeatLent LENT = {table, RECORDS, memory, OCTETS, lengths, LENGTHS, 
 
 #define FAR_PREFIX {2, {7, 0}}
 #define OWN_PREFIX {OWN, {1, 2, 3}}
-#define LIMITS {1, SLOTS, PAYLOAD, 1, 9, 9, 0, 0, 0}
+#define LIMITS {1, SLOTS, PAYLOAD, 1, 9, 9, 0, 0, 0, 0, 0}
 
 static const PeatSettings SETTINGS[RECORDS] = {
     {{1, 65, PEAT_RECEIVES, PEAT_NO_PREFIX, PEAT_NO_PREFIX}, LIMITS},

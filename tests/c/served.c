@@ -30,7 +30,7 @@ static void make(void) {
     PeatSettings settings[RECORDS];
     size_t index;
     for (index = 0; index < RECORDS; index++) {
-        PeatSettings one = {{(uint16_t)(index + 1), 64, PEAT_SENDS, PEAT_NO_PREFIX, PEAT_NO_PREFIX}, {2, SLOTS, PAYLOAD, 2, 1, 1, 0, 0, 0}};
+        PeatSettings one = {{(uint16_t)(index + 1), 64, PEAT_SENDS, PEAT_NO_PREFIX, PEAT_NO_PREFIX}, {2, SLOTS, PAYLOAD, 2, 1, 1, 0, 0, 0, 0, 0}};
         settings[index] = one;
     }
     settings[3].addresses.direction = PEAT_RECEIVES;

@@ -76,7 +76,7 @@ static size_t taken_by(void (*call)(void)) {
 static void make(void) {
     size_t index;
     for (index = 0; index < RECORDS; index++) {
-        PeatSettings one = {{(uint16_t)index, 64, PEAT_RECEIVES, LONGEST, LONGEST}, {SLOTS, SLOTS, PAYLOAD, 3, 9, 9, 3, 2, 1}};
+        PeatSettings one = {{(uint16_t)index, 64, PEAT_RECEIVES, LONGEST, LONGEST}, {SLOTS, SLOTS, PAYLOAD, 3, 9, 9, 3, 2, 1, 0, 0}};
         settings[index] = one;
     }
     settings[RECORDS - 1].addresses.channel = 0;

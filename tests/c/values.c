@@ -49,7 +49,7 @@ static void check_sums(void) {
 /* An Open goes out with the node's octets in it, and retries that are used up come back with their reason. */
 static void a_node(void) {
     static const PeatNode node = {64, 238};
-    static const PeatSettings settings = {{0x0102, 65, PEAT_SENDS, PEAT_NO_PREFIX, PEAT_NO_PREFIX}, {2, 2, 3, 1, 1, 1, 0, 0, 0}};
+    static const PeatSettings settings = {{0x0102, 65, PEAT_SENDS, PEAT_NO_PREFIX, PEAT_NO_PREFIX}, {2, 2, 3, 1, 1, 1, 0, 0, 0, 0, 0}};
     PeatChannel table[1];
     uint8_t memory[6] = {0}, lines[PEAT_LINES] = {0}, out[16];
     uint16_t lengths[2] = {0};

@@ -4,6 +4,7 @@ pub mod SettingsLaws
 pub mod StandingLaws
 pub mod MadeLaws
 pub mod TableLaws
+pub mod PairLaws
 pub mod FixedLaws
 pub mod PulseLaws
 pub mod FlowLaws

@@ -1,21 +1,27 @@
 -- What fit settings have shown.
 -- Assumes nothing.
-use mathlib.Core.Path.{_≡_}
-use mathlib.Core.Bool.{Bool, true, false, _&&_}
+use mathlib.Core.Path.{_≡_, sym, ap, _∙_}
+use mathlib.Core.Bool.{Bool, true, false, _&&_, _||_}
 use Prim.Native.Nat.{ℕ, _≤_}
 use native.Mathlib.Nat.{le-trans}
-use borrow.Author.Tests.{leb-true}
-use lib.Dec.{leb}
+use borrow.Author.Tests.{leb-true, eqb-true, ne-eqb}
+use lib.Dec.{leb, eqb}
 use Rattle.laws.proofs.Choice.{both}
 use Rattle.channel.specs.declared.record.Addresses.{Addresses}
 use Rattle.channel.specs.declared.record.Limits.{Limits}
-use Rattle.channel.specs.Settings.{fitWindow, fitUnits, fitTimers, fitLimits, fitAddresses, Fit}
+use Rattle.channel.specs.Settings.{fitWindow, fitUnits, fitTimers, fitRoute, fitLimits, fitAddresses, Fit}
 use Rattle.channel.specs.Prefixes.{fitPrefix}
 
+second : (a b : Bool) → a ≡ false → (a || b) ≡ true → b ≡ true
+second a b e q = sym (ap (λ (a : Bool). a || b) e) ∙ q
+
 pub fit-is : (l : Limits) → fitLimits l ≡ true → Fit l
-unfolding fitLimits fitWindow fitUnits fitTimers
+unfolding fitLimits fitWindow fitUnits fitTimers fitRoute
 fit-is l e =
-    let f = both _ _ e in
+    let g = both _ _ e in
+    let r = both _ _ (g .1) in
+    let r2 = both _ _ (r .0) in
+    let f = both _ _ (g .0) in
     let p = both _ _ (f .0) in
     let q = both _ _ (p .0) in
     let w = both _ _ (q .0) in
@@ -39,6 +45,9 @@ fit-is l e =
       closing = leb-true _ _ (t2 .1);
       retries = leb-true _ _ (t .1);
       flow = leb-true _ _ (f .1);
+      spare = leb-true _ _ (r2 .0);
+      lead = leb-true _ _ (r2 .1);
+      led = λ some. eqb-true _ _ (second (eqb (l .spare) 0) (eqb (l .lead) 1) (ne-eqb (l .spare) 0 some) (r .1));
     }
 
 -- ---- addresses that are fit: the direction has a meaning, and so have both prefixes

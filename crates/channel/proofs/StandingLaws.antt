@@ -248,6 +248,7 @@ ringed c lens h =
       window = f .window;
       most = f .most;
       octet = f .octet;
+      payload = f .payload;
       segments = f .segments;
       place = n .place;
       behind = omega (arith, n .held);

@@ -13,11 +13,12 @@ use Rattle.channel.specs.declared.record.Addresses.{Addresses}
 use Rattle.channel.specs.declared.record.Settings.{Settings}
 use Rattle.channel.specs.Settings.{fit, clash}
 use Rattle.channel.specs.Tables.{mostRecords, clashes, eachFit, fitTable}
+use Rattle.channel.specs.Pairs.{pairsFit}
 
 pub table-count : (l : List Settings) → fitTable l ≡ true → (1 ≤ length l) × (length l ≤ mostRecords)
 unfolding fitTable
 table-count l e =
-    let p = both _ _ e in
+    let p = both _ _ (both _ (pairsFit l) e .0) in
     let q = both _ _ (p .0) in
     (leb-true _ _ (q .0), leb-true _ _ (q .1))
 
@@ -37,7 +38,7 @@ each-fit (s ∷ l) d e (suc i) h = each-fit l d (first-and-rest s l e .2) i (le-
 -- each is fit
 pub table-fit : (l : List Settings) (d : Settings) → fitTable l ≡ true → (i : ℕ) → i < length l → fit (getD l i d) ≡ true
 unfolding fitTable
-table-fit l d e = each-fit l d (both (leb 1 (length l) && leb (length l) mostRecords) (eachFit l) e .1)
+table-fit l d e = each-fit l d (both (leb 1 (length l) && leb (length l) mostRecords) (eachFit l) (both _ (pairsFit l) e .0) .1)
 
 none-clashes : (a : Addresses) (l : List Settings) (d : Settings) → clashes a l ≡ false → (i : ℕ) → i < length l
     → clash a (getD l i d .addresses) ≡ false
@@ -58,4 +59,4 @@ apart (s ∷ l) d e (suc i) (suc j) h k = apart l d (first-and-rest s l e .2) i 
 pub table-apart : (l : List Settings) (d : Settings) → fitTable l ≡ true → (i j : ℕ) → i < j → j < length l
     → clash (getD l i d .addresses) (getD l j d .addresses) ≡ false
 unfolding fitTable
-table-apart l d e = apart l d (both (leb 1 (length l) && leb (length l) mostRecords) (eachFit l) e .1)
+table-apart l d e = apart l d (both (leb 1 (length l) && leb (length l) mostRecords) (eachFit l) (both _ (pairsFit l) e .0) .1)

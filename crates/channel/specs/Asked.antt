@@ -12,6 +12,7 @@ pub record Ringed (l : Limits) (w : Window) : Type 0 where
   pub window : l .window ≤ 128
   pub most : l .slots ≤ 128
   pub octet : 1 ≤ l .payload
+  pub payload : l .payload ≤ 1024
   pub segments : l .segments ≤ l .slots
   pub place : w .place < l .slots
   pub behind : w .behind ≤ l .slots

@@ -2,6 +2,7 @@ pub mod Prefixes
 pub mod Record
 pub mod Places
 pub mod Answers
+pub mod Pairs
 pub mod Settings
 pub mod Lone
 pub mod Standing

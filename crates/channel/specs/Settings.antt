@@ -1,7 +1,7 @@
 -- Which settings are fit; all others are refused with 13 (document 01, A channel's record and memory).
 use mathlib.Core.Path.{_≡_}
 use Prim.Native.Nat.{ℕ, _%_, _≤_}
-use mathlib.Core.Bool.{Bool, true, false, _&&_}
+use mathlib.Core.Bool.{Bool, true, false, _&&_, _||_}
 use lib.Dec.{leb, eqb}
 use Rattle.channel.specs.declared.record.Addresses.{Addresses}
 use Rattle.channel.specs.declared.record.Limits.{Limits}
@@ -29,9 +29,13 @@ fitUnits l = leb 1 (l .payload) && leb (l .payload) 1024 && leb 1 (l .segments) 
 unfoldable pub fitTimers : Limits → Bool
 fitTimers l = leb 1 (l .timeout) && leb 1 (l .closing) && leb (l .retries) 255
 
+-- the spare is none (0) or one of 16, by its index and 1 more; a unit has a leading octet (1) or not (0), and has one where a spare is named (document 02, A13)
+unfoldable pub fitRoute : Limits → Bool
+fitRoute l = leb (l .spare) 16 && leb (l .lead) 1 && (eqb (l .spare) 0 || eqb (l .lead) 1)
+
 -- Flow Control is used (1) or not (0)
 unfoldable pub fitLimits : Limits → Bool
-fitLimits l = fitWindow l && fitUnits l && fitTimers l && leb (l .flow) 1
+fitLimits l = fitWindow l && fitUnits l && fitTimers l && leb (l .flow) 1 && fitRoute l
 
 -- a direction has a meaning, and a prefix at most 15 octets, with 0 past them (document 02, A7)
 unfoldable pub fitAddresses : Addresses → Bool
@@ -54,6 +58,9 @@ pub record Fit (l : Limits) : Type 0 where
   pub closing : 1 ≤ l .closing
   pub retries : l .retries ≤ 255
   pub flow : l .flow ≤ 1
+  pub spare : l .spare ≤ 16
+  pub lead : l .lead ≤ 1
+  pub led : (l .spare ≡ 0 → ⊥) → l .lead ≡ 1
 
 -- two records that may not stand in one table: equal channel number, remote address and remote prefix, whatever their directions (document 02, A2:
 -- 'Where no field tells its end, records that differ only in direction give 13'); an own prefix is not seen in what arrives

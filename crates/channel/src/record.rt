@@ -60,7 +60,8 @@ pub struct Addresses {
 }
 
 // What the settings fix: window k, slots, P (most payload octets), M (most segments in a unit), in ticks the timeouts and the interval of this
-// end's own Heartbeat (0: it makes none), and whether Flow Control is used (0 or 1).
+// end's own Heartbeat (0: it makes none), and whether Flow Control is used (0 or 1). spare: of a sender, which channel of the table carries on with
+// its units (0: none, else its index and 1 more). lead: 1 on a pair, where a unit has a leading octet, else 0 (document 02, A13).
 #[repr(C)]
 pub struct Limits {
     pub window: usize,
@@ -72,6 +73,8 @@ pub struct Limits {
     pub retries: u16,
     pub interval: u16,
     pub flow: u16,
+    pub spare: u16,
+    pub lead: u16,
 }
 
 #[repr(C)]

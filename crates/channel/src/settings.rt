@@ -6,7 +6,7 @@ use crate::record::Limits;
 use crate::record::RECEIVES;
 use crate::record::Settings;
 ghost use mathlib.Core.Path.{_≡_};
-ghost use Rattle.channel.specs.Settings.{fitWindow, fitUnits, fitTimers, fitLimits, fitAddresses, fit, clash};
+ghost use Rattle.channel.specs.Settings.{fitWindow, fitUnits, fitTimers, fitRoute, fitLimits, fitAddresses, fit, clash};
 
 // The most that settings allow for the window.
 const MOST_WINDOW: usize = 128;
@@ -44,7 +44,26 @@ pub fn fits_limits(l: Limits) -> bool
     if !fits_timers(l) {
         return false;
     }
-    l.flow <= 1
+    if 1 < l.flow {
+        return false;
+    }
+    fits_route(l)
+}
+
+// Whoever names a spare has the leading octet.
+fn fits_route(l: Limits) -> bool
+    ensures { λ r. ⌜ r ≡ fitRoute l ⌝ }
+{
+    if 16 < l.spare {
+        return false;
+    }
+    if 1 < l.lead {
+        return false;
+    }
+    if l.spare == 0 {
+        return true;
+    }
+    l.lead == 1
 }
 
 // A power of two up to 128 is what divides 128.

@@ -21,6 +21,7 @@ use Rattle.channel.specs.declared.step.Stepped.{Stepped}
 use Rattle.channel.specs.Answers.{numberOf, lengthOf}
 use Rattle.channel.specs.Record.{sends}
 use Rattle.channel.specs.Steps.{refusing}
+use Rattle.channel.specs.Pairs.{filed}
 use Rattle.sender_units.specs.Transfer.{transferStep, transferMem, transferLens}
 use Rattle.sender_units.specs.Reclaiming.{unitAt, sizeAt, reclaimStep, reclaimOut}
 use Rattle.table.specs.declared.looking.Sought.the-variants.{Index}
@@ -41,9 +42,10 @@ use Rattle.ends.proofs.SenderRefusals.{reclaim-unchanged}
 use Rattle.means.proofs.Sends.{Sends}
 use Rattle.means.proofs.Transfers.{transfer-sends}
 use Rattle.means.proofs.Reclaims.{reclaim-sends}
-use Rattle.delivery.specs.Calls.{End, transfers, reclaims}
+use Rattle.delivery.specs.Calls.{End, transfers, reclaims, channelOf}
 use Rattle.delivery.specs.History as history
 use Rattle.delivery.specs.History.{Event, accepted}
+use Rattle.delivery.proofs.Nodes.{same-limits}
 use Rattle.delivery.proofs.Known.{limits}
 use Rattle.delivery.proofs.HostFrame.{hostEvent, host-next}
 use Rattle.delivery.proofs.Own.{Seen, Left}
@@ -77,33 +79,41 @@ module _ {h s : End} {past : List Event} {x : Sender} {y : Receiver} {t : List C
       let l = cut (limits h s .payload) u in
       taken-phase (isOpen (x .phase)) (leb (length l) (limits h s .segments)) (leb (length (x .line) - x .oldest + length l) (limits h s .slots)) l
 
+  -- what is filed of a unit
+  abbrev put : List ℕ → List ℕ
+  put u = filed (own k .limits) u
+
   own-transfers : (copy i : ℕ) (u b o : List ℕ) → i ≡ h .index
-      → Next k (asking transfers i u b) copy (transferStep (own k) (length u) .answer) o (transferStep (own k) (length u) .channel)
-      (transferMem (own k) u (octets k)) (transferLens (own k) u (lengths k))
+      → Next k (asking transfers i u b) copy (transferStep (own k) (length (put u)) .answer) o (transferStep (own k) (length (put u)) .channel)
+      (transferMem (own k) (put u) (octets k)) (transferLens (own k) (put u) (lengths k))
   own-transfers copy i u b o at =
-      let c = transferStep (own k) (length u) .channel in
-      let a = transferStep (own k) (length u) .answer in
-      let m = transferMem (own k) u (octets k) in
-      let l = transferLens (own k) u (lengths k) in
-      let call = SenderCall.transfer u in
+      let c = transferStep (own k) (length (put u)) .channel in
+      let a = transferStep (own k) (length (put u)) .answer in
+      let m = transferMem (own k) (put u) (octets k) in
+      let l = transferLens (own k) (put u) (lengths k) in
+      let call = SenderCall.transfer (put u) in
       let w : Sends c m l (senderStep (limits h s) x call .0) × (numberOf a ≡ senderStep (limits h s) x call .1 .number)
       = subst (λ (L : Limits). Sends c m l (senderStep L x call .0) × (numberOf a ≡ senderStep L x call .1 .number)) (own-limits k)
-      (transfer-sends (own k) (octets k) (lengths k) x (asked k) (own-sends k) (k .now .means) u)
+      (transfer-sends (own k) (octets k) (lengths k) x (asked k) (own-sends k) (k .now .means) (put u))
       in
       let z = senderStep (limits h s) x call .0 in
+      let same : filed (channelOf h .limits) u ≡ put u = ap (λ l. filed l u) (sym (same-limits h t mem lens (k .now .kept) (h .index))) in
       host-next h s past y x (k .inv) (k .numbered) (small k) (asking transfers i u b) copy n (indexFor k (asking transfers i u b)) a o call tt tt
-      (ap₂ (λ (p : Bool) (q : ℕ). if p && eqb q 0 then accepted h past ++ (u ∷ []) else accepted h past) (eq-eqb i (h .index) at) (w .1))
+      (ap (λ (v : List ℕ). if eqb i (h .index) && eqb (numberOf a) 0 then accepted h past ++ (v ∷ []) else accepted h past) same
+      ∙ ap₂ (λ (p : Bool) (q : ℕ). if p && eqb q 0 then accepted h past ++ (put u ∷ []) else accepted h past) (eq-eqb i (h .index) at) (w .1))
       refl refl
       (λ j packet q. absurd (true≢false (sym q)))
       (own k) c m l (w .0)
-      (counts-same k c m l z (w .0) (transfer-start u) (was-open k (transfer-phase u)))
-      (λ q. transfer-phase u ∙ waits-on k (hostEvent (asking transfers i u b) copy n (indexFor k (asking transfers i u b)) a o) q)
+      (counts-same k c m l z (w .0) (transfer-start (put u)) (was-open k (transfer-phase (put u))))
+      (λ q. transfer-phase (put u) ∙ waits-on k (hostEvent (asking transfers i u b) copy n (indexFor k (asking transfers i u b)) a o) q)
 
   transfer-here : (c : Channel) (rank : ℕ) (u m l o : List ℕ) → c .addresses .direction ≡ sends
-      → transferFor u c rank m l o ≡ works (transferStep c (length u)) (transferMem c u m) (transferLens c u l) o
+      → let v = filed (c .limits) u in
+      transferFor u c rank m l o ≡ works (transferStep c (length v)) (transferMem c v m) (transferLens c v l) o
   unfolding transferFor
   transfer-here c rank u m l o d =
-      chosen (eqb (c .addresses .direction) sends) (works (transferStep c (length u)) (transferMem c u m) (transferLens c u l) o)
+      let v = filed (c .limits) u in
+      chosen (eqb (c .addresses .direction) sends) (works (transferStep c (length v)) (transferMem c v m) (transferLens c v l) o)
       (works (refusing c refusal.State) m l o) (eq-eqb (c .addresses .direction) sends d)
 
   pub host-transfers : (copy i : ℕ) (u b : List ℕ) → Seen (Next k (asking transfers i u b) copy) (h .index) (served t mem lens lines (Transfer i) u b)

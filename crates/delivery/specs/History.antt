@@ -20,6 +20,7 @@ use Rattle.channel.specs.declared.record.Addresses.{Addresses}
 use Rattle.channel.specs.declared.answer.Answer.{Answer}
 use Rattle.channel.specs.Answers.{numberOf, lengthOf, confirmedOf}
 use Rattle.channel.specs.Prefixes.{samePrefix}
+use Rattle.channel.specs.Pairs.{filed}
 use Rattle.table.specs.Looking.{same}
 use Rattle.table.specs.Serving.{recordAt}
 use Rattle.arrivals.specs.Finding.{isOurs, prefixRead}
@@ -128,10 +129,10 @@ abbrev pub openings : Side → ℕ → List Event → ℕ
 openings side index [] = 0
 openings side index (e ∷ past) = if granted side opens index e then suc (openings side index past) else openings side index past
 
--- the units of the transfers answered 0, in order
+-- the units of the transfers answered 0, in order, as they were filed: on a pair with the leading octet 0 (document 02, A13)
 abbrev pub accepted : End → List Event → List (List ℕ)
 accepted h [] = []
-accepted h (e ∷ past) = if granted host transfers (h .index) e then accepted h past ++ (e .call .request .octets ∷ []) else accepted h past
+accepted h (e ∷ past) = if granted host transfers (h .index) e then accepted h past ++ (filed (channelOf h .limits) (e .call .request .octets) ∷ []) else accepted h past
 
 -- the units that the host was told are confirmed: the counts that came with packets for this channel
 abbrev pub confirmed : End → List Event → ℕ

@@ -27,7 +27,7 @@ use Rattle.channel.specs.Lone.{fallen}
 use Rattle.channel.specs.Pulse.{paced, heartbeatStep, heartbeatAckStep}
 use Rattle.channel.specs.Flow.{flowStep, flowAckStep}
 use Rattle.sender_acks.specs.Stated.{dataAckStated, controlAckStated}
-use Rattle.channel.specs.Settings.{fitWindow, fitUnits, fitTimers, fitLimits, fitAddresses, fit, clash}
+use Rattle.channel.specs.Settings.{fitWindow, fitUnits, fitTimers, fitRoute, fitLimits, fitAddresses, fit, clash}
 use Rattle.channel.specs.Prefixes.{each, prefixOf, fitPrefix, samePrefix}
 use Rattle.channel.specs.Standing.{named, inRing, inFlight, sided, asking, rested, marked, slotFit, slotsFit, standing}
 use Rattle.sender.specs.Directives.{parked, openStep, closeStep}
@@ -111,27 +111,27 @@ afterRounds past n i =
 -- ---- computed, part by part
 
 pub beginning : looked (checked hostEnd stationEnd true from (opening ++ rounds 5 0)) ≡ afterRounds [] 5 0
-unfolding paced heartbeatStep heartbeatAckStep flowStep flowAckStep dataAckStated controlAckStated headOf bodyOf packetOf short damaged kindOf lacking strange writtenOf afterWrite readOf shiftOne shifts octetInto crcFrom crcOf roundOf backOf runOf cleared slotIn laid unitOf endsIn lastEndIn sizeIn octetsIn filedMem filedBy filedLens filedMarks fallen fitWindow fitUnits fitTimers fitLimits each prefixOf fitPrefix samePrefix fitAddresses fit clash named inRing inFlight sided asking rested marked slotFit slotsFit standing parked openStep closeStep anySpent tickStep reclaimStep reclaimOut wouldTransfer isAccepted transferStep transferMem transferLens controlAckStep isAwaited advanced dataAckStep againIn ready nextFields nextPayload nextOut handStep handOut r.leaving r.openStep r.openArrives r.closeArrives r.controlStep r.tickStep isHeld sortAt fitting movedBy acceptStep dataStep isFiled dataMem dataLens takeStep takeOut allSlots allOctets eachStands lawful passes fitLines fitLine partAt lineIn below apart blank stands joined without relisted before lineOctets withLine relistAll servedFrom placeIn gradeIn gradeOf relistedFrom waits moved same chosenFrom stored serveOne indexServed nextFor openedBy closedBy transferFor takeFor reclaimFor tickedBy isOurs lookOf unfit arriveBy arrivalFor anyInactive firstInactive ticked tickIndex numberAt distance unitsIn equal handedIn repliedIn fairly packetFor checked
+unfolding paced heartbeatStep heartbeatAckStep flowStep flowAckStep dataAckStated controlAckStated headOf bodyOf packetOf short damaged kindOf lacking strange writtenOf afterWrite readOf shiftOne shifts octetInto crcFrom crcOf roundOf backOf runOf cleared slotIn laid unitOf endsIn lastEndIn sizeIn octetsIn filedMem filedBy filedLens filedMarks fallen fitWindow fitUnits fitTimers fitRoute fitLimits each prefixOf fitPrefix samePrefix fitAddresses fit clash named inRing inFlight sided asking rested marked slotFit slotsFit standing parked openStep closeStep anySpent tickStep reclaimStep reclaimOut wouldTransfer isAccepted transferStep transferMem transferLens controlAckStep isAwaited advanced dataAckStep againIn ready nextFields nextPayload nextOut handStep handOut r.leaving r.openStep r.openArrives r.closeArrives r.controlStep r.tickStep isHeld sortAt fitting movedBy acceptStep dataStep isFiled dataMem dataLens takeStep takeOut allSlots allOctets eachStands lawful passes fitLines fitLine partAt lineIn below apart blank stands joined without relisted before lineOctets withLine relistAll servedFrom placeIn gradeIn gradeOf relistedFrom waits moved same chosenFrom stored serveOne indexServed nextFor openedBy closedBy transferFor takeFor reclaimFor tickedBy isOurs lookOf unfit arriveBy arrivalFor anyInactive firstInactive ticked tickIndex numberAt distance unitsIn equal handedIn repliedIn fairly packetFor checked
 beginning = refl
 
 pub rounds-5 : (past : List Event) → looked (checked hostEnd stationEnd true (runAt past 5) (rounds 50 5)) ≡ afterRounds past 50 5
-unfolding paced heartbeatStep heartbeatAckStep flowStep flowAckStep dataAckStated controlAckStated headOf bodyOf packetOf short damaged kindOf lacking strange writtenOf afterWrite readOf shiftOne shifts octetInto crcFrom crcOf roundOf backOf runOf cleared slotIn laid unitOf endsIn lastEndIn sizeIn octetsIn filedMem filedBy filedLens filedMarks fallen fitWindow fitUnits fitTimers fitLimits each prefixOf fitPrefix samePrefix fitAddresses fit clash named inRing inFlight sided asking rested marked slotFit slotsFit standing parked openStep closeStep anySpent tickStep reclaimStep reclaimOut wouldTransfer isAccepted transferStep transferMem transferLens controlAckStep isAwaited advanced dataAckStep againIn ready nextFields nextPayload nextOut handStep handOut r.leaving r.openStep r.openArrives r.closeArrives r.controlStep r.tickStep isHeld sortAt fitting movedBy acceptStep dataStep isFiled dataMem dataLens takeStep takeOut allSlots allOctets eachStands lawful passes fitLines fitLine partAt lineIn below apart blank stands joined without relisted before lineOctets withLine relistAll servedFrom placeIn gradeIn gradeOf relistedFrom waits moved same chosenFrom stored serveOne indexServed nextFor openedBy closedBy transferFor takeFor reclaimFor tickedBy isOurs lookOf unfit arriveBy arrivalFor anyInactive firstInactive ticked tickIndex numberAt distance unitsIn equal handedIn repliedIn fairly packetFor checked
+unfolding paced heartbeatStep heartbeatAckStep flowStep flowAckStep dataAckStated controlAckStated headOf bodyOf packetOf short damaged kindOf lacking strange writtenOf afterWrite readOf shiftOne shifts octetInto crcFrom crcOf roundOf backOf runOf cleared slotIn laid unitOf endsIn lastEndIn sizeIn octetsIn filedMem filedBy filedLens filedMarks fallen fitWindow fitUnits fitTimers fitRoute fitLimits each prefixOf fitPrefix samePrefix fitAddresses fit clash named inRing inFlight sided asking rested marked slotFit slotsFit standing parked openStep closeStep anySpent tickStep reclaimStep reclaimOut wouldTransfer isAccepted transferStep transferMem transferLens controlAckStep isAwaited advanced dataAckStep againIn ready nextFields nextPayload nextOut handStep handOut r.leaving r.openStep r.openArrives r.closeArrives r.controlStep r.tickStep isHeld sortAt fitting movedBy acceptStep dataStep isFiled dataMem dataLens takeStep takeOut allSlots allOctets eachStands lawful passes fitLines fitLine partAt lineIn below apart blank stands joined without relisted before lineOctets withLine relistAll servedFrom placeIn gradeIn gradeOf relistedFrom waits moved same chosenFrom stored serveOne indexServed nextFor openedBy closedBy transferFor takeFor reclaimFor tickedBy isOurs lookOf unfit arriveBy arrivalFor anyInactive firstInactive ticked tickIndex numberAt distance unitsIn equal handedIn repliedIn fairly packetFor checked
 rounds-5 past = refl
 
 pub rounds-55 : (past : List Event) → looked (checked hostEnd stationEnd true (runAt past 55) (rounds 50 55)) ≡ afterRounds past 50 55
-unfolding paced heartbeatStep heartbeatAckStep flowStep flowAckStep dataAckStated controlAckStated headOf bodyOf packetOf short damaged kindOf lacking strange writtenOf afterWrite readOf shiftOne shifts octetInto crcFrom crcOf roundOf backOf runOf cleared slotIn laid unitOf endsIn lastEndIn sizeIn octetsIn filedMem filedBy filedLens filedMarks fallen fitWindow fitUnits fitTimers fitLimits each prefixOf fitPrefix samePrefix fitAddresses fit clash named inRing inFlight sided asking rested marked slotFit slotsFit standing parked openStep closeStep anySpent tickStep reclaimStep reclaimOut wouldTransfer isAccepted transferStep transferMem transferLens controlAckStep isAwaited advanced dataAckStep againIn ready nextFields nextPayload nextOut handStep handOut r.leaving r.openStep r.openArrives r.closeArrives r.controlStep r.tickStep isHeld sortAt fitting movedBy acceptStep dataStep isFiled dataMem dataLens takeStep takeOut allSlots allOctets eachStands lawful passes fitLines fitLine partAt lineIn below apart blank stands joined without relisted before lineOctets withLine relistAll servedFrom placeIn gradeIn gradeOf relistedFrom waits moved same chosenFrom stored serveOne indexServed nextFor openedBy closedBy transferFor takeFor reclaimFor tickedBy isOurs lookOf unfit arriveBy arrivalFor anyInactive firstInactive ticked tickIndex numberAt distance unitsIn equal handedIn repliedIn fairly packetFor checked
+unfolding paced heartbeatStep heartbeatAckStep flowStep flowAckStep dataAckStated controlAckStated headOf bodyOf packetOf short damaged kindOf lacking strange writtenOf afterWrite readOf shiftOne shifts octetInto crcFrom crcOf roundOf backOf runOf cleared slotIn laid unitOf endsIn lastEndIn sizeIn octetsIn filedMem filedBy filedLens filedMarks fallen fitWindow fitUnits fitTimers fitRoute fitLimits each prefixOf fitPrefix samePrefix fitAddresses fit clash named inRing inFlight sided asking rested marked slotFit slotsFit standing parked openStep closeStep anySpent tickStep reclaimStep reclaimOut wouldTransfer isAccepted transferStep transferMem transferLens controlAckStep isAwaited advanced dataAckStep againIn ready nextFields nextPayload nextOut handStep handOut r.leaving r.openStep r.openArrives r.closeArrives r.controlStep r.tickStep isHeld sortAt fitting movedBy acceptStep dataStep isFiled dataMem dataLens takeStep takeOut allSlots allOctets eachStands lawful passes fitLines fitLine partAt lineIn below apart blank stands joined without relisted before lineOctets withLine relistAll servedFrom placeIn gradeIn gradeOf relistedFrom waits moved same chosenFrom stored serveOne indexServed nextFor openedBy closedBy transferFor takeFor reclaimFor tickedBy isOurs lookOf unfit arriveBy arrivalFor anyInactive firstInactive ticked tickIndex numberAt distance unitsIn equal handedIn repliedIn fairly packetFor checked
 rounds-55 past = refl
 
 pub rounds-105 : (past : List Event) → looked (checked hostEnd stationEnd true (runAt past 105) (rounds 50 105)) ≡ afterRounds past 50 105
-unfolding paced heartbeatStep heartbeatAckStep flowStep flowAckStep dataAckStated controlAckStated headOf bodyOf packetOf short damaged kindOf lacking strange writtenOf afterWrite readOf shiftOne shifts octetInto crcFrom crcOf roundOf backOf runOf cleared slotIn laid unitOf endsIn lastEndIn sizeIn octetsIn filedMem filedBy filedLens filedMarks fallen fitWindow fitUnits fitTimers fitLimits each prefixOf fitPrefix samePrefix fitAddresses fit clash named inRing inFlight sided asking rested marked slotFit slotsFit standing parked openStep closeStep anySpent tickStep reclaimStep reclaimOut wouldTransfer isAccepted transferStep transferMem transferLens controlAckStep isAwaited advanced dataAckStep againIn ready nextFields nextPayload nextOut handStep handOut r.leaving r.openStep r.openArrives r.closeArrives r.controlStep r.tickStep isHeld sortAt fitting movedBy acceptStep dataStep isFiled dataMem dataLens takeStep takeOut allSlots allOctets eachStands lawful passes fitLines fitLine partAt lineIn below apart blank stands joined without relisted before lineOctets withLine relistAll servedFrom placeIn gradeIn gradeOf relistedFrom waits moved same chosenFrom stored serveOne indexServed nextFor openedBy closedBy transferFor takeFor reclaimFor tickedBy isOurs lookOf unfit arriveBy arrivalFor anyInactive firstInactive ticked tickIndex numberAt distance unitsIn equal handedIn repliedIn fairly packetFor checked
+unfolding paced heartbeatStep heartbeatAckStep flowStep flowAckStep dataAckStated controlAckStated headOf bodyOf packetOf short damaged kindOf lacking strange writtenOf afterWrite readOf shiftOne shifts octetInto crcFrom crcOf roundOf backOf runOf cleared slotIn laid unitOf endsIn lastEndIn sizeIn octetsIn filedMem filedBy filedLens filedMarks fallen fitWindow fitUnits fitTimers fitRoute fitLimits each prefixOf fitPrefix samePrefix fitAddresses fit clash named inRing inFlight sided asking rested marked slotFit slotsFit standing parked openStep closeStep anySpent tickStep reclaimStep reclaimOut wouldTransfer isAccepted transferStep transferMem transferLens controlAckStep isAwaited advanced dataAckStep againIn ready nextFields nextPayload nextOut handStep handOut r.leaving r.openStep r.openArrives r.closeArrives r.controlStep r.tickStep isHeld sortAt fitting movedBy acceptStep dataStep isFiled dataMem dataLens takeStep takeOut allSlots allOctets eachStands lawful passes fitLines fitLine partAt lineIn below apart blank stands joined without relisted before lineOctets withLine relistAll servedFrom placeIn gradeIn gradeOf relistedFrom waits moved same chosenFrom stored serveOne indexServed nextFor openedBy closedBy transferFor takeFor reclaimFor tickedBy isOurs lookOf unfit arriveBy arrivalFor anyInactive firstInactive ticked tickIndex numberAt distance unitsIn equal handedIn repliedIn fairly packetFor checked
 rounds-105 past = refl
 
 pub rounds-155 : (past : List Event) → looked (checked hostEnd stationEnd true (runAt past 155) (rounds 50 155)) ≡ afterRounds past 50 155
-unfolding paced heartbeatStep heartbeatAckStep flowStep flowAckStep dataAckStated controlAckStated headOf bodyOf packetOf short damaged kindOf lacking strange writtenOf afterWrite readOf shiftOne shifts octetInto crcFrom crcOf roundOf backOf runOf cleared slotIn laid unitOf endsIn lastEndIn sizeIn octetsIn filedMem filedBy filedLens filedMarks fallen fitWindow fitUnits fitTimers fitLimits each prefixOf fitPrefix samePrefix fitAddresses fit clash named inRing inFlight sided asking rested marked slotFit slotsFit standing parked openStep closeStep anySpent tickStep reclaimStep reclaimOut wouldTransfer isAccepted transferStep transferMem transferLens controlAckStep isAwaited advanced dataAckStep againIn ready nextFields nextPayload nextOut handStep handOut r.leaving r.openStep r.openArrives r.closeArrives r.controlStep r.tickStep isHeld sortAt fitting movedBy acceptStep dataStep isFiled dataMem dataLens takeStep takeOut allSlots allOctets eachStands lawful passes fitLines fitLine partAt lineIn below apart blank stands joined without relisted before lineOctets withLine relistAll servedFrom placeIn gradeIn gradeOf relistedFrom waits moved same chosenFrom stored serveOne indexServed nextFor openedBy closedBy transferFor takeFor reclaimFor tickedBy isOurs lookOf unfit arriveBy arrivalFor anyInactive firstInactive ticked tickIndex numberAt distance unitsIn equal handedIn repliedIn fairly packetFor checked
+unfolding paced heartbeatStep heartbeatAckStep flowStep flowAckStep dataAckStated controlAckStated headOf bodyOf packetOf short damaged kindOf lacking strange writtenOf afterWrite readOf shiftOne shifts octetInto crcFrom crcOf roundOf backOf runOf cleared slotIn laid unitOf endsIn lastEndIn sizeIn octetsIn filedMem filedBy filedLens filedMarks fallen fitWindow fitUnits fitTimers fitRoute fitLimits each prefixOf fitPrefix samePrefix fitAddresses fit clash named inRing inFlight sided asking rested marked slotFit slotsFit standing parked openStep closeStep anySpent tickStep reclaimStep reclaimOut wouldTransfer isAccepted transferStep transferMem transferLens controlAckStep isAwaited advanced dataAckStep againIn ready nextFields nextPayload nextOut handStep handOut r.leaving r.openStep r.openArrives r.closeArrives r.controlStep r.tickStep isHeld sortAt fitting movedBy acceptStep dataStep isFiled dataMem dataLens takeStep takeOut allSlots allOctets eachStands lawful passes fitLines fitLine partAt lineIn below apart blank stands joined without relisted before lineOctets withLine relistAll servedFrom placeIn gradeIn gradeOf relistedFrom waits moved same chosenFrom stored serveOne indexServed nextFor openedBy closedBy transferFor takeFor reclaimFor tickedBy isOurs lookOf unfit arriveBy arrivalFor anyInactive firstInactive ticked tickIndex numberAt distance unitsIn equal handedIn repliedIn fairly packetFor checked
 rounds-155 past = refl
 
 pub rounds-205 : (past : List Event) → looked (checked hostEnd stationEnd true (runAt past 205) (rounds 50 205)) ≡ afterRounds past 50 205
-unfolding paced heartbeatStep heartbeatAckStep flowStep flowAckStep dataAckStated controlAckStated headOf bodyOf packetOf short damaged kindOf lacking strange writtenOf afterWrite readOf shiftOne shifts octetInto crcFrom crcOf roundOf backOf runOf cleared slotIn laid unitOf endsIn lastEndIn sizeIn octetsIn filedMem filedBy filedLens filedMarks fallen fitWindow fitUnits fitTimers fitLimits each prefixOf fitPrefix samePrefix fitAddresses fit clash named inRing inFlight sided asking rested marked slotFit slotsFit standing parked openStep closeStep anySpent tickStep reclaimStep reclaimOut wouldTransfer isAccepted transferStep transferMem transferLens controlAckStep isAwaited advanced dataAckStep againIn ready nextFields nextPayload nextOut handStep handOut r.leaving r.openStep r.openArrives r.closeArrives r.controlStep r.tickStep isHeld sortAt fitting movedBy acceptStep dataStep isFiled dataMem dataLens takeStep takeOut allSlots allOctets eachStands lawful passes fitLines fitLine partAt lineIn below apart blank stands joined without relisted before lineOctets withLine relistAll servedFrom placeIn gradeIn gradeOf relistedFrom waits moved same chosenFrom stored serveOne indexServed nextFor openedBy closedBy transferFor takeFor reclaimFor tickedBy isOurs lookOf unfit arriveBy arrivalFor anyInactive firstInactive ticked tickIndex numberAt distance unitsIn equal handedIn repliedIn fairly packetFor checked
+unfolding paced heartbeatStep heartbeatAckStep flowStep flowAckStep dataAckStated controlAckStated headOf bodyOf packetOf short damaged kindOf lacking strange writtenOf afterWrite readOf shiftOne shifts octetInto crcFrom crcOf roundOf backOf runOf cleared slotIn laid unitOf endsIn lastEndIn sizeIn octetsIn filedMem filedBy filedLens filedMarks fallen fitWindow fitUnits fitTimers fitRoute fitLimits each prefixOf fitPrefix samePrefix fitAddresses fit clash named inRing inFlight sided asking rested marked slotFit slotsFit standing parked openStep closeStep anySpent tickStep reclaimStep reclaimOut wouldTransfer isAccepted transferStep transferMem transferLens controlAckStep isAwaited advanced dataAckStep againIn ready nextFields nextPayload nextOut handStep handOut r.leaving r.openStep r.openArrives r.closeArrives r.controlStep r.tickStep isHeld sortAt fitting movedBy acceptStep dataStep isFiled dataMem dataLens takeStep takeOut allSlots allOctets eachStands lawful passes fitLines fitLine partAt lineIn below apart blank stands joined without relisted before lineOctets withLine relistAll servedFrom placeIn gradeIn gradeOf relistedFrom waits moved same chosenFrom stored serveOne indexServed nextFor openedBy closedBy transferFor takeFor reclaimFor tickedBy isOurs lookOf unfit arriveBy arrivalFor anyInactive firstInactive ticked tickIndex numberAt distance unitsIn equal handedIn repliedIn fairly packetFor checked
 rounds-205 past = refl
 
 -- the ending: what is read from the history, what the host holds, and how far its window has come
@@ -172,5 +172,5 @@ afterEnding acc cnt back tak =
 pub the-ending : (past : List Event)
     → endedAs (checked hostEnd stationEnd true (runAt past 255) ending)
     ≡ afterEnding (accepted hostEnd past) (confirmed hostEnd past) (reclaimed hostEnd past) (taken stationEnd past)
-unfolding paced heartbeatStep heartbeatAckStep flowStep flowAckStep dataAckStated controlAckStated headOf bodyOf packetOf short damaged kindOf lacking strange writtenOf afterWrite readOf shiftOne shifts octetInto crcFrom crcOf roundOf backOf runOf cleared slotIn laid unitOf endsIn lastEndIn sizeIn octetsIn filedMem filedBy filedLens filedMarks fallen fitWindow fitUnits fitTimers fitLimits each prefixOf fitPrefix samePrefix fitAddresses fit clash named inRing inFlight sided asking rested marked slotFit slotsFit standing parked openStep closeStep anySpent tickStep reclaimStep reclaimOut wouldTransfer isAccepted transferStep transferMem transferLens controlAckStep isAwaited advanced dataAckStep againIn ready nextFields nextPayload nextOut handStep handOut r.leaving r.openStep r.openArrives r.closeArrives r.controlStep r.tickStep isHeld sortAt fitting movedBy acceptStep dataStep isFiled dataMem dataLens takeStep takeOut allSlots allOctets eachStands lawful passes fitLines fitLine partAt lineIn below apart blank stands joined without relisted before lineOctets withLine relistAll servedFrom placeIn gradeIn gradeOf relistedFrom waits moved same chosenFrom stored serveOne indexServed nextFor openedBy closedBy transferFor askedBy takeFor reclaimFor tickedBy isOurs lookOf unfit arriveBy arrivalFor anyInactive firstInactive ticked tickIndex numberAt distance unitsIn equal handedIn repliedIn fairly packetFor checked
+unfolding paced heartbeatStep heartbeatAckStep flowStep flowAckStep dataAckStated controlAckStated headOf bodyOf packetOf short damaged kindOf lacking strange writtenOf afterWrite readOf shiftOne shifts octetInto crcFrom crcOf roundOf backOf runOf cleared slotIn laid unitOf endsIn lastEndIn sizeIn octetsIn filedMem filedBy filedLens filedMarks fallen fitWindow fitUnits fitTimers fitRoute fitLimits each prefixOf fitPrefix samePrefix fitAddresses fit clash named inRing inFlight sided asking rested marked slotFit slotsFit standing parked openStep closeStep anySpent tickStep reclaimStep reclaimOut wouldTransfer isAccepted transferStep transferMem transferLens controlAckStep isAwaited advanced dataAckStep againIn ready nextFields nextPayload nextOut handStep handOut r.leaving r.openStep r.openArrives r.closeArrives r.controlStep r.tickStep isHeld sortAt fitting movedBy acceptStep dataStep isFiled dataMem dataLens takeStep takeOut allSlots allOctets eachStands lawful passes fitLines fitLine partAt lineIn below apart blank stands joined without relisted before lineOctets withLine relistAll servedFrom placeIn gradeIn gradeOf relistedFrom waits moved same chosenFrom stored serveOne indexServed nextFor openedBy closedBy transferFor askedBy takeFor reclaimFor tickedBy isOurs lookOf unfit arriveBy arrivalFor anyInactive firstInactive ticked tickIndex numberAt distance unitsIn equal handedIn repliedIn fairly packetFor checked
 the-ending past = refl

@@ -11,7 +11,7 @@ use lib.ListN.{length, drop}
 use Rattle.slots.specs.Ring.{roundOf, backOf, runOf}
 use Rattle.channel.specs.Places.{slotIn}
 use Rattle.channel.specs.Prefixes.{each, fitPrefix}
-use Rattle.channel.specs.Settings.{fitWindow, fitUnits, fitTimers, fitLimits, fitAddresses}
+use Rattle.channel.specs.Settings.{fitWindow, fitUnits, fitTimers, fitRoute, fitLimits, fitAddresses}
 use Rattle.channel.specs.Standing.{named, inRing, inFlight, sided, asking, rested, marked, slotFit, slotsFit, standing}
 use Rattle.table.specs.Lent.{allSlots, allOctets, eachStands, lawful}
 use Rattle.table.specs.Serving.{recordAt}
@@ -121,11 +121,11 @@ module _ (e : End) (one : length (e .table) ≡ 1) (first : e .index ≡ 0) wher
   only j less = omega (arith, one)
 
 stands-host : lawful (hostEnd .table) (hostEnd .mem) (hostEnd .lens) ≡ true
-unfolding roundOf backOf runOf slotIn fitWindow fitUnits fitTimers fitLimits each fitPrefix fitAddresses named inRing inFlight sided asking rested marked slotFit slotsFit standing allSlots allOctets eachStands lawful
+unfolding roundOf backOf runOf slotIn fitWindow fitUnits fitTimers fitRoute fitLimits each fitPrefix fitAddresses named inRing inFlight sided asking rested marked slotFit slotsFit standing allSlots allOctets eachStands lawful
 stands-host = refl
 
 stands-station : lawful (stationEnd .table) (stationEnd .mem) (stationEnd .lens) ≡ true
-unfolding roundOf backOf runOf slotIn fitWindow fitUnits fitTimers fitLimits each fitPrefix fitAddresses named inRing inFlight sided asking rested marked slotFit slotsFit standing allSlots allOctets eachStands lawful
+unfolding roundOf backOf runOf slotIn fitWindow fitUnits fitTimers fitRoute fitLimits each fitPrefix fitAddresses named inRing inFlight sided asking rested marked slotFit slotsFit standing allSlots allOctets eachStands lawful
 stands-station = refl
 
 pub fresh-host : Fresh hostEnd

@@ -18,7 +18,7 @@ use Rattle.delivery_sample.proofs.Deciding.{Move, does, brings, spoils}
 -- ---- two nodes with one channel: window 2, 5 slots, at most 2 octets in a segment and 2 segments in a unit; both make Heartbeats
 
 abbrev pub limits : Limits
-limits = record { window = 2; slots = 5; payload = 2; segments = 2; timeout = 3; closing = 3; retries = 1; interval = 7; flow = 0 }
+limits = record { window = 2; slots = 5; payload = 2; segments = 2; timeout = 3; closing = 3; retries = 1; interval = 7; flow = 0; spare = 0; lead = 0 }
 
 abbrev pub sending : Settings
 sending = record { addresses = record { channel = 7; remote = 65; direction = 0; prefix = noPrefix; own = noPrefix }; limits = limits }

@@ -29,7 +29,7 @@ use Rattle.channel.specs.Lone.{fallen}
 use Rattle.channel.specs.Pulse.{paced, heartbeatStep, heartbeatAckStep}
 use Rattle.channel.specs.Flow.{flowStep, flowAckStep}
 use Rattle.sender_acks.specs.Stated.{dataAckStated, controlAckStated}
-use Rattle.channel.specs.Settings.{fitWindow, fitUnits, fitTimers, fitLimits, fitAddresses, fit, clash}
+use Rattle.channel.specs.Settings.{fitWindow, fitUnits, fitTimers, fitRoute, fitLimits, fitAddresses, fit, clash}
 use Rattle.channel.specs.Prefixes.{noPrefix, each, prefixOf, fitPrefix, samePrefix}
 use Rattle.channel.specs.Standing.{named, inRing, inFlight, sided, asking, rested, marked, slotFit, slotsFit, standing}
 use Rattle.sender.specs.Directives.{parked, openStep, closeStep}
@@ -68,7 +68,7 @@ use Rattle.delivery_sample.proofs.Deciding.{Move, equal, handedIn, repl
 -- ---- a host and a station with such settings
 
 abbrev limits : Limits
-limits = record { window = 2; slots = 5; payload = 2; segments = 2; timeout = 2; closing = 2; retries = 1; interval = 3; flow = 0 }
+limits = record { window = 2; slots = 5; payload = 2; segments = 2; timeout = 2; closing = 2; retries = 1; interval = 3; flow = 0; spare = 0; lead = 0 }
 
 abbrev sending : Settings
 sending = record { addresses = record { channel = 7; remote = 65; direction = 0; prefix = noPrefix; own = noPrefix }; limits = limits }
@@ -139,5 +139,5 @@ pub unanswered-run : seenOf (checked hostEnd stationEnd true (begin hostEnd stat
       state = closed;
       held = (1 ∷ 2 ∷ 3 ∷ []) ∷ [];
     }
-unfolding paced heartbeatStep heartbeatAckStep flowStep flowAckStep dataAckStated controlAckStated headOf bodyOf packetOf short damaged kindOf lacking strange writtenOf afterWrite readOf shiftOne shifts octetInto crcFrom crcOf roundOf backOf runOf cleared slotIn laid unitOf endsIn lastEndIn sizeIn octetsIn filedMem filedBy filedLens filedMarks fallen fitWindow fitUnits fitTimers fitLimits each prefixOf fitPrefix samePrefix fitAddresses fit clash named inRing inFlight sided asking rested marked slotFit slotsFit standing parked openStep closeStep anySpent tickStep reclaimStep reclaimOut wouldTransfer isAccepted transferStep transferMem transferLens controlAckStep isAwaited advanced dataAckStep againIn ready nextFields nextPayload nextOut handStep handOut r.leaving r.openStep r.openArrives r.closeArrives r.controlStep r.tickStep isHeld sortAt fitting movedBy acceptStep dataStep isFiled dataMem dataLens takeStep takeOut allSlots allOctets eachStands lawful passes fitLines fitLine partAt lineIn below apart blank stands joined without relisted before lineOctets withLine relistAll servedFrom placeIn gradeIn gradeOf relistedFrom waits moved same chosenFrom stored serveOne indexServed nextFor openedBy closedBy transferFor takeFor reclaimFor tickedBy isOurs lookOf unfit arriveBy arrivalFor anyInactive firstInactive ticked tickIndex numberAt distance unitsIn equal handedIn repliedIn fairly packetFor checked
+unfolding paced heartbeatStep heartbeatAckStep flowStep flowAckStep dataAckStated controlAckStated headOf bodyOf packetOf short damaged kindOf lacking strange writtenOf afterWrite readOf shiftOne shifts octetInto crcFrom crcOf roundOf backOf runOf cleared slotIn laid unitOf endsIn lastEndIn sizeIn octetsIn filedMem filedBy filedLens filedMarks fallen fitWindow fitUnits fitTimers fitRoute fitLimits each prefixOf fitPrefix samePrefix fitAddresses fit clash named inRing inFlight sided asking rested marked slotFit slotsFit standing parked openStep closeStep anySpent tickStep reclaimStep reclaimOut wouldTransfer isAccepted transferStep transferMem transferLens controlAckStep isAwaited advanced dataAckStep againIn ready nextFields nextPayload nextOut handStep handOut r.leaving r.openStep r.openArrives r.closeArrives r.controlStep r.tickStep isHeld sortAt fitting movedBy acceptStep dataStep isFiled dataMem dataLens takeStep takeOut allSlots allOctets eachStands lawful passes fitLines fitLine partAt lineIn below apart blank stands joined without relisted before lineOctets withLine relistAll servedFrom placeIn gradeIn gradeOf relistedFrom waits moved same chosenFrom stored serveOne indexServed nextFor openedBy closedBy transferFor takeFor reclaimFor tickedBy isOurs lookOf unfit arriveBy arrivalFor anyInactive firstInactive ticked tickIndex numberAt distance unitsIn equal handedIn repliedIn fairly packetFor checked
 unanswered-run = refl

@@ -19,7 +19,7 @@ abbrev pub openAt : ℕ → ℕ → Channel
 openAt start k =
     record {
       addresses = record { channel = 1; remote = 65; direction = receives; prefix = noPrefix; own = noPrefix };
-      limits = record { window = k; slots = 128; payload = 16; segments = 4; timeout = 4; closing = 4; retries = 2; interval = 0; flow = 0 };
+      limits = record { window = k; slots = 128; payload = 16; segments = 4; timeout = 4; closing = 4; retries = 2; interval = 0; flow = 0; spare = 0; lead = 0 };
       phase = freshPhase opened noLone;
       pulse = noPulse;
       window = record { start = start; place = 0; behind = 0; ahead = 0; flight = 0; way = 0 };

@@ -28,7 +28,7 @@ use Rattle.ends.proofs.Starred.{openAt, answerAt, Row, is, allRight}
 -- ---- which windows settings take
 
 abbrev limitsWith : ℕ → Limits
-limitsWith k = record { window = k; slots = 128; payload = 16; segments = 4; timeout = 4; closing = 4; retries = 2; interval = 0; flow = 0 }
+limitsWith k = record { window = k; slots = 128; payload = 16; segments = 4; timeout = 4; closing = 4; retries = 2; interval = 0; flow = 0; spare = 0; lead = 0 }
 
 -- those below n, the largest first
 unfoldable pub fitBelow : ℕ → List ℕ

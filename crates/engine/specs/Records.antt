@@ -36,7 +36,7 @@ abbrev pub settingsFor : ℕ → ℕ → ℕ → Settings
 settingsFor channel remote direction =
     record {
       addresses = record { channel = channel; remote = remote; direction = direction; prefix = noPrefix; own = noPrefix };
-      limits = record { window = 4; slots = 8; payload = 16; segments = 4; timeout = 4; closing = 4; retries = 2; interval = 0; flow = 0 };
+      limits = record { window = 4; slots = 8; payload = 16; segments = 4; timeout = 4; closing = 4; retries = 2; interval = 0; flow = 0; spare = 0; lead = 0 };
     }
 
 -- channel 0 transmits, channel 1 receives

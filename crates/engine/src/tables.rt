@@ -38,6 +38,8 @@ fn settings_for(channel: u16, remote: u8, direction: u8) -> Settings
             retries: 2,
             interval: 0,
             flow: 0,
+            spare: 0,
+            lead: 0,
         },
     }
 }

@@ -21,6 +21,7 @@ use Rattle.channel.specs.declared.answer.Refusal.the-variants as refusal
 use Rattle.channel.specs.declared.step.Stepped.{Stepped}
 use Rattle.channel.specs.Record.{sends}
 use Rattle.channel.specs.Steps.{refusing}
+use Rattle.channel.specs.Pairs.{filed}
 use Rattle.sender_units.specs.Transfer.{transferStep, transferMem, transferLens}
 use Rattle.ends.proofs.KeepsTransfer.{transfer-sized}
 use Rattle.ends.proofs.SenderFixed.{transfer-fixed}
@@ -55,11 +56,14 @@ pub transfer-shapes : (look : Look) (unit out : List ℕ) → Shapes look (trans
 unfolding transferFor
 transfer-shapes look unit out at rank c mem lens g = go (eqb (c .addresses .direction) sends)
   where
+    u : List ℕ
+    u = filed (c .limits) unit
+
     go : (b : Bool)
         → Shaped c
-        (if b then works (transferStep c (length unit)) (transferMem c unit mem) (transferLens c unit lens) out
+        (if b then works (transferStep c (length u)) (transferMem c u mem) (transferLens c u lens) out
         else works (refusing c refusal.State) mem lens out)
-    go true = record { limits = transfer-fixed c unit .1; sized = transfer-sized c unit mem lens (g .standing) (g .sized) }
+    go true = record { limits = transfer-fixed c u .1; sized = transfer-sized c u mem lens (g .standing) (g .sized) }
     go false = record { limits = refl; sized = g .sized }
 
 -- ---- directives leave memory and lengths

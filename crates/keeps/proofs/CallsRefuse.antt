@@ -29,6 +29,7 @@ use Rattle.channel.specs.declared.step.Stepped.{Stepped}
 use Rattle.channel.specs.Answers.{numberOf}
 use Rattle.channel.specs.Record.{sends, receives, closed as closedState}
 use Rattle.channel.specs.Steps.{refusing, doing}
+use Rattle.channel.specs.Pairs.{filed}
 use Rattle.sender.specs.Directives as sender
 use Rattle.sender_units.specs.Reclaiming.{unitAt, sizeAt, dropped, reclaimStep}
 use Rattle.sender_packets.specs.HandingOut.{nextOut, nextLength, handStep}
@@ -145,7 +146,7 @@ module _ (c : Channel) (rank : ℕ) (mem lens out : List ℕ) where
   unfolding transferFor
   transfer-still unit =
       by-test (Still c mem lens out) (c .addresses .direction) sends _ _
-      (λ n. let s = sent.transfer-unchanged c unit mem lens (λ e. n (inl e)) in (s .0, s .1, s .2, refl))
+      (λ n. let s = sent.transfer-unchanged c (filed (c .limits) unit) mem lens (λ e. n (inl e)) in (s .0, s .1, s .2, refl))
       (λ n. (refl, refl, refl, refl))
 
   take-still : Still c mem lens out (takeFor c rank mem lens out)

@@ -54,6 +54,7 @@ use Rattle.table.specs.Serving.{blank, recordAt, ownMem, ownLens, Step, alone, 
 use Rattle.requests.specs.Requests.{openedBy, closedBy, transferFor, takeFor, reclaimFor}
 use Rattle.requests.specs.Handing.{nextFor}
 use Rattle.channel.specs.declared.step.Ticked.{Ticked as OneTick}
+use Rattle.channel.specs.Pairs.{filed}
 use Rattle.ticks.specs.Ticking.{tickedBy}
 use Rattle.arrivals.specs.Finding.{lookOf}
 use Rattle.arrivals.specs.Arriving.{statedIn, arrivalFor}
@@ -204,7 +205,7 @@ close-marking out c rank mem lens w = either Fills (eqb (c .addresses .direction
 
 pub transfer-marking : (unit out : List ℕ) → Marking (transferFor unit) out
 unfolding transferFor
-transfer-marking unit out c rank mem lens w = works-full (eqb (c .addresses .direction) sends) _ _ (transfer-full c w (length unit)) w
+transfer-marking unit out c rank mem lens w = works-full (eqb (c .addresses .direction) sends) _ _ (transfer-full c w (length (filed (c .limits) unit))) w
 
 pub take-marking : (out : List ℕ) → Marking takeFor out
 unfolding takeFor

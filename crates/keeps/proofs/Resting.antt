@@ -25,6 +25,7 @@ use Rattle.channel.specs.Lone.{readyLone}
 use Rattle.channel.specs.Steps.{refusing}
 use Rattle.channel.specs.Pulse.{sentIn, heartbeatStep, heartbeatAckStep}
 use Rattle.channel.specs.Flow.{flows, repliedIn, flowStep, flowAckStep}
+use Rattle.channel.specs.Pairs.{filed}
 use Rattle.sender_acks.specs.Stated.{isTaken, heeding, heedingFirst, dataAckStated, controlAckStated}
 use Rattle.sender.specs.Directives as sender
 use Rattle.sender.specs.Ticking.{dataFallen, tickStep as senderTick}
@@ -227,7 +228,7 @@ module _ (t : List Channel) (mem lens lines : List ℕ) (rests : Resting t) wher
       (λ c rank m l w. either RestsAfter (eqb (c .addresses .direction) sends) _ _ (close-rests c w) w) rests
   served-rests (Transfer index) x out =
       serve-each Rests (seeking (Index index)) (transferFor x) t mem lens lines out
-      (λ c rank m l w. works-rests (eqb (c .addresses .direction) sends) _ _ (transfer-rests c w (length x)) w) rests
+      (λ c rank m l w. works-rests (eqb (c .addresses .direction) sends) _ _ (transfer-rests c w (length (filed (c .limits) x))) w) rests
   served-rests (WouldTransfer index count) x out = serve-each Rests (seeking (Question index)) (alone (askedBy count)) t mem lens lines out (λ c rank m l w. w) rests
   served-rests (Take index) x out =
       serve-each Rests (seeking (Index index)) takeFor t mem lens lines out

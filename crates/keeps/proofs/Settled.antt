@@ -19,6 +19,7 @@ use Rattle.channel.specs.declared.answer.Refusal.the-variants as refusal
 use Rattle.channel.specs.declared.step.Stepped.{Stepped}
 use Rattle.channel.specs.Record.{sends}
 use Rattle.channel.specs.Steps.{refusing}
+use Rattle.channel.specs.Pairs.{filed}
 use Rattle.channel.proofs.StandingLaws.{stands-is}
 use Rattle.sender_units.specs.Transfer.{transferStep, transferMem, transferLens}
 use Rattle.ends.proofs.SenderFixed.{transfer-fixed}
@@ -56,13 +57,16 @@ pub transfer-fixing : (look : Look) (unit out : List ℕ) → Fixing look (trans
 unfolding transferFor
 transfer-fixing look unit out at rank c mem lens g = go (eqb (c .addresses .direction) sends)
   where
+    u : List ℕ
+    u = filed (c .limits) unit
+
     by : Bool → Worked Stepped
     by b =
-        if b then works (transferStep c (length unit)) (transferMem c unit mem) (transferLens c unit lens) out
+        if b then works (transferStep c (length u)) (transferMem c u mem) (transferLens c u lens) out
         else works (refusing c refusal.State) mem lens out
 
     go : (b : Bool) → (by b .made .channel .addresses ≡ c .addresses) × (by b .made .channel .limits ≡ c .limits)
-    go true = transfer-fixed c unit
+    go true = transfer-fixed c u
     go false = (refl, refl)
 
 pub settings-stay : (look : Look) (step : Step) (t : List Channel) (mem lens lines out : List ℕ) → Fixing look step out

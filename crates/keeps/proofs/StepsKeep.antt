@@ -54,6 +54,7 @@ use Rattle.channel.specs.declared.step.Ticked.{Ticked}
 use Rattle.channel.specs.declared.record.Pulse.{Pulse}
 use Rattle.channel.specs.Pulse.{heartbeatStep, heartbeatAckStep}
 use Rattle.channel.specs.Flow.{flowStep, flowAckStep}
+use Rattle.channel.specs.Pairs.{filed}
 use Rattle.channel.proofs.FlowLaws.{replied-sane}
 use Rattle.ends.proofs.KeepsPulse.{pulse-keeps, heartbeat-keeps, heartbeat-ack-keeps, flow-keeps, flow-ack-keeps}
 use Rattle.ends.proofs.PulseFixed.{heartbeat-fixed, heartbeat-ack-fixed, flow-fixed, flow-ack-fixed}
@@ -137,10 +138,10 @@ transfer-keeps look unit out at rank c mem lens wide g =
     (λ d.
     subst (Kept c) (sym (chosen (eqb (c .addresses .direction) sends) _ _ (eq-eqb (c .addresses .direction) sends d)))
     (record {
-      addresses = sent.transfer-fixed c unit .0;
-      limits = sent.transfer-fixed c unit .1;
-      standing = transfer-stands c unit lens wide (g .standing) d;
-      sized = transfer-sized c unit mem lens (g .standing) (g .sized);
+      addresses = sent.transfer-fixed c (filed (c .limits) unit) .0;
+      limits = sent.transfer-fixed c (filed (c .limits) unit) .1;
+      standing = transfer-stands c (filed (c .limits) unit) lens wide (g .standing) d;
+      sized = transfer-sized c (filed (c .limits) unit) mem lens (g .standing) (g .sized);
     }))
     (λ d.
     subst (Kept c) (sym (passed-by (eqb (c .addresses .direction) sends) _ _ (ne-eqb (c .addresses .direction) sends (not-sends (c .addresses .direction) d))))

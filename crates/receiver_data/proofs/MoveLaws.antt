@@ -111,6 +111,7 @@ pass-ringed l w mark h r =
       window = r .window;
       most = r .most;
       octet = r .octet;
+      payload = r .payload;
       segments = r .segments;
       place = round-lt (l .slots) (w .place + 1) (omega arith);
       behind = omega arith;

@@ -13,6 +13,8 @@ use Rattle.channel.specs.declared.record.Channel.{Channel}
 use Rattle.channel.specs.declared.answer.Answer.the-variants.{Refused}
 use Rattle.channel.specs.declared.answer.Refusal.the-variants as refusal
 use Rattle.channel.specs.Record.{sends}
+use Rattle.channel.specs.Pairs.{filed, filedCount}
+use Rattle.channel.proofs.PairLaws.{filed-length}
 use Rattle.channel.specs.Steps.{answered, refusing}
 use Rattle.walks.specs.Serving.{works}
 use Rattle.sender.specs.Directives as sender
@@ -37,7 +39,7 @@ module _ (c : Channel) where
   unfolding closedBy
   closed-receives e = passed-by (eqb (c .addresses .direction) sends) (sender.closeStep c) (receiver.closeStep c) (ne-eqb _ _ e)
 
-  pub asked-sends : (count : ℕ) → c .addresses .direction ≡ sends → askedBy count c ≡ answered c (wouldTransfer c count)
+  pub asked-sends : (count : ℕ) → c .addresses .direction ≡ sends → askedBy count c ≡ answered c (wouldTransfer c (filedCount (c .limits) count))
   unfolding askedBy
   asked-sends count e = ap (answered c) (chosen (eqb (c .addresses .direction) sends) _ _ (eq-eqb _ _ e))
 
@@ -50,9 +52,12 @@ module _ (c : Channel) where
   unfolding transferFor askedBy transferStep
   asked-answers unit rank mem lens out = go (eqb (c .addresses .direction) sends)
     where
+      u : List ℕ
+      u = filed (c .limits) unit
+
       go : (t : Bool)
-          → (if t then works (transferStep c (length unit)) (transferMem c unit mem) (transferLens c unit lens) out
+          → (if t then works (transferStep c (length u)) (transferMem c u mem) (transferLens c u lens) out
           else works (refusing c refusal.State) mem lens out) .made .answer
-          ≡ (if t then wouldTransfer c (length unit) else Refused refusal.State)
-      go true = refl
+          ≡ (if t then wouldTransfer c (filedCount (c .limits) (length unit)) else Refused refusal.State)
+      go true = ap (wouldTransfer c) (filed-length (c .limits) unit)
       go false = refl

@@ -11,6 +11,7 @@ use Rattle.channel.specs.declared.answer.Answer.the-variants.{Refused}
 use Rattle.channel.specs.declared.answer.Refusal.the-variants as refusal
 use Rattle.channel.specs.declared.step.Stepped.{Stepped}
 use Rattle.channel.specs.Record.{sends, receives}
+use Rattle.channel.specs.Pairs.{filed, filedCount}
 use Rattle.channel.specs.Steps.{answered, refusing}
 use Rattle.sender.specs.Directives as sender
 use Rattle.sender_units.specs.Transfer.{wouldTransfer, transferStep, transferMem, transferLens}
@@ -26,16 +27,16 @@ openedBy c = if eqb (c .addresses .direction) sends then sender.openStep c else 
 unfoldable pub closedBy : Channel → Stepped
 closedBy c = if eqb (c .addresses .direction) sends then sender.closeStep c else receiver.closeStep c
 
--- a sender takes a unit
+-- a sender takes a unit, and files it: on a pair behind a leading octet (document 02, A13)
 unfoldable pub transferFor : List ℕ → Step
 transferFor unit c rank mem lens out =
     if eqb (c .addresses .direction) sends
-    then works (transferStep c (length unit)) (transferMem c unit mem) (transferLens c unit lens) out
+    then works (transferStep c (length (filed (c .limits) unit))) (transferMem c (filed (c .limits) unit) mem) (transferLens c (filed (c .limits) unit) lens) out
     else works (refusing c refusal.State) mem lens out
 
 -- what a transfer of so many octets would answer: a question, which changes nothing
 unfoldable pub askedBy : ℕ → Channel → Stepped
-askedBy count c = answered c (if eqb (c .addresses .direction) sends then wouldTransfer c count else Refused refusal.State)
+askedBy count c = answered c (if eqb (c .addresses .direction) sends then wouldTransfer c (filedCount (c .limits) count) else Refused refusal.State)
 
 -- a receiver gives its oldest complete unit
 unfoldable pub takeFor : Step

@@ -66,7 +66,7 @@ pub fn ask_step(c: Channel, count: usize) -> Stepped
     if c.addresses.direction != SENDS {
         return refused(c, Refusal::State);
     }
-    let answer = sender_units::would_transfer(c, count);
+    let answer = sender_units::would_file(c, count);
     unchanged(c, answer)
 }
 

@@ -22,6 +22,7 @@ use Rattle.channel.specs.declared.step.Ticked.{Ticked}
 use Rattle.channel.specs.Record.{sends, receives}
 use Rattle.channel.specs.Steps.{refusing}
 use Rattle.channel.specs.Flow.{flows}
+use Rattle.channel.specs.Pairs.{filed}
 use Rattle.sender_packets.specs.Asked.{Ready}
 use Rattle.table.specs.Waiting.{rankIn}
 use Rattle.table.specs.declared.looking.Look.{Look}
@@ -85,7 +86,7 @@ module _ {h s : End} {past : List Event} {x : Sender} {y : Receiver} {t : List C
   unfolding transferFor
   transferring =
       by-index k Flowing (r .channel) (transferFor u) b (transfer-shapes (seeking (Index (r .channel))) u b) (λ a o e. stays)
-      (λ at rank. either (Left Flowing) (eqb (own k .addresses .direction) sends) _ _ (transfer-flows h r (own k) (length u)) stays)
+      (λ at rank. either (Left Flowing) (eqb (own k .addresses .direction) sends) _ _ (transfer-flows h r (own k) (length (filed (own k .limits) u))) stays)
 
   asking-one : Seen Flowing (h .index) (calledBy asks (endWith h t mem lens lines n) r)
   unfolding askedBy

@@ -3,17 +3,19 @@
 use mathlib.Core.Path.{_≡_, refl, sym, ap, ap₂, _∙_}
 use mathlib.Core.Bool.{Bool, true, false, not, false≢true}
 use mathlib.Core.List.{List}
-use Prim.Native.Nat.{ℕ, _+_, _≤_, _<_}
+use Prim.Native.Nat.{ℕ, _+_, _*_, _≤_, _<_, min}
+use native.Mathlib.Nat.{mul-le-mul, mul-le-mul-right, min-eq-left, min-eq-right}
 use native.Mathlib.Omega.{arith}
-use borrow.Author.Tests.{lt-ltb, le-ltb, eq-eqb, ne-eqb, ltb-false, eqb-true}
-use lib.Dec.{ltb, eqb}
+use borrow.Author.Tests.{lt-ltb, le-ltb, eq-eqb, ne-eqb, ltb-false, leb-true, leb-false, eqb-true, eqb-false}
+use lib.Dec.{leb, ltb, eqb}
 use lib.ListN.{length}
 use Rattle.laws.specs.Choice.{if_then_else_}
-use Rattle.laws.proofs.Choice.{chosen, passed-by}
+use Rattle.laws.proofs.Choice.{either-way, chosen, passed-by}
 use Rattle.slots.specs.Ring.{cleared}
 use Rattle.slots.specs.Slots.{laid}
 use Rattle.channel.specs.Places.{slotOf}
 use Rattle.slots.specs.Units.{segmentsOf}
+use Rattle.slots.proofs.Units.{segments-cover, segments-over}
 use Rattle.store.specs.Store.{sizeIn, octetsIn, filedMem, filedLens, filedMarks, EachFits}
 use Rattle.channel.specs.declared.record.Channel.{Channel}
 use Rattle.channel.specs.declared.answer.Answer.{Answer}
@@ -22,7 +24,9 @@ use Rattle.channel.specs.declared.answer.Refusal.the-variants as refusal
 use Rattle.channel.specs.Answers.{numberOf}
 use Rattle.channel.specs.Record.{closed, opened, heldIn, withWindow, withMarks, withAcked}
 use Rattle.channel.specs.Steps.{answered, refusing, doing}
-use Rattle.channel.specs.Asked.{Asked}
+use Rattle.channel.specs.Asked.{Ringed, Asked}
+use Rattle.channel.specs.Pairs.{filed, filedCount}
+use Rattle.channel.proofs.PairLaws.{filed-length}
 use Rattle.sender_units.specs.Transfer.{wouldTransfer, isAccepted, longer, filedUnit, transferStep, transferMem, transferLens, freeAt}
 use Rattle.sender_units.specs.Reclaiming.{unitAt, sizeAt, dropped, reclaimStep, reclaimOut}
 use Rattle.sender.proofs.AskedLaws.{mark-fits}
@@ -46,6 +50,11 @@ module _ (c : Channel) (n count : ℕ) (e : count ≡ segmentsOf (c .limits .pay
 pub would-state : (c : Channel) (n : ℕ) → (c .phase .state ≡ opened → ⊥) → wouldTransfer c n ≡ Refused refusal.State
 unfolding wouldTransfer
 would-state c n h = simp (ne-eqb _ _ h)
+
+-- the answer to a unit, as what is filed of it is asked
+pub filed-would : (c : Channel) (u : List ℕ) (a : Answer) → a ≡ wouldTransfer c (filedCount (c .limits) (length u))
+    → a ≡ wouldTransfer c (length (filed (c .limits) u))
+filed-would c u a e = e ∙ ap (wouldTransfer c) (sym (filed-length (c .limits) u))
 
 -- whether it is accepted, by what it is answered
 pub accepted-by : (c : Channel) (n : ℕ) (a : Answer) → wouldTransfer c n ≡ a → isAccepted c n ≡ eqb (numberOf a) 0
@@ -106,6 +115,45 @@ module _ (c : Channel) (u mem lens : List ℕ) where
     pub transfer-done-lens : transferLens c u lens ≡ filedLens (slotOf c) (c .limits .payload) (c .limits .slots) u lens (segmentsOf (c .limits .payload) (length u)) 0 (freeAt c)
     unfolding transferLens
     transfer-done-lens = chosen (isAccepted c (length u)) _ _ e
+
+-- ---- units longer than any that is filed: M segments are at most 128, of at most 1,024 octets
+
+module _ (c : Channel) (r : Ringed (c .limits) (c .window)) where
+  unit-most : c .limits .segments * c .limits .payload ≤ 131072
+  unit-most = let m : c .limits .segments ≤ 128 = omega (arith, r .segments, r .most) in mul-le-mul m (r .payload)
+
+  -- what is accepted is no longer
+  pub accepted-short : (n : ℕ) → isAccepted c n ≡ true → n ≤ 131072
+  accepted-short n e =
+      let t = accepted-is c n e in
+      omega (arith, unit-most, segments-cover (c .limits .payload) n (r .octet), mul-le-mul-right (c .limits .payload) (t .1))
+
+  -- all that are longer are answered alike
+  would-over : (m n : ℕ) → 131072 < m → 131072 < n → wouldTransfer c m ≡ wouldTransfer c n
+  would-over m n h k =
+      either-way (eqb (c .phase .state) opened)
+      (λ e. long m h (eqb-true _ _ e) ∙ sym (long n k (eqb-true _ _ e)))
+      (λ e. would-state c m (eqb-false _ _ e) ∙ sym (would-state c n (eqb-false _ _ e)))
+    where
+      long : (n : ℕ) → 131072 < n → c .phase .state ≡ opened → wouldTransfer c n ≡ Refused refusal.Long
+      long n k o =
+          would-long c n _ refl o (segments-over (c .limits .payload) n (c .limits .segments) (r .octet) (omega (arith, unit-most)))
+
+  -- so the largest number may stand for those past it
+  pub would-capped : (n top : ℕ) → 131072 < top → wouldTransfer c (min n top) ≡ wouldTransfer c n
+  would-capped n top h =
+      either-way (leb n top)
+      (λ e. ap (wouldTransfer c) (min-eq-left (leb-true _ _ e)))
+      (λ e.
+      let k : top < n = leb-false _ _ e in
+      ap (wouldTransfer c) (min-eq-right (omega arith)) ∙ would-over top n h (omega arith))
+
+  pub filed-size : (u : List ℕ) (size top : ℕ) → 131072 < top → isAccepted c (length (filed (c .limits) u)) ≡ true
+      → size ≡ min (filedCount (c .limits) (length u)) top → size ≡ length (filed (c .limits) u)
+  filed-size u size top h e is =
+      is
+      ∙ ap (λ (k : ℕ). min k top) (sym (filed-length (c .limits) u))
+      ∙ min-eq-left (omega (arith, accepted-short (length (filed (c .limits) u)) e))
 
 -- the unit filed, from what the calls gave
 pub filed-is : (c : Channel) (n count from ahead : ℕ) (marks acked : List ℕ)

@@ -5,4 +5,5 @@ pub mod transfer;
 
 pub use reclaiming::reclaim_step;
 pub use transfer::transfer_step;
+pub use transfer::would_file;
 pub use transfer::would_transfer;

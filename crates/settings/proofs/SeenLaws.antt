@@ -3,13 +3,13 @@
 -- Assumes nothing.
 use mathlib.Core.Path.{_≡_, refl, sym, ap, ap₂, subst, _∙_}
 use mathlib.Core.Bool.{Bool, true, false, not, _&&_, _||_, true≢false, false≢true, or-false, or-assoc}
-use mathlib.Core.List.{List, [], _∷_}
+use mathlib.Core.List.{List, [], _∷_, map}
 use Prim.Native.Nat.{ℕ, zero, suc, _+_, _*_, _≤_, _<_}
-use native.Mathlib.Nat.{add-zero, add-suc, add-assoc, mul-le-mul-right}
+use native.Mathlib.Nat.{add-zero, add-suc, add-assoc, mul-le-mul-right, le-of-suc-le-suc, not-suc-le-zero}
 use native.Mathlib.Omega.{arith}
 use borrow.Author.Tests.{ltb-true, ltb-false, eqb-true, eq-eqb, not-true}
 use lib.Dec.{ltb, eqb}
-use lib.ListN.{length, take, length-set, length-replicate}
+use lib.ListN.{length, take, getD, set, length-set, length-replicate}
 use lib.Seq.{getD-set-same, getD-set-other}
 use Rattle.laws.proofs.Choice.{both, either-way}
 use Rattle.walks.specs.Fold.{foldFrom}
@@ -23,9 +23,10 @@ use Rattle.channel.specs.Tables.{clashes, eachFit}
 use Rattle.table.specs.Lent.{areaOf, allSlots, allOctets}
 use Rattle.table.specs.Surveying.{lookedAt}
 use Rattle.table.proofs.Looked.{looked-enough}
+use Rattle.settings.specs.declared.pairing.Routes.{Routes}
 use Rattle.settings.specs.declared.seeing.Seen.{Seen}
 use Rattle.settings.specs.Configuring.{madeTable}
-use Rattle.settings.specs.Seeing.{nowhere, beyond, begun, unsound, addressesAt, clashesSeen, noted, seeOne}
+use Rattle.settings.specs.Seeing.{nowhere, beyond, begun, unsound, addressesAt, clashesSeen, routed, noted, seeOne}
 use Rattle.settings.proofs.OneLaws.{bounded, one-spoilt, one-many, one-unfit, one-taken, one-noted}
 
 -- ---- two clash in either order
@@ -233,3 +234,42 @@ sees-sound lens j v (s ∷ l) g e =
         let w = goes-on v s lens j g (ltb-true j 16 p) q r in
         good-both v s j l g (ltb-true j 16 p) q r
         (next (w .1) (ap (λ (x : Seen). foldFrom seeOne lens (suc j) x l .sound) (sym (w .0)) ∙ e))
+
+-- ---- the routes that are noted: each by its index
+
+module _ (f : Routes → List ℕ) (g : Settings → ℕ) (law : (r : Routes) (s : Settings) (j : ℕ) → f (routed r s j) ≡ set (f r) j (g s)) where
+  abbrev Whole : Seen → Type 0
+  Whole v = length (f (v .routes)) ≡ 16
+
+  whole-noted : (v : Seen) (s : Settings) (j : ℕ) → Whole v → Whole (noted v s j)
+  whole-noted v s j w = ap length (law (v .routes) s j) ∙ length-set (f (v .routes)) j (g s) ∙ w
+
+  -- those before stay
+  kept-before : (lens : List ℕ) (j : ℕ) (v : Seen) (l : List Settings) → Going v j → Good v j l → (i : ℕ) → i < j
+      → getD (f (foldFrom seeOne lens j v l .routes)) i 0 ≡ getD (f (v .routes)) i 0
+  unfolding foldFrom
+  kept-before lens j v [] g1 h i below = refl
+  kept-before lens j v (s ∷ l) g1 h i below =
+      let p = good-first v s j l g1 h in
+      let w = goes-on v s lens j g1 (p .0) (p .1) (p .2) in
+      ap (λ (x : Seen). getD (f (foldFrom seeOne lens (suc j) x l .routes)) i 0) (w .0)
+      ∙ kept-before lens (suc j) (noted v s j) l (w .1) (p .3) i (omega (arith, below))
+      ∙ ap (λ (x : List ℕ). getD x i 0) (law (v .routes) s j)
+      ∙ getD-set-other (f (v .routes)) j i (g s) 0 (λ e. absurd (omega (arith, below, e)))
+
+  pub noted-routes : (lens : List ℕ) (j : ℕ) (v : Seen) (l : List Settings) → Going v j → Good v j l → Whole v → (i : ℕ) → i < length l
+      → getD (f (foldFrom seeOne lens j v l .routes)) (j + i) 0 ≡ getD (map g l) i 0
+  unfolding foldFrom
+  noted-routes lens j v [] g1 h whole i below = absurd (not-suc-le-zero below)
+  noted-routes lens j v (s ∷ l) g1 h whole zero below =
+      let p = good-first v s j l g1 h in
+      let w = goes-on v s lens j g1 (p .0) (p .1) (p .2) in
+      ap₂ (λ (x : Seen) (k : ℕ). getD (f (foldFrom seeOne lens (suc j) x l .routes)) k 0) (w .0) (add-zero j)
+      ∙ kept-before lens (suc j) (noted v s j) l (w .1) (p .3) j (omega arith)
+      ∙ ap (λ (x : List ℕ). getD x j 0) (law (v .routes) s j)
+      ∙ getD-set-same (f (v .routes)) j (g s) 0 (omega (arith, p .0, whole))
+  noted-routes lens j v (s ∷ l) g1 h whole (suc i) below =
+      let p = good-first v s j l g1 h in
+      let w = goes-on v s lens j g1 (p .0) (p .1) (p .2) in
+      ap₂ (λ (x : Seen) (k : ℕ). getD (f (foldFrom seeOne lens (suc j) x l .routes)) k 0) (w .0) (omega (arith, add-suc j i))
+      ∙ noted-routes lens (suc j) (noted v s j) l (w .1) (p .3) (whole-noted v s j whole) i (le-of-suc-le-suc below)

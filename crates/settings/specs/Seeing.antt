@@ -13,10 +13,12 @@ use Rattle.channel.specs.declared.answer.Answer.the-variants.{Done, Refused}
 use Rattle.channel.specs.declared.answer.Refusal.the-variants as refusal
 use Rattle.channel.specs.Prefixes.{noPrefix}
 use Rattle.channel.specs.Settings.{fit, clash}
+use Rattle.channel.specs.Pairs.{pairsFrom}
 use Rattle.table.specs.declared.deciding.Told.{Told}
 use Rattle.table.specs.declared.deciding.Verdict.{Verdict}
 use Rattle.table.specs.Lent.{areaOf}
 use Rattle.table.specs.Serving.{toldOf}
+use Rattle.settings.specs.declared.pairing.Routes.{Routes}
 use Rattle.settings.specs.declared.seeing.Seen.{Seen}
 
 -- what stands at an index that nothing was noted at
@@ -28,12 +30,15 @@ abbrev pub beyond : Addresses
 beyond =
     record { channel = 0; remote = 0; direction = 0; prefix = record { length = 0; octets = [] }; own = record { length = 0; octets = [] } }
 
+abbrev pub noRoutes : Routes
+noRoutes = record { spares = replicate 16 0; leads = replicate 16 0; ways = replicate 16 0 }
+
 -- all is well at first exactly if the lines have their octets
 abbrev pub begun : List ℕ → Seen
-begun lines = record { sound = eqb (length lines) 51; slots = 0; octets = 0; addresses = replicate 16 nowhere }
+begun lines = record { sound = eqb (length lines) 51; slots = 0; octets = 0; addresses = replicate 16 nowhere; routes = noRoutes }
 
 abbrev pub unsound : Seen → Seen
-unsound v = record { sound = false; slots = v .slots; octets = v .octets; addresses = v .addresses }
+unsound v = record { sound = false; slots = v .slots; octets = v .octets; addresses = v .addresses; routes = v .routes }
 
 -- the addresses with an index
 abbrev pub addressesAt : Seen → ℕ → Addresses
@@ -44,6 +49,10 @@ unfoldable pub clashesSeen : Seen → Addresses → ℕ → ℕ → Bool
 clashesSeen v a zero i = false
 clashesSeen v a (suc n) i = clash a (addressesAt v i) || clashesSeen v a n (i + 1)
 
+abbrev pub routed : Routes → Settings → ℕ → Routes
+routed r s j =
+    record { spares = set (r .spares) j (s .limits .spare); leads = set (r .leads) j (s .limits .lead); ways = set (r .ways) j (s .addresses .direction) }
+
 abbrev pub noted : Seen → Settings → ℕ → Seen
 noted v s j =
     record {
@@ -51,6 +60,7 @@ noted v s j =
       slots = v .slots + s .limits .slots;
       octets = v .octets + areaOf (s .limits);
       addresses = set (v .addresses) j (s .addresses);
+      routes = routed (v .routes) s j;
     }
 
 unfoldable pub seeOne : Seen → Settings → List ℕ → ℕ → Seen
@@ -68,7 +78,8 @@ seen s lens v = foldFrom seeOne lens 0 v s
 
 -- of a table of n records, k settings, m octets and l lengths
 unfoldable pub isSettled : Seen → ℕ → ℕ → ℕ → ℕ → Bool
-isSettled v n k m l = leb 1 k && v .sound && eqb n k && eqb (v .slots) l && eqb (v .octets) m
+isSettled v n k m l =
+    leb 1 k && v .sound && eqb n k && eqb (v .slots) l && eqb (v .octets) m && leb k 16 && pairsFrom (v .routes .spares) (v .routes .leads) (v .routes .ways) k k 0
 
 abbrev pub verdictOf : Seen → ℕ → ℕ → ℕ → ℕ → Verdict
 verdictOf v n k m l = record { ok = isSettled v n k m l; told = toldOf n (Refused refusal.Settings) }

@@ -1,4 +1,5 @@
 // How the settings of a table are looked at, one after another: each is fit, none clashes with one before it, and what memory they ask for together.
+use crate::pairing::Routes;
 use channel::Addresses;
 use channel::Prefix;
 use channel::Settings;
@@ -9,15 +10,16 @@ use table::surveying::MOST_RECORDS;
 use table::surveying::area;
 ghost use mathlib.Core.Path.{_≡_};
 ghost use Prim.Native.Nat.{_≤_, _<_};
-ghost use Rattle.settings.specs.Seeing.{begun, unsound, addressesAt, clashesSeen, noted, seeOne};
+ghost use Rattle.settings.specs.Seeing.{begun, unsound, addressesAt, clashesSeen, routed, noted, seeOne};
 
-// Whether all is well so far, the slots and the octets together, and by index the addresses: a slice of structs is walked once, so those before
-// are kept.
+// Whether all is well so far, the slots and the octets together, and by index the addresses and the routes: a slice of structs is walked once, so
+// those before are kept.
 pub struct Seen {
     pub sound: bool,
     pub slots: usize,
     pub octets: usize,
     pub addresses: [Addresses; 16],
+    pub routes: Routes,
 }
 
 // How many octets the lines have.
@@ -43,6 +45,11 @@ pub fn see_begin(lines: &[u8]) -> Seen
         slots: 0,
         octets: 0,
         addresses,
+        routes: Routes {
+            spares: [0; 16],
+            leads: [0; 16],
+            ways: [0; 16],
+        },
     }
 }
 
@@ -93,7 +100,20 @@ fn note(v: Seen, s: Settings, j: usize) -> Seen
         slots: v.slots + s.limits.slots,
         octets: v.octets + area(s.limits),
         addresses,
+        routes: route(v.routes, s, j),
     }
+}
+
+// Its route, too.
+fn route(r: Routes, s: Settings, j: usize) -> Routes
+    requires { ⌜ j < 16 ⌝ }
+    ensures { λ q. ⌜ q ≡ routed r s j ⌝ }
+{
+    let mut q = r;
+    q.spares[j] = s.limits.spare;
+    q.leads[j] = s.limits.lead;
+    q.ways[j] = s.addresses.direction;
+    q
 }
 
 // One more. The sums of 16 that are fit are within both bounds; these are there so that no sum leaves a machine word.

@@ -1,4 +1,5 @@
 // Whether a table, a memory, lengths and lines are what the settings ask for, and the answer.
+use crate::pairing::pairs_fit;
 use crate::seeing::LINES;
 use crate::seeing::Seen;
 use channel::Answer;
@@ -6,6 +7,7 @@ use channel::Refusal;
 use lines::clear;
 use table::Told;
 use table::Verdict;
+use table::surveying::MOST_RECORDS;
 ghost use mathlib.Core.Path.{_≡_};
 ghost use Rattle.settings.specs.Seeing.{isSettled, verdictOf, madeTold, cleared};
 
@@ -25,7 +27,13 @@ fn is_settled(v: Seen, n: usize, k: usize, m: usize, l: usize) -> bool
     if v.slots != l {
         return false;
     }
-    v.octets == m
+    if v.octets != m {
+        return false;
+    }
+    if MOST_RECORDS < k {
+        return false;
+    }
+    pairs_fit(v.routes, k)
 }
 
 pub fn settle(v: Seen, n: usize, k: usize, m: usize, l: usize) -> Verdict

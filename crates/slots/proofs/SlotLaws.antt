@@ -2,12 +2,13 @@
 -- Assumes nothing.
 use mathlib.Core.Path.{_≡_, refl, sym, ap, ap₂, _∙_, subst}
 use mathlib.Core.Logic.{_⊎_, inl, inr, ⊎-elim}
-use mathlib.Core.List.{List, [], _++_, append-nil, append-assoc}
+use mathlib.Core.List.{List, [], _∷_, _++_, append-nil, append-assoc}
 use Prim.Native.Nat.{ℕ, _+_, _-_, _*_, _≤_, _<_}
 use native.Mathlib.Nat.{add-zero, le-of-eq, mul-le-mul-right, suc-mul}
+use native.Mathlib.Numerals.{add-one}
 use native.Mathlib.Omega.{arith}
 use lib.ListN.{length, getD, set, take, drop, length-append, length-drop, length-set, drop-of-length-le, take-append-drop}
-use lib.Seq.{length-take-le, take-length, take-at, drop-at, drop-drop, drop-append-add, take-append-le, take-take, getD-set-same, getD-set-other}
+use lib.Seq.{length-take-le, take-length, take-at, drop-at, drop-drop, drop-append-add, take-append-le, take-take, getD-set-same, getD-set-other, set-split}
 use Rattle.laws.proofs.Lists.{tail-part, take-drop}
 use Rattle.laws.proofs.Numbers.{either-side}
 use Rattle.slots.specs.Slots.{Sized, laid, segmentIn}
@@ -73,6 +74,14 @@ module _ (m : List ℕ) (at : ℕ) (p : List ℕ) (inside : at + length p ≤ le
 pub laid-none : (m : List ℕ) (at : ℕ) → laid m at [] ≡ m
 unfolding laid
 laid-none m at = ap (λ (k : ℕ). take at m ++ drop k m) (add-zero at) ∙ take-append-drop at m
+
+laid-one : (m : List ℕ) (at x : ℕ) → at < length m → set m at x ≡ laid m at (x ∷ [])
+unfolding laid
+laid-one m at x h = set-split m at x h ∙ ap (λ (k : ℕ). take at m ++ (x ∷ drop k m)) (sym (add-one at))
+
+-- an octet written and a part laid behind it are laid together
+pub laid-led : (m : List ℕ) (at x : ℕ) (p : List ℕ) → at < length m → laid (set m at x) (at + 1) p ≡ laid m at (x ∷ p)
+laid-led m at x p h = ap (λ (l : List ℕ). laid l (at + 1) p) (laid-one m at x h) ∙ laid-on m at (x ∷ []) (omega arith) p
 
 -- a part copied to the front of what is lent from the place `at` on, to the memory's end, is laid there
 pub placed : (m : List ℕ) (at : ℕ) (p q : List ℕ)

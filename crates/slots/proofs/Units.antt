@@ -2,12 +2,12 @@
 -- Assumes nothing.
 use mathlib.Core.Path.{_≡_, refl, sym, ap, _∙_}
 use mathlib.Core.Bool.{Bool, true, false}
-use mathlib.Core.List.{List, _++_}
+use mathlib.Core.List.{List, _∷_, _++_}
 use Prim.Native.Nat.{ℕ, zero, suc, _+_, _-_, _*_, _/_, _≤_, _<_}
 use native.Mathlib.Nat.{suc-mul, zero-mul, add-mul, one-mul, mul-le-mul-right, div-mul-le-self, lt-div-mul-add}
 use native.Mathlib.Omega.{arith}
-use borrow.Author.Tests.{eqb-true}
-use lib.Dec.{eqb}
+use borrow.Author.Tests.{eqb-true, ltb-true, ltb-false}
+use lib.Dec.{eqb, ltb}
 use lib.ListN.{length, take, drop, length-take, length-drop}
 use lib.Seq.{take-all, take-add, drop-drop, length-take-le}
 use Rattle.laws.specs.Choice.{if_then_else_}
@@ -35,6 +35,14 @@ segments-cover most n h = by (eqb n 0) refl
     by true e = omega (arith, eqb-true n 0 e)
     by false e = omega (arith, turn ((n - 1) / most) most, lt-div-mul-add {a = n - 1} {b = most} h)
 
+-- so a unit longer than m segments has more
+pub segments-over : (most n m : ℕ) → 1 ≤ most → m * most < n → m < segmentsOf most n
+segments-over most n m h l = by (ltb m (segmentsOf most n)) refl
+  where
+    by : (t : Bool) → ltb m (segmentsOf most n) ≡ t → m < segmentsOf most n
+    by true e = ltb-true m _ e
+    by false e = absurd (omega (arith, segments-cover most n h, mul-le-mul-right most (ltb-false m (segmentsOf most n) e)))
+
 -- and all but the last are filled
 segments-filled : (most n i : ℕ) → i + 1 < segmentsOf most n → i * most + most ≤ n
 segments-filled most n i = by (eqb n 0)
@@ -54,6 +62,17 @@ fits most u i = simp length-take (omega arith)
 pub full : (most : ℕ) (u : List ℕ) (i : ℕ) → i + 1 < segmentsOf most (length u) → length (segmentCut most u i) ≡ most
 full most u i h =
     length-take-le most (drop (i * most) u) (omega (arith, length-drop (i * most) u, segments-filled most (length u) i h))
+
+-- with an octet in front: the first segment has it, and each behind begins an octet before where it began
+pub cut-first : (most x : ℕ) (u : List ℕ) → 1 ≤ most → segmentCut most (x ∷ u) 0 ≡ x ∷ take (most - 1) u
+cut-first most x u h =
+    let e : most ≡ suc (most - 1) = omega arith in
+    ap (λ (k : ℕ). take most (drop k (x ∷ u))) (zero-mul most) ∙ ap (λ (k : ℕ). take k (x ∷ u)) e
+
+pub cut-later : (most x : ℕ) (u : List ℕ) (i : ℕ) → 1 ≤ i * most → segmentCut most (x ∷ u) i ≡ take most (drop (i * most - 1) u)
+cut-later most x u i h =
+    let e : i * most ≡ suc (i * most - 1) = omega arith in
+    ap (λ (k : ℕ). take most (drop k (x ∷ u))) e
 
 -- n segments from the i-th on are so many octets from where it begins
 pub joined-part : (most : ℕ) (u : List ℕ) (n i : ℕ) → joined most u n i ≡ take (n * most) (drop (i * most) u)

@@ -6,5 +6,6 @@ pub mod ring;
 
 pub use cutting::flags_of;
 pub use cutting::segments;
+pub use filing::file_led;
 pub use filing::file_segment;
 pub use filing::read_segment;

@@ -3,9 +3,9 @@
 -- Assumes nothing.
 use mathlib.Core.Path.{_≡_, refl, sym, ap, ap₂, _∙_, subst}
 use mathlib.Core.Bool.{Bool, true, false}
-use mathlib.Core.List.{List, _++_}
+use mathlib.Core.List.{List, _∷_, _++_}
 use Prim.Native.Nat.{ℕ, zero, suc, _+_, _-_, _*_, _/_, _≤_, _<_, zero-le}
-use native.Mathlib.Nat.{zero-mul, suc-mul, mul-le-mul-right, div-mul-le-self}
+use native.Mathlib.Nat.{zero-mul, one-mul, suc-mul, mul-le-mul-right, div-mul-le-self}
 use native.Mathlib.Omega.{arith}
 use borrow.Author.Tests.{ltb-true, ltb-false, le-leb, lt-leb}
 use lib.Dec.{eqb, ltb}
@@ -19,7 +19,10 @@ use Rattle.slots.specs.Slots.{Sized, Slotted, laid, segmentIn}
 use Rattle.slots.specs.Units.{segmentsOf, segmentCut, flagsOf, joined}
 use Rattle.slots.proofs.SlotLaws.{slot-in, laid-length, laid-on, laid-none, filed-same, filed-other}
 use Rattle.slots.proofs.SlotLaws as one
-use Rattle.slots.proofs.Units.{fits, rejoined}
+use Rattle.slots.proofs.Units.{fits, rejoined, cut-first, cut-later}
+use Rattle.channel.specs.declared.record.Limits.{Limits}
+use Rattle.channel.specs.Pairs.{led, filed}
+use Rattle.channel.proofs.PairLaws.{filed-plain, filed-led}
 use Rattle.store.specs.Store.{unitOf, endsIn, lastWith, lastEndIn, EachFits, sizeIn, octetsIn, filedMem, filedBy, filedLens, filedMarks}
 
 -- ---- places: the first of n is the last of the others' turn
@@ -500,12 +503,12 @@ filed-gathered slot total most slots u m lens from map sized h p b =
 
 -- ---- the i-th segment as a part of the unit, and its flags
 
--- it starts within the unit
-pub segment-starts : (most n i : ℕ) → i < segmentsOf most n → i * most ≤ n
+-- it starts at or before the last octet of the unit
+pub segment-starts : (most n i : ℕ) → i < segmentsOf most n → i * most ≤ n - 1
 segment-starts most n i = by (eqb n 0)
   where
-    by : (t : Bool) → i < (if t then 1 else (n - 1) / most + 1) → i * most ≤ n
-    by true h = let z : i ≡ 0 = omega arith in subst (λ (k : ℕ). k ≤ n) (sym (ap (λ (k : ℕ). k * most) z ∙ zero-mul most)) zero-le
+    by : (t : Bool) → i < (if t then 1 else (n - 1) / most + 1) → i * most ≤ n - 1
+    by true h = let z : i ≡ 0 = omega arith in subst (λ (k : ℕ). k ≤ n - 1) (sym (ap (λ (k : ℕ). k * most) z ∙ zero-mul most)) zero-le
     by false h =
         let k : i ≤ (n - 1) / most = omega arith in
         omega (arith, mul-le-mul-right most k, div-mul-le-self (n - 1) most)
@@ -527,6 +530,10 @@ pub part-of : (most : ℕ) (u : List ℕ) (start end : ℕ) → start ≤ length
     → take (end - start) (drop start u) ≡ take most (drop start u)
 part-of most u start end h e = ap (λ (k : ℕ). take (k - start) (drop start u)) e ∙ part-is most u start h
 
+-- from the front on
+pub front-of : (most : ℕ) (u : List ℕ) (end : ℕ) → end ≡ (if ltb (length u - 0) most then length u else 0 + most) → take end u ≡ take most u
+front-of most u end e = let z : end ≡ end - 0 = omega arith in ap (λ (k : ℕ). take k u) z ∙ part-of most u 0 end zero-le e
+
 pub end-after : (n start most : ℕ) → start ≤ n → start ≤ (if ltb (n - start) most then n else start + most)
 end-after n start most h = by (ltb (n - start) most)
   where
@@ -541,6 +548,36 @@ end-within n start most h = by (ltb (n - start) most) refl
     by true e = omega arith
     by false e = omega (arith, ltb-false (n - start) most e)
 
+-- behind the first, a segment starts past the front
+pub past-front : (most i : ℕ) → 1 ≤ most → (i ≡ 0 → ⊥) → 1 ≤ i * most
+past-front most i h n = let some : 1 ≤ i = omega arith in omega (arith, one-mul most, mul-le-mul-right most some)
+
+-- of what is filed, the i-th segment as a part of the unit's own octets: as it is, or behind a leading octet
+module _ (l : Limits) (u : List ℕ) (i : ℕ) where
+  pub filed-starts : i < segmentsOf (l .payload) (length (filed l u)) → i * l .payload ≤ length u
+  filed-starts h = by (led l) (segment-starts (l .payload) (length (filed l u)) i h)
+    where
+      by : (t : Bool) → i * l .payload ≤ length (if t then 0 ∷ u else u) - 1 → i * l .payload ≤ length u
+      by true h = omega arith
+      by false h = omega arith
+
+  pub cut-plain : l .lead ≡ 0 → segmentCut (l .payload) (filed l u) i ≡ take (l .payload) (drop (i * l .payload) u)
+  cut-plain e = ap (λ (w : List ℕ). segmentCut (l .payload) w i) (filed-plain l e u)
+
+  module _ (d : l .lead ≡ 0 → ⊥) (octet : 1 ≤ l .payload) where
+    pub cut-led : i ≡ 0 → segmentCut (l .payload) (filed l u) i ≡ 0 ∷ take (l .payload - 1) u
+    cut-led z = ap₂ (segmentCut (l .payload)) (filed-led l d u) z ∙ cut-first (l .payload) 0 u octet
+
+    pub cut-behind : (i ≡ 0 → ⊥) → segmentCut (l .payload) (filed l u) i ≡ take (l .payload) (drop (i * l .payload - 1) u)
+    cut-behind n =
+        ap (λ (w : List ℕ). segmentCut (l .payload) w i) (filed-led l d u)
+        ∙ cut-later (l .payload) 0 u i (past-front (l .payload) i octet n)
+
+-- a part put in a slot, and the same part by another name
+pub put-as : (m lens : List ℕ) (at slot : ℕ) (p q m1 lens1 : List ℕ) → p ≡ q → (m1 ≡ laid m at p) × (lens1 ≡ set lens slot (length p))
+    → (m1 ≡ laid m at q) × (lens1 ≡ set lens slot (length q))
+put-as m lens at slot p q m1 lens1 is put = subst (λ (r : List ℕ). (m1 ≡ laid m at r) × (lens1 ≡ set lens slot (length r))) is put
+
 pub flags-le : (count i : ℕ) → flagsOf count i ≤ 3
 flags-le count i = by (eqb count 1) (eqb i 0) (eqb (i + 1) count)
   where
@@ -551,15 +588,10 @@ flags-le count i = by (eqb count 1) (eqb i 0) (eqb (i + 1) count)
     by false false false = omega arith
 
 -- ---- one segment more filed, in the slot t of the place s, and the place goes on: to file what is left is what it was
-module _ (slot : ℕ → ℕ) (total most slots : ℕ) (u m lens : List ℕ) (n i s t : ℕ) (part m1 lens1 : List ℕ) (next : ℕ)
-    (sized : Sized total most m lens) (p : t < total) (l : i < n) (there : t ≡ slot s) (is : part ≡ segmentCut most u i)
-    (in-mem : m1 ≡ laid m (t * most) part) (in-lens : lens1 ≡ set lens t (length part)) (on : next ≡ roundOf slots (s + 1)) where
-  mem-is : m1 ≡ laid m (t * most) (segmentCut most u i)
-  mem-is = in-mem ∙ ap (laid m (t * most)) is
-
-  lens-is : lens1 ≡ set lens t (length (segmentCut most u i))
-  lens-is = in-lens ∙ ap (λ (q : List ℕ). set lens t (length q)) is
-
+module _ (slot : ℕ → ℕ) (total most slots : ℕ) (u m lens : List ℕ) (n i s t : ℕ) (m1 lens1 : List ℕ) (next : ℕ)
+    (sized : Sized total most m lens) (p : t < total) (l : i < n) (there : t ≡ slot s)
+    (mem-is : m1 ≡ laid m (t * most) (segmentCut most u i)) (lens-is : lens1 ≡ set lens t (length (segmentCut most u i)))
+    (on : next ≡ roundOf slots (s + 1)) where
   pub turn-sized : Sized total most m1 lens1
   turn-sized =
       subst (λ (k : List ℕ). Sized total most k lens1) (sym mem-is)

@@ -27,7 +27,7 @@ pub unset : Settings
 unset =
     record {
       addresses = record { channel = 0; remote = 0; direction = 0; prefix = noPrefix; own = noPrefix };
-      limits = record { window = 0; slots = 0; payload = 0; segments = 0; timeout = 0; closing = 0; retries = 0; interval = 0; flow = 0 };
+      limits = record { window = 0; slots = 0; payload = 0; segments = 0; timeout = 0; closing = 0; retries = 0; interval = 0; flow = 0; spare = 0; lead = 0 };
     }
 
 pub blank : Channel

@@ -92,6 +92,8 @@ fn settings(window: usize, slots: usize, flow: u16, direction: u8) -> Settings {
             retries: 2,
             interval: 0,
             flow,
+            spare: 0,
+            lead: 0,
         },
     }
 }

@@ -45,6 +45,8 @@ pub fn table(direction: Direction, remote: u8, channels: usize, payload: usize) 
         retries: 255,
         interval: 0,
         flow: 0,
+        spare: 0,
+        lead: 0,
     };
     (0..channels as u16).map(settings).collect()
 }

@@ -20,7 +20,7 @@ const NODE: Node = Node {
 pub type Bound = (&'static str, fn(&mut Vec<Settings>));
 
 /// Each bound of document 01, one at a time: all else is good.
-pub const REFUSED: [Bound; 23] = [
+pub const REFUSED: [Bound; 32] = [
     ("settings: window 0", |table| table[0].window = 0),
     ("settings: window not a power of two", |table| {
         table[0].window = 3;
@@ -88,7 +88,54 @@ pub const REFUSED: [Bound; 23] = [
     ("settings: an octet past the own prefix", |table| {
         table[0].own_prefix.octets[0] = 1;
     }),
+    ("settings: a spare that is not there", |table| {
+        pair(table, 3);
+    }),
+    ("settings: a spare past 16", |table| pair(table, 17)),
+    ("settings: the spare 65,535", |table| pair(table, 65_535)),
+    ("settings: a record as its own spare", |table| {
+        pair(table, 1);
+        table[1].lead = 0;
+    }),
+    ("settings: a spare that receives", |table| {
+        pair(table, 2);
+        table[1].direction = Direction::Receiving;
+    }),
+    ("settings: a receiver that names a spare", |table| {
+        pair(table, 2);
+        table[0].direction = Direction::Receiving;
+    }),
+    (
+        "settings: no leading octet at the first of a pair",
+        |table| {
+            pair(table, 2);
+            table[0].lead = 0;
+        },
+    ),
+    ("settings: no leading octet at the spare", |table| {
+        pair(table, 2);
+        table[1].lead = 0;
+    }),
+    ("settings: a leading octet on no pair", |table| {
+        table[0].lead = 1;
+    }),
 ];
+
+/// Two senders with a leading octet, of which the first names this spare.
+fn pair(table: &mut Vec<Settings>, spare: u32) {
+    let first = Settings {
+        direction: Direction::Sending,
+        lead: 1,
+        spare,
+        ..table[0]
+    };
+    let other = Settings {
+        channel: first.channel ^ 1,
+        spare: 0,
+        ..first
+    };
+    *table = vec![first, other];
+}
 
 /// The last of these, of the other direction.
 fn turned(table: &[Settings]) -> Settings {
@@ -107,7 +154,7 @@ const FULL: Prefix = Prefix {
 };
 
 /// Changes that lie just within the bounds.
-pub const ACCEPTED: [Bound; 17] = [
+pub const ACCEPTED: [Bound; 19] = [
     ("settings: window and slots 1", |table| {
         (table[0].window, table[0].slots, table[0].most_segments) = (1, 1, 1);
     }),
@@ -133,6 +180,11 @@ pub const ACCEPTED: [Bound; 17] = [
     }),
     ("settings: Flow Control used", |table| table[0].flow = 1),
     ("settings: Flow Control not used", |table| table[0].flow = 0),
+    ("settings: a spare", |table| pair(table, 2)),
+    ("settings: mutual spares", |table| {
+        pair(table, 2);
+        table[1].spare = 1;
+    }),
     ("settings: prefixes of 15 octets", |table| {
         (table[0].remote_prefix, table[0].own_prefix) = (FULL, FULL);
     }),

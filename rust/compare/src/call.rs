@@ -150,6 +150,8 @@ pub fn to_proved(settings: &Settings) -> proved::record::Settings {
             retries: narrow(settings.retries),
             interval: narrow(settings.interval),
             flow: narrow(settings.flow),
+            spare: narrow(settings.spare),
+            lead: narrow(settings.lead),
         },
     }
 }

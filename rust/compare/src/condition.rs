@@ -53,6 +53,9 @@ fn fits(limits: &Limits) -> bool {
         && limits.closing >= 1
         && limits.retries <= 255
         && limits.flow <= 1
+        && limits.spare <= 16
+        && limits.lead <= 1
+        && (limits.spare == 0 || limits.lead == 1)
 }
 
 /// The other clauses, of a record whose limits fit.

@@ -26,7 +26,7 @@ pub const ANOTHER_FLOW: &str = "overwritten: Flow Control that no call left ther
 /// A field of a record, set to a number as far as its type holds it.
 type Field = fn(&mut Channel, u64);
 
-const FIELDS: [Field; 41] = [
+const FIELDS: [Field; 43] = [
     |record, number| record.addresses.direction = number as u8,
     |record, number| record.addresses.remote_prefix.length = number as u8,
     |record, number| record.addresses.own_prefix.length = number as u8,
@@ -41,6 +41,8 @@ const FIELDS: [Field; 41] = [
     |record, number| record.limits.retries = number as u16,
     |record, number| record.limits.interval = number as u16,
     |record, number| record.limits.flow = number as u16,
+    |record, number| record.limits.spare = number as u16,
+    |record, number| record.limits.lead = number as u16,
     |record, number| record.phase.state = number as u8,
     |record, number| record.phase.reason = number as u8,
     |record, number| record.phase.kept = number as u8,

@@ -71,7 +71,27 @@ pub fn two_tables(size: Size, noise: &mut Noise) -> [Vec<Settings>; 2] {
         }
     }
     tables[1].reverse();
+    for table in &mut tables {
+        if noise.one_in(3) {
+            name_spares(table, noise);
+        }
+    }
     tables
+}
+
+/// Some senders name another as their spare; those on a pair have a leading octet
+/// (document 02, A13).
+fn name_spares(table: &mut [Settings], noise: &mut Noise) {
+    let senders: Vec<usize> = (0..table.len())
+        .filter(|&place| table[place].direction == Direction::Sending)
+        .collect();
+    for &place in &senders {
+        let spare = noise.one_of(&senders);
+        if spare != place && noise.one_in(2) {
+            table[place].spare = spare as u32 + 1;
+            (table[place].lead, table[spare].lead) = (1, 1);
+        }
+    }
 }
 
 /// A prefix by chance. Two of different marks, which go to 3, are never alike.
@@ -119,6 +139,8 @@ pub fn limits(size: Size, noise: &mut Noise) -> Settings {
         retries: noise.one_of(&[0, 1, 2, 6, 6, 20, 255]),
         interval: interval(noise),
         flow: noise.below(2) as u32,
+        spare: 0,
+        lead: 0,
     }
 }
 

@@ -30,6 +30,8 @@ const LIMITS: Limits = Limits {
     retries: 4,
     interval: 0,
     flow: 0,
+    spare: 0,
+    lead: 0,
 };
 
 /// Plays the story that is asked for: it and its account in words, and whether all

@@ -31,6 +31,8 @@ fn limits(slots: usize, flow: u16) -> Limits {
         retries: 60,
         interval: 0,
         flow,
+        spare: 0,
+        lead: 0,
     }
 }
 

@@ -85,6 +85,8 @@ fn node() -> Node {
         retries: 2,
         interval: 0,
         flow: 0,
+        spare: 0,
+        lead: 0,
     };
     let receiving = Settings {
         direction: Direction::Receiving,

@@ -101,11 +101,22 @@ impl SendingEnd {
         Ok(())
     }
 
+    /// What goes before a unit's octets as it is filed: "each has a leading octet on
+    /// both routes: 0, or 1 (may repeat) once moved" (document 02, A13).
+    fn leading(&self) -> &'static [u8] {
+        if self.settings.lead == 1 {
+            &[0]
+        } else {
+            &[]
+        }
+    }
+
     /// The tests of a transfer, 5, 6 and 7; gives how many segments a unit of
-    /// so many octets has.
+    /// so many octets has. "Answer 6 comes one octet sooner" on a pair (A13).
     pub(crate) fn test_transfer(&self, octets: usize) -> Result<usize, Refusal> {
         refuse_if(self.state() != State::Open, Refusal::State)?;
-        let needed = segment_count(octets, self.settings.most_payload as usize);
+        let filed = octets.saturating_add(self.leading().len());
+        let needed = segment_count(filed, self.settings.most_payload as usize);
         refuse_if(
             needed > self.settings.most_segments as usize,
             Refusal::TooLong,
@@ -121,11 +132,13 @@ impl SendingEnd {
     /// Accepts a unit and files its segments (000, 4.4.2).
     pub(crate) fn transfer(&mut self, unit: &[u8], slots: &mut Slots) -> Result<(), Refusal> {
         let needed = self.test_transfer(unit.len())?;
+        let leading = self.leading();
         let Phase::Open { window, .. } = &mut self.phase else {
             return Err(Refusal::State);
         };
         let most_payload = self.settings.most_payload as usize;
-        let segments = cut(unit, most_payload, window.add(needed));
+        let filed = [leading, unit].concat();
+        let segments = cut(&filed, most_payload, window.add(needed));
         for segment in &segments {
             slots.file(segment.number, &segment.octets);
         }

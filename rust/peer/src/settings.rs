@@ -91,6 +91,12 @@ pub struct Settings {
     /// Whether the channel uses Flow Control: 0 if not, 1 if it does (document 02,
     /// A5; 000, 4.4.4.6 and 4.5.3.5).
     pub flow: u32,
+    /// The spare of a sending record, 0 if it names none, else that record's index
+    /// and 1 more (document 02, A13).
+    pub spare: u32,
+    /// Whether a unit has a leading octet, which is so on a pair: 0 if not, 1 if it
+    /// has (A13).
+    pub lead: u32,
 }
 
 impl Settings {
@@ -106,6 +112,7 @@ impl Settings {
             && self.retries <= 255
             && self.interval <= 65_535
             && self.flow <= 1
+            && self.lead <= 1
             && self.remote_prefix.in_range()
             && self.own_prefix.in_range()
     }
@@ -156,7 +163,31 @@ pub(crate) fn test_table(table: &[Settings]) -> Result<(), Refusal> {
         .iter()
         .enumerate()
         .any(|(place, one)| table[..place].iter().any(|other| one.clashes(other)));
-    refuse_if(!count_fits || !in_range || clash, Refusal::Settings)
+    let paired = (0..table.len()).all(|place| spare_fits(table, place) && lead_fits(table, place));
+    refuse_if(
+        !count_fits || !in_range || clash || !paired,
+        Refusal::Settings,
+    )
+}
+
+/// "A named spare channel" is another sending record of the table, and what names
+/// it sends (document 02, A13).
+fn spare_fits(table: &[Settings], place: usize) -> bool {
+    let one = &table[place];
+    if one.spare == 0 {
+        return true;
+    }
+    let index = one.spare as usize - 1;
+    let sends = |record: &Settings| record.direction == Direction::Sending;
+    index != place && sends(one) && table.get(index).is_some_and(sends)
+}
+
+/// "Each has a leading octet on both routes": a record has it exactly if it names a
+/// spare or is named as one.
+fn lead_fits(table: &[Settings], place: usize) -> bool {
+    let named = table.iter().any(|one| one.spare as usize == place + 1);
+    let on_pair = table[place].spare != 0 || named;
+    table[place].lead == u32::from(on_pair)
 }
 
 /// The octets of memory and the number of lengths that a caller lends to a

@@ -42,6 +42,8 @@ pub(crate) const SENDING: Settings = Settings {
     retries: 2,
     interval: 0,
     flow: 0,
+    spare: 0,
+    lead: 0,
 };
 
 /// The settings of the replay's channel 1.

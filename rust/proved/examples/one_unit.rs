@@ -27,6 +27,8 @@ fn settings(remote: u8, direction: u8) -> [Settings; 1] {
         retries: 2,
         interval: 0,
         flow: 0,
+        spare: 0,
+        lead: 0,
     };
     [Settings { addresses, limits }]
 }

@@ -87,6 +87,12 @@ pub struct Limits {
     pub interval: u16,
     /// 1: Flow Control is used; 0: it is not. The other end's must be the same.
     pub flow: u16,
+    /// Of a sender, its spare: the index and 1 more of another sending record; 0:
+    /// it names none.
+    pub spare: u16,
+    /// 1 exactly if the record names a spare or is named as one: its units have a
+    /// leading octet; else 0.
+    pub lead: u16,
 }
 
 /// `PeatSettings`: of one channel.
@@ -279,6 +285,8 @@ impl Channel {
                 retries: 0,
                 interval: 0,
                 flow: 0,
+                spare: 0,
+                lead: 0,
             },
             phase: Phase {
                 state: state::CLOSED,

@@ -38,7 +38,7 @@ fn records_lie_as_the_table_says() {
         Node: address protocol;
         Prefix: length octets;
         Addresses: channel remote direction remote_prefix own_prefix;
-        Limits: window slots payload segments timeout closing retries interval flow;
+        Limits: window slots payload segments timeout closing retries interval flow spare lead;
         Settings: addresses limits;
         Lone: state timer tries;
         Phase: state reason kept accepted control;

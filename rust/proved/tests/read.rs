@@ -82,7 +82,7 @@ fn all_refused(end: fn() -> End, overwrites: &[Overwrite]) {
 
 #[test]
 fn what_the_condition_bounds_of_either_end() {
-    let either: [Overwrite; 21] = [
+    let either: [Overwrite; 25] = [
         |record| record.addresses.direction = 2,
         |record| record.addresses.remote_prefix.length = 16,
         |record| record.addresses.remote_prefix.octets[14] = 1,
@@ -97,6 +97,10 @@ fn what_the_condition_bounds_of_either_end() {
         |record| record.limits.retries = 256,
         |record| record.limits.flow = 2,
         |record| record.limits.flow = 0x0100,
+        |record| (record.limits.spare, record.limits.lead) = (17, 1),
+        |record| record.limits.lead = 2,
+        |record| record.limits.lead = 0x0100,
+        |record| record.limits.spare = 1,
         |record| record.phase.state = 4,
         |record| record.phase.reason = 7,
         |record| record.phase.kept = 2,
@@ -166,6 +170,8 @@ fn settings_are_read_field_by_field() {
     assert_eq!(say(|of| of.limits.flow = 1), 0);
     assert_eq!(say(|of| of.limits.flow = 2), 13);
     assert_eq!(say(|of| of.limits.flow = 0x0100), 13);
+    assert_eq!(say(|of| of.limits.spare = 1), 13);
+    assert_eq!(say(|of| of.limits.lead = 1), 13);
 }
 
 /// Each octet of a prefix, past a length of 0 in the standing condition, and of a

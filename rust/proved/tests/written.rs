@@ -25,6 +25,8 @@ const SPOILT_LIMITS: Limits = Limits {
     retries: 0xB5B6,
     interval: 0xB7B8,
     flow: 0xB9BA,
+    spare: 0xBBBC,
+    lead: 0xBDBE,
 };
 
 const SPOILT_WINDOW: Window = Window {
@@ -114,6 +116,8 @@ fn settings_write_every_field() {
         retries: 255,
         interval: 0x0E0F,
         flow: 1,
+        spare: 0,
+        lead: 0,
     };
     let octets: Vec<u8> = (0x11..).take(4 * PREFIX).collect();
     let prefix = |place: usize, count| Prefix::of(&octets[place * PREFIX..][..count]).unwrap();
@@ -129,6 +133,27 @@ fn settings_write_every_field() {
     });
     let mut table = [SPOILT; 2];
     let (memory, lengths) = ([0; 8 * 16 + 3 * 9], [0; 8 + 3]);
+    let said = calls::settings(&mut table, &memory, &lengths, &mut [0; LINES], &settings);
+    assert_eq!((said.number, said.index), (0, 2));
+    assert_eq!(table, settings.map(made));
+}
+
+/// The first of two senders names the other as its spare (document 02, A13).
+#[test]
+fn settings_write_a_pair() {
+    let settings = [(1, 2), (2, 0)].map(|(channel, spare)| Settings {
+        addresses: Addresses {
+            channel,
+            ..Addresses::blank()
+        },
+        limits: Limits {
+            spare,
+            lead: 1,
+            ..LIMITS
+        },
+    });
+    let mut table = [SPOILT; 2];
+    let (memory, lengths) = ([0; 2 * 8 * 16], [0; 2 * 8]);
     let said = calls::settings(&mut table, &memory, &lengths, &mut [0; LINES], &settings);
     assert_eq!((said.number, said.index), (0, 2));
     assert_eq!(table, settings.map(made));

@@ -65,6 +65,8 @@ fn limits([window, slots, payload, segments]: [usize; 4], retries: u16) -> Limit
         retries,
         interval: 0,
         flow: 0,
+        spare: 0,
+        lead: 0,
     }
 }
 

@@ -75,7 +75,27 @@ impl World {
         if self.noise.one_in(4) {
             return self.ask_and_transfer(node, index, &unit);
         }
-        self.call(node, Call::Transfer(index, &unit), 0);
+        let said = self.call(node, Call::Transfer(index, &unit), 0).said;
+        self.note_lead(node, index, length, said.number);
+    }
+
+    /// A unit on a pair of routes has a leading octet (document 02, A13).
+    fn note_lead(&mut self, node: usize, index: usize, length: usize, number: u32) {
+        let settings = &self.twins[node].settings[index];
+        let most = (settings.most_segments * settings.most_payload) as usize;
+        if settings.lead == 0 {
+            return;
+        }
+        match (number, length) {
+            (0, 0) => self
+                .tally
+                .case("transferred: no octet, behind a leading one"),
+            (0, _) => self.tally.case("transferred: behind a leading octet"),
+            (6, _) if length == most => self
+                .tally
+                .case("transferred: too long by the leading octet alone"),
+            _ => {}
+        }
     }
 
     /// The question, and then the transfer: it answers what was told.

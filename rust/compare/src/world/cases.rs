@@ -6,7 +6,7 @@ use crate::overwriting::{ANOTHER_FLOW, ANOTHER_HEARTBEAT};
 use proved::Said;
 
 /// Every case that a run must have had, beside those with a list of their own.
-pub const CASES: [&str; 28] = [
+pub const CASES: [&str; 31] = [
     "inactive: retries",
     "inactive: late Open",
     "inactive: Control number",
@@ -19,6 +19,9 @@ pub const CASES: [&str; 28] = [
     "index: a tick names another than the first",
     "index: a unit of another than the first is confirmed",
     "question: what the transfer then answers",
+    "transferred: behind a leading octet",
+    "transferred: no octet, behind a leading one",
+    "transferred: too long by the leading octet alone",
     "wrapped: Data number 0 accepted",
     "wrapped: the ack of number 0 recorded",
     "taken: a unit of no octets",

@@ -27,6 +27,8 @@ pub fn settings(channel: u16, timeout: u32, retries: u32) -> Settings {
         retries,
         interval: 0,
         flow: 0,
+        spare: 0,
+        lead: 0,
     }
 }
 

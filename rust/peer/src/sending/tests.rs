@@ -1,6 +1,7 @@
 mod data;
 mod directives;
 mod flow_control;
+mod leading;
 mod timers;
 mod units;
 

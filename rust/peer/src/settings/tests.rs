@@ -222,3 +222,57 @@ fn storage_of_a_table() {
 fn default_protocol() {
     assert_eq!(NodeSettings::new(64).protocol, 5);
 }
+
+/// A sending record with this channel number, spare and leading octet.
+fn route(channel: u16, spare: u32, lead: u32) -> Settings {
+    Settings {
+        channel,
+        spare,
+        lead,
+        ..SENDING
+    }
+}
+
+/// "A named spare channel" (document 02, A13): another sending record of the table.
+#[test]
+fn spares() {
+    let with = |spare| test_table(&[route(1, spare, 1), route(2, 0, 1)]).is_ok();
+    let good: Vec<u32> = (1..40).filter(|&spare| with(spare)).collect();
+    assert_eq!(good, [2], "the record itself, and none that is not there");
+
+    let receiving = |record| Settings {
+        direction: Direction::Receiving,
+        ..record
+    };
+    let (first, spare) = (route(1, 2, 1), route(2, 0, 1));
+    assert!(test_table(&[first, receiving(spare)]).is_err());
+    assert!(test_table(&[receiving(first), spare]).is_err());
+    assert!(test_table(&[route(1, u32::MAX, 1)]).is_err());
+}
+
+/// "A channel may be the spare of several, chains and mutual spares are fine."
+#[test]
+fn spares_of_several() {
+    let spare_of_two = [route(1, 3, 1), route(2, 3, 1), route(3, 0, 1)];
+    let chain = [route(1, 2, 1), route(2, 3, 1), route(3, 0, 1)];
+    let mutual = [route(1, 2, 1), route(2, 1, 1), route(3, 0, 0)];
+    for table in [spare_of_two, chain, mutual] {
+        assert!(test_table(&table).is_ok(), "{table:?}");
+    }
+}
+
+/// "Each has a leading octet on both routes", and nobody else has.
+#[test]
+fn leading_octets() {
+    for leads in 0..8 {
+        let lead = |place: u32| leads >> place & 1;
+        let table = [
+            route(1, 2, lead(0)),
+            route(2, 0, lead(1)),
+            route(3, 0, lead(2)),
+        ];
+        assert_eq!(test_table(&table).is_ok(), leads == 0b011, "{leads:03b}");
+    }
+    assert!(!accepted(route(1, 0, 1)));
+    assert!(!accepted(route(1, 0, 2)));
+}

@@ -41,6 +41,8 @@ fn table(noise: &mut Noise, prefixes: &[Prefix; 4]) -> Vec<Settings> {
             retries: noise.below(3) as u32,
             interval: noise.below(4) as u32,
             flow: noise.below(2) as u32,
+            spare: 0,
+            lead: 0,
         }
     };
     [0, 1, 2, 3].map(settings).to_vec()

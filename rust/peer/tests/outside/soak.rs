@@ -55,6 +55,8 @@ fn settings(channel: u16, window: u32, slots: u32, payload: u32, segments: u32) 
         retries: 20,
         interval: 0,
         flow: 0,
+        spare: 0,
+        lead: 0,
     }
 }
 

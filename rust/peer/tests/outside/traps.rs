@@ -25,6 +25,8 @@ pub const SENDING: Settings = Settings {
     retries: 2,
     interval: 0,
     flow: 0,
+    spare: 0,
+    lead: 0,
 };
 
 /// A sender and a receiver, both OPEN.

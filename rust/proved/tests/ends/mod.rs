@@ -22,6 +22,8 @@ pub const LIMITS: Limits = Limits {
     retries: 2,
     interval: 0,
     flow: 0,
+    spare: 0,
+    lead: 0,
 };
 
 /// What untouched octets of a buffer hold.

@@ -26,6 +26,8 @@ pub const LIMITS: Limits = Limits {
     retries: 9,
     interval: 0,
     flow: 0,
+    spare: 0,
+    lead: 0,
 };
 
 pub struct Senders {

@@ -10,6 +10,7 @@ use Rattle.laws.proofs.Choice.{chosen, passed-by}
 use Rattle.walks.specs.Serving.{works}
 use Rattle.channel.specs.declared.step.Stepped.{Stepped}
 use Rattle.channel.specs.Record.{sends}
+use Rattle.channel.specs.Pairs.{filed}
 use Rattle.channel.proofs.SettingsLaws.{fit-is}
 use Rattle.sender_units.specs.Transfer.{transferMem, transferLens}
 use Rattle.ends.proofs.KeepsTransfer.{transfer-sized}
@@ -73,7 +74,7 @@ same-length-2 c = search needs
 
 returns-2 : tie.Need-returns-2
 unfolding transferFor
-returns-2 c = let a = c .before .before .before .before .before .before .before .before .before .before .before .before .before .before .args in let s = c .before .before .before .before .before .before .before .before .before .before .before .before .before .before .pre in let u = a .unit .now in parts-filed (transferFor u) (a .c) (a .d) (a .mem .now) (a .lens .now) [] (a .d .spot .octet + c .before .before .before .before .before .before .before .before .area .result - a .d .spot .octet) (a .d .spot .slot + a .c .limits .slots - a .d .spot .slot) (omega (arith, c .before .before .before .before .before .before .before .before .area .ensures .0)) (omega arith) (λ m. transferMem (a .c) u m) (λ l. transferLens (a .c) u l) _ _ _ _ [] (c .before .before .before .before .transfer-step .ensures .0) (c .before .before .before .before .transfer-step .ensures .1) (c .before .before .before .before .transfer-step .ensures .2) (transfer-sized (a .c) u (mine (a .c) (a .d) (a .mem .now)) (mineLens (a .c) (a .d) (a .lens .now)) (s .standing) (s .sized)) (chosen (eqb (a .c .addresses .direction) sends) _ _ (eq-eqb _ _ (c .before .before .before .before .before .before .before .before .before .if1 .left)))
+returns-2 c = let a = c .before .before .before .before .before .before .before .before .before .before .before .before .before .before .args in let s = c .before .before .before .before .before .before .before .before .before .before .before .before .before .before .pre in let u = filed (a .c .limits) (a .unit .now) in parts-filed (transferFor (a .unit .now)) (a .c) (a .d) (a .mem .now) (a .lens .now) [] (a .d .spot .octet + c .before .before .before .before .before .before .before .before .area .result - a .d .spot .octet) (a .d .spot .slot + a .c .limits .slots - a .d .spot .slot) (omega (arith, c .before .before .before .before .before .before .before .before .area .ensures .0)) (omega arith) (λ m. transferMem (a .c) u m) (λ l. transferLens (a .c) u l) _ _ _ _ [] (c .before .before .before .before .transfer-step .ensures .0) (c .before .before .before .before .transfer-step .ensures .1) (c .before .before .before .before .transfer-step .ensures .2) (transfer-sized (a .c) u (mine (a .c) (a .d) (a .mem .now)) (mineLens (a .c) (a .d) (a .lens .now)) (s .standing) (s .sized)) (chosen (eqb (a .c .addresses .direction) sends) _ _ (eq-eqb _ _ (c .before .before .before .before .before .before .before .before .before .if1 .left)))
 
 pub transfer-step-spec : {M : Type 1} → statement M
 transfer-step-spec =

@@ -1,27 +1,24 @@
 -- `store::filing::file_unit` meets its contract. The invariant: to file what is left is to file the whole.
 -- Assumes nothing.
 use borrow.Author.Needs.{needs}
-use mathlib.Core.List.{List}
-use Rattle.slots.proofs.Units.{fits}
-use Prim.Native.Nat.{ℕ, _≤_, _<_, _-_, _*_}
+use Prim.Native.Nat.{ℕ, _≤_, _<_, _-_}
 use mathlib.Core.Path.{_≡_, sym, ap, _∙_, subst}
 use native.Mathlib.Omega.{arith}
-use lib.ListN.{length}
 use Rattle.slots.proofs.RingLaws.{round-lt}
 use Rattle.slots.specs.Slots.{Sized}
+use Rattle.channel.specs.Pairs.{filed}
 use Rattle.channel.specs.Places.{slotIn}
 use Rattle.channel.proofs.PlaceLaws.{slot-bound}
 use Rattle.store.specs.Store.{filedMem, filedLens, filedMarks}
-use Rattle.store.proofs.Laws.{segment-starts, part-of, end-after, end-within, flags-le, filed-marks-none, filed-lens-none, filed-mem-none, turn-sized, turn-mem, turn-lens, turn-marks}
+use Rattle.store.proofs.Laws.{flags-le, filed-marks-none, filed-lens-none, filed-mem-none, turn-sized, turn-mem, turn-lens, turn-marks}
 use Rattle.store.proofs.filing.file_unit.Statement.{statement}
 use Rattle.store.proofs.filing.file_unit.Tie as tie
 use Rattle.store.proofs.filing.file_unit.Reads as reads
 use Rattle.store.proofs.filing.file_unit.Lts as lts
 use Rattle.slots.proofs.ring.round.Reads as round-reads
 use Rattle.slots.proofs.flags_of.Reads as flags-of-reads
-use Rattle.slots.proofs.file_segment.Reads as file-segment-reads
 use Rattle.channel.proofs.places.slot_of.Reads as slot-of-reads
-use Rattle.store.proofs.filing.end_of.Reads as end-of-reads
+use Rattle.store.proofs.filing.file_part.Reads as file-part-reads
 
 abbrev Inv-loop : tie.InvT-loop
 Inv-loop limits mem₀ lens₀ from unit count m₀ i₀ s₀ mem lens m i s =
@@ -29,8 +26,8 @@ Inv-loop limits mem₀ lens₀ from unit count m₀ i₀ s₀ mem lens m i s =
     × (s < limits .slots)
     × Sized (limits .slots) (limits .payload) mem lens
     × (filedMarks (limits .slots) count m (count - i) i s ≡ filedMarks (limits .slots) count m₀ count 0 from)
-    × (filedMem (slotIn limits) (limits .payload) (limits .slots) unit mem (count - i) i s ≡ filedMem (slotIn limits) (limits .payload) (limits .slots) unit mem₀ count 0 from)
-    × (filedLens (slotIn limits) (limits .payload) (limits .slots) unit lens (count - i) i s ≡ filedLens (slotIn limits) (limits .payload) (limits .slots) unit lens₀ count 0 from)
+    × (filedMem (slotIn limits) (limits .payload) (limits .slots) (filed limits unit) mem (count - i) i s ≡ filedMem (slotIn limits) (limits .payload) (limits .slots) (filed limits unit) mem₀ count 0 from)
+    × (filedLens (slotIn limits) (limits .payload) (limits .slots) (filed limits unit) lens (count - i) i s ≡ filedLens (slotIn limits) (limits .payload) (limits .slots) (filed limits unit) lens₀ count 0 from)
 
 abbrev μ-loop : tie.MeasureT-loop
 μ-loop limits mem₀ lens₀ from unit count m₀ i₀ s₀ mem lens m i s = count - i
@@ -38,72 +35,31 @@ abbrev μ-loop : tie.MeasureT-loop
 loop-holds : tie.Need-loop-holds Inv-loop μ-loop
 loop-holds c =
     let a = c .before .before .before .args in
+    let u = filed (a .limits) (a .unit .now) in
     let e : a .count - 0 ≡ a .count = omega arith in (
       omega arith,
       omega arith,
       c .before .before .before .pre .0,
       ap (λ (k : ℕ). filedMarks (a .limits .slots) (a .count) (a .marks) k 0 (a .from)) e,
-      ap (λ (k : ℕ). filedMem (slotIn (a .limits)) (a .limits .payload) (a .limits .slots) (a .unit .now) (a .mem .now) k 0 (a .from)) e,
-      ap (λ (k : ℕ). filedLens (slotIn (a .limits)) (a .limits .payload) (a .limits .slots) (a .unit .now) (a .lens .now) k 0 (a .from)) e,
+      ap (λ (k : ℕ). filedMem (slotIn (a .limits)) (a .limits .payload) (a .limits .slots) u (a .mem .now) k 0 (a .from)) e,
+      ap (λ (k : ℕ). filedLens (slotIn (a .limits)) (a .limits .payload) (a .limits .slots) u (a .lens .now) k 0 (a .from)) e,
     )
-
-mul-start : tie.Need-mul-start Inv-loop μ-loop
-mul-start c =
-    let at = c .before .before .loop in
-    let a = c .before .before .before .before .before .before .args in
-    let pre = c .before .before .before .before .before .before .pre in
-    let starts = segment-starts (a .limits .payload) (length (a .unit .now)) (at .i) (subst (λ (k : ℕ). at .i < k) (pre .1 .2) (c .before .loop-test .taken)) in
-    omega arith
-
-end-of-requires : tie.Need-end-of-requires Inv-loop μ-loop
-end-of-requires c κs =
-    let at = c .before .before .loop in
-    let a = c .before .before .before .before .before .before .args in
-    let pre = c .before .before .before .before .before .before .pre in
-    let starts = segment-starts (a .limits .payload) (length (a .unit .now)) (at .i) (subst (λ (k : ℕ). at .i < k) (pre .1 .2) (c .before .loop-test .taken)) in
-    starts
 
 slot-of-requires : tie.Need-slot-of-requires Inv-loop μ-loop
 slot-of-requires c κs = tt
 
-sub-file-segment : tie.Need-sub-file-segment Inv-loop μ-loop
-sub-file-segment c =
-    let at = c .before .before .before .before .before .before .loop in
-    let a = c .before .before .before .before .before .before .before .before .before .before .args in
-    let pre = c .before .before .before .before .before .before .before .before .before .before .pre in
-    let starts = segment-starts (a .limits .payload) (length (a .unit .now)) (at .i) (subst (λ (k : ℕ). at .i < k) (pre .1 .2) (c .before .before .before .before .before .loop-test .taken)) in
-    omega (arith, c .before .before .before .end-of .ensures, end-after (length (a .unit .now)) (at .i * a .limits .payload) (a .limits .payload) starts)
-
-part-file-segment-start : tie.Need-part-file-segment-start Inv-loop μ-loop
-part-file-segment-start c =
-    let at = c .before .before .before .before .before .before .loop in
-    let a = c .before .before .before .before .before .before .before .before .before .before .args in
-    let pre = c .before .before .before .before .before .before .before .before .before .before .pre in
-    let starts = segment-starts (a .limits .payload) (length (a .unit .now)) (at .i) (subst (λ (k : ℕ). at .i < k) (pre .1 .2) (c .before .before .before .before .before .loop-test .taken)) in
-    omega (arith, c .before .before .before .end-of .ensures, end-after (length (a .unit .now)) (at .i * a .limits .payload) (a .limits .payload) starts)
-
-part-file-segment-end : tie.Need-part-file-segment-end Inv-loop μ-loop
-part-file-segment-end c =
-    let at = c .before .before .before .before .before .before .loop in
-    let a = c .before .before .before .before .before .before .before .before .before .before .args in
-    let pre = c .before .before .before .before .before .before .before .before .before .before .pre in
-    let starts = segment-starts (a .limits .payload) (length (a .unit .now)) (at .i) (subst (λ (k : ℕ). at .i < k) (pre .1 .2) (c .before .before .before .before .before .loop-test .taken)) in
-    omega (arith, c .before .before .before .end-of .ensures, end-within (length (a .unit .now)) (at .i * a .limits .payload) (a .limits .payload) starts)
-
-file-segment-requires : tie.Need-file-segment-requires Inv-loop μ-loop
-file-segment-requires c κs =
-    let at = c .before .before .before .before .before .before .before .loop in
-    let a = c .before .before .before .before .before .before .before .before .before .before .before .args in
-    let pre = c .before .before .before .before .before .before .before .before .before .before .before .pre in
-    let starts = segment-starts (a .limits .payload) (length (a .unit .now)) (at .i) (subst (λ (k : ℕ). at .i < k) (pre .1 .2) (c .before .before .before .before .before .before .loop-test .taken)) in
-    let is = part-of (a .limits .payload) (a .unit .now) (at .i * a .limits .payload) _ starts (c .before .before .before .before .end-of .ensures) in
-    (at .inv .2, (omega (arith, c .before .before .before .slot-of .ensures, slot-bound (a .limits) (at .s) (at .inv .1)), subst (λ (l : List ℕ). length l ≤ a .limits .payload) (sym is) (fits (a .limits .payload) (a .unit .now) (at .i))))
+file-part-requires : tie.Need-file-part-requires Inv-loop μ-loop
+file-part-requires c κs =
+    let at = c .before .before .before .before .loop in
+    let a = c .before .before .before .before .before .before .before .before .args in
+    let pre = c .before .before .before .before .before .before .before .before .pre in
+    (at .inv .2, (pre .1 .0, omega (arith, c .before .before .slot-of .ensures, slot-bound (a .limits) (at .s) (at .inv .1)), subst (λ (k : ℕ). at .i < k) (pre .1 .2) (c .before .before .before .loop-test .taken)))
 
 flags-of-requires : tie.Need-flags-of-requires Inv-loop μ-loop
 flags-of-requires c κs = tt
 
 add-m : tie.Need-add-m Inv-loop μ-loop
-add-m c = omega (arith, c .flags-of .ensures, flags-le (c .before .before .before .before .before .before .before .before .before .before .before .before .before .before .before .before .before .args .count) (c .before .before .before .before .before .before .before .before .before .before .before .before .before .loop .i))
+add-m c = omega (arith, c .flags-of .ensures, flags-le (c .before .before .before .before .before .before .before .before .before .before .before .before .before .before .args .count) (c .before .before .before .before .before .before .before .before .before .before .loop .i))
 
 array-write-m : tie.Need-array-write-m Inv-loop μ-loop
 array-write-m c = omega arith
@@ -122,21 +78,19 @@ loop-less c = omega arith
 
 loop-again : tie.Need-loop-again Inv-loop μ-loop
 loop-again c =
-    let at = c .before .before .before .before .before .before .before .before .before .before .before .before .before .before .loop in
-    let a = c .before .before .before .before .before .before .before .before .before .before .before .before .before .before .before .before .before .before .args in
-    let pre = c .before .before .before .before .before .before .before .before .before .before .before .before .before .before .before .before .before .before .pre in
-    let starts = segment-starts (a .limits .payload) (length (a .unit .now)) (at .i) (subst (λ (k : ℕ). at .i < k) (pre .1 .2) (c .before .before .before .before .before .before .before .before .before .before .before .before .before .loop-test .taken)) in
-    let taken = c .before .before .before .before .before .before .before .before .before .before .before .before .before .loop-test .taken in
-    let is = part-of (a .limits .payload) (a .unit .now) (at .i * a .limits .payload) _ starts (c .before .before .before .before .before .before .before .before .before .before .before .end-of .ensures) in
-    let slot = c .before .before .before .before .before .before .before .before .before .before .slot-of in
+    let at = c .before .before .before .before .before .before .before .before .before .before .before .loop in
+    let a = c .before .before .before .before .before .before .before .before .before .before .before .before .before .before .before .args in
+    let u = filed (a .limits) (a .unit .now) in
+    let taken = c .before .before .before .before .before .before .before .before .before .before .loop-test .taken in
+    let slot = c .before .before .before .before .before .before .before .before .before .slot-of in
     let bound : slot .result < a .limits .slots = omega (arith, slot .ensures, slot-bound (a .limits) (at .s) (at .inv .1)) in
-    let filed = c .before .before .before .before .before .before .file-segment .ensures in (
+    let put = c .before .before .before .before .before .before .file-part .ensures in (
       omega arith,
       rw (c .round .ensures) (round-lt _ _ (omega arith)),
-      turn-sized (slotIn (a .limits)) (a .limits .slots) (a .limits .payload) (a .limits .slots) (a .unit .now) (at .mem) (at .lens) (a .count) (at .i) (at .s) (slot .result) _ _ _ _ (at .inv .2) bound taken (slot .ensures) is (filed .0) (filed .1) (c .round .ensures),
+      turn-sized (slotIn (a .limits)) (a .limits .slots) (a .limits .payload) (a .limits .slots) u (at .mem) (at .lens) (a .count) (at .i) (at .s) (slot .result) _ _ _ (at .inv .2) bound taken (slot .ensures) (put .0) (put .1) (c .round .ensures),
       turn-marks (a .limits .slots) (a .count) (at .m) (a .count) (at .i) (at .s) _ _ taken (c .before .flags-of .ensures) (c .round .ensures) ∙ at .inv .3,
-      turn-mem (slotIn (a .limits)) (a .limits .slots) (a .limits .payload) (a .limits .slots) (a .unit .now) (at .mem) (at .lens) (a .count) (at .i) (at .s) (slot .result) _ _ _ _ (at .inv .2) bound taken (slot .ensures) is (filed .0) (filed .1) (c .round .ensures) ∙ at .inv .4,
-      turn-lens (slotIn (a .limits)) (a .limits .slots) (a .limits .payload) (a .limits .slots) (a .unit .now) (at .mem) (at .lens) (a .count) (at .i) (at .s) (slot .result) _ _ _ _ (at .inv .2) bound taken (slot .ensures) is (filed .0) (filed .1) (c .round .ensures) ∙ at .inv .5,
+      turn-mem (slotIn (a .limits)) (a .limits .slots) (a .limits .payload) (a .limits .slots) u (at .mem) (at .lens) (a .count) (at .i) (at .s) (slot .result) _ _ _ (at .inv .2) bound taken (slot .ensures) (put .0) (put .1) (c .round .ensures) ∙ at .inv .4,
+      turn-lens (slotIn (a .limits)) (a .limits .slots) (a .limits .payload) (a .limits .slots) u (at .mem) (at .lens) (a .count) (at .i) (at .s) (slot .result) _ _ _ (at .inv .2) bound taken (slot .ensures) (put .0) (put .1) (c .round .ensures) ∙ at .inv .5,
     )
 
 same-length : tie.Need-same-length Inv-loop μ-loop
@@ -149,10 +103,11 @@ returns : tie.Need-returns Inv-loop μ-loop
 returns c =
     let at = c .before .loop in
     let a = c .before .before .before .before .before .args in
+    let u = filed (a .limits) (a .unit .now) in
     let left = c .loop-test .left in (
       sym (filed-marks-none (a .limits .slots) (a .count) (at .m) (a .count) (at .i) (at .s) left) ∙ at .inv .3,
-      sym (filed-mem-none (slotIn (a .limits)) (a .limits .payload) (a .limits .slots) (a .unit .now) (at .mem) (a .count) (at .i) (at .s) left) ∙ at .inv .4,
-      sym (filed-lens-none (slotIn (a .limits)) (a .limits .payload) (a .limits .slots) (a .unit .now) (at .lens) (a .count) (at .i) (at .s) left) ∙ at .inv .5,
+      sym (filed-mem-none (slotIn (a .limits)) (a .limits .payload) (a .limits .slots) u (at .mem) (a .count) (at .i) (at .s) left) ∙ at .inv .4,
+      sym (filed-lens-none (slotIn (a .limits)) (a .limits .payload) (a .limits .slots) u (at .lens) (a .count) (at .i) (at .s) left) ∙ at .inv .5,
     )
 
 pub file-unit-spec : {M : Type 1} → statement M
@@ -162,13 +117,8 @@ file-unit-spec =
     Inv-loop
     μ-loop
     loop-holds
-    mul-start
-    end-of-requires
     slot-of-requires
-    sub-file-segment
-    part-file-segment-start
-    part-file-segment-end
-    file-segment-requires
+    file-part-requires
     flags-of-requires
     add-m
     array-write-m
