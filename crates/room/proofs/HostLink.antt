@@ -35,9 +35,9 @@ back-more : (h s : End) (l older : List Event) (j : ℕ) → Back h s older j �
 back-more h s [] older j b = b
 back-more h s (e ∷ l) older j b = back-later h s (l ++ older) e j (back-more h s l older j b)
 
-not-true : (b : Bool) → (b ≡ true → ⊥) → b ≡ false
-not-true true n = absurd (n refl)
-not-true false n = refl
+never-true : (b : Bool) → (b ≡ true → ⊥) → b ≡ false
+never-true true n = absurd (n refl)
+never-true false n = refl
 
 -- ---- a Data Ack that comes is a copy, and not late
 
@@ -103,7 +103,7 @@ module _ (h s : End) (past : List Event) (x : Sender) (y : Receiver) (r : Reques
             (λ i packet w. absurd (true≢false (sym (w .0))), λ b. known .still (subst (λ (l : List Event). Back h s l (known .now)) (sym whole) (back-down (later ++ older) (known .now) b))),
             chain,
           );
-          start = marked .stops hole low (not-true (z .acked hole) (λ q. silent (marks hole q)));
+          start = marked .stops hole low (never-true (z .acked hole) (λ q. silent (marks hole q)));
           marks = marks;
           silent = silent;
           still = λ b. known .still (back-down past (known .now) b);

@@ -6,6 +6,7 @@ use mathlib.Core.List.{List, [], _∷_, _++_, append-assoc}
 use mathlib.Core.Logic.{inl, inr}
 use Prim.Native.Nat.{ℕ}
 use native.Mathlib.Omega.{arith}
+use borrow.Author.Tests.{not-true}
 use Rattle.laws.proofs.Choice.{both}
 use Rattle.packet.specs.declared.kinds.Kind as packets
 use Rattle.packet.specs.declared.kinds.Kind.the-variants as kinds
@@ -30,12 +31,8 @@ bound-kind kinds.FlowControl e = absurd (true≢false e)
 bound-kind kinds.ControlAck e = (refl, refl)
 bound-kind (kinds.Lacking code) e = (refl, refl)
 
-not-so : (b : Bool) → not b ≡ true → b ≡ false
-not-so true e = absurd (true≢false (sym e))
-not-so false e = refl
-
 pub binds-named : (e : End) (packet : List ℕ) → binds e packet ≡ true → (names e packet ≡ true) × (isFree (kindOf (fieldsAt packet .kind)) ≡ false)
-binds-named e packet b = let p = both (names e packet) (not (isFree (kindOf (fieldsAt packet .kind)))) b in (p .0, not-so _ (p .1))
+binds-named e packet b = let p = both (names e packet) (not (isFree (kindOf (fieldsAt packet .kind)))) b in (p .0, not-true _ (p .1))
 
 -- of a kind that is no Heartbeat it is kept in order
 pub steers-so : (h : End) (packet : List ℕ) (kind : packets.Kind) → kindOf (fieldsAt packet .kind) ≡ kind → isBeat kind ≡ false → names h packet ≡ true → steers h packet ≡ true
