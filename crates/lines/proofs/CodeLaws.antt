@@ -11,7 +11,6 @@ use borrow.Author.Tests.{eq-eqb, ne_eqb, lt-ltb, le-ltb}
 use lib.Dec.{eqb, ltb}
 use lib.ListN.{length, get_or, set, take, drop, replicate, length-set, length-take, length-drop, drop_of_length-le}
 use lib.Seq.{get_or-set_same, get_or-set_other, drop-cons, drop-drop, length-take-le, get_or-take, get_or-drop, take-length, take_all}
-use Rattle.bytes.specs.Bytes.{slice, index_of, index_after}
 use Rattle.laws.proofs.Choice.{first_not, last_not}
 use Rattle.laws.proofs.Lists.{take_drop}
 use Rattle.laws.proofs.Numbers.{lt_cases}
@@ -26,8 +25,21 @@ use Rattle.lines.proofs.GradeLaws as grade
 
 -- ---- the place
 
+-- the part of a list from a place to another
+abbrev pub slice : ℕ → ℕ → List ℕ → List ℕ
+slice from to l = drop from (take to l)
+
+-- where the first i stands, or the length if none does
+abbrev index_after : Bool → ℕ → ℕ
+index_after true n = 0
+index_after false n = suc n
+
+abbrev pub index_of : ℕ → List ℕ → ℕ
+index_of i [] = 0
+index_of i (x ∷ l) = index_after (eqb x i) (index_of i l)
+
 index_before : (i : ℕ) (l : List ℕ) → index_of i l ≡ before i l
-unfolding index_of index_after before
+unfolding before
 index_before i [] = refl
 index_before i (x ∷ l) =
     ⊎_elim
@@ -50,7 +62,7 @@ module _ (o : List ℕ) (size : length o ≡ 17) where
   line_count = omega (arith, length-take (get_or o 0 0) (drop 1 o), length-drop 1 o)
 
   slice_line : slice 1 (min (get_or o 0 0) 16 + 1) o ≡ line_in o
-  unfolding slice line_in
+  unfolding line_in
   slice_line =
       let e : min (get_or o 0 0) 16 + 1 ≡ 1 + min (get_or o 0 0) (length (drop 1 o)) = omega (arith, length-drop 1 o) in
       ap (λ (k : ℕ). drop 1 (take k o)) e
