@@ -28,7 +28,7 @@ fn prefix_of(packet: &[u8], n: usize) -> Prefix
 {
     let mut octets: [u8; 15] = [0; 15];
     let end = FRONT + n;
-    bytes::copy(&packet[FRONT..end], &mut octets);
+    octets[..n].copy_from_slice(&packet[FRONT..end]);
     Prefix {
         length: n as u8,
         octets,

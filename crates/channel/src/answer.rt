@@ -2,7 +2,7 @@
 ghost use Rattle.std.specs.Prelude.{◌≡◌};
 ghost use Rattle.channel.specs.Answers.{refusal_number, number_of, length_of, wanted_by, wanted_of, confirmed_of, reason_of};
 
-#[derive(Drop)]
+#[derive(Clone, Copy)]
 pub enum Answer {
     // With the octets written, and the units that a Data Ack confirmed.
     Done { length: usize, confirmed: usize },
@@ -14,7 +14,7 @@ pub enum Answer {
     Refused(Refusal),
 }
 
-#[derive(Drop)]
+#[derive(Clone, Copy)]
 pub enum Refusal {
     Short,
     Damaged,

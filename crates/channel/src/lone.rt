@@ -11,7 +11,7 @@ const OUT: u8 = 2;
 const AGAIN: u8 = 3;
 
 // The packet after a tick, and whether its timer ended with its retries used up.
-#[derive(Drop)]
+#[derive(Clone, Copy)]
 pub struct Fallen {
     pub lone: Lone,
     pub spent: bool,

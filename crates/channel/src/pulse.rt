@@ -11,7 +11,7 @@ use crate::step::{Stepped, done, refused};
 use packet::fields::LEAST;
 
 // The pulse after a tick, and whether its Heartbeat's timer ended with its retries used up.
-#[derive(Drop)]
+#[derive(Clone, Copy)]
 pub struct Beaten {
     pub pulse: Pulse,
     pub spent: bool,

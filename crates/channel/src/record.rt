@@ -36,7 +36,7 @@ pub const PROTOCOL: u8 = 5;
 
 // The node's own settings.
 #[repr(C)]
-#[derive(Drop)]
+#[derive(Clone, Copy)]
 pub struct Node {
     pub address: u8,
     pub protocol: u8,
@@ -44,7 +44,7 @@ pub struct Node {
 
 // A Source Address prefix (document 02, A7): so many octets, and 0 in those past them.
 #[repr(C)]
-#[derive(Drop)]
+#[derive(Clone, Copy)]
 pub struct Prefix {
     pub length: u8,
     pub octets: [u8; 15],
@@ -53,7 +53,7 @@ pub struct Prefix {
 // Which channel it is, to which node, and whether this end sends or receives. prefix: where that node is, seen from here; it stands in the
 // packets that come from it. own: where this node is, seen from there; it stands in every packet that goes out.
 #[repr(C)]
-#[derive(Drop)]
+#[derive(Clone, Copy)]
 pub struct Addresses {
     pub channel: u16,
     pub remote: u8,
@@ -66,7 +66,7 @@ pub struct Addresses {
 // end's own Heartbeat (0: it makes none), and whether Flow Control is used (0 or 1). spare: of a sender, which channel of the table carries on with
 // its units (0: none, else its index and 1 more). lead: 1 on a pair, where a unit has a leading octet, else 0 (document 02, A13).
 #[repr(C)]
-#[derive(Drop)]
+#[derive(Clone, Copy)]
 pub struct Limits {
     pub window: usize,
     pub slots: usize,
@@ -82,7 +82,7 @@ pub struct Limits {
 }
 
 #[repr(C)]
-#[derive(Drop)]
+#[derive(Clone, Copy)]
 pub struct Settings {
     pub addresses: Addresses,
     pub limits: Limits,
@@ -91,7 +91,7 @@ pub struct Settings {
 // One packet that is sent alone: 0 none, 1 ready, 2 handed out, 3 ready again. Its timer runs while it is out; tries are the
 // resends left to it.
 #[repr(C)]
-#[derive(Drop)]
+#[derive(Clone, Copy)]
 pub struct Lone {
     pub state: u8,
     pub timer: u16,
@@ -101,7 +101,7 @@ pub struct Lone {
 // Where an opening stands. reason: why the channel last went inactive. kept: a Close directive waits for the Open's ack.
 // accepted: Data was accepted in this opening. control: the Open or Close that is sent.
 #[repr(C)]
-#[derive(Drop)]
+#[derive(Clone, Copy)]
 pub struct Phase {
     pub state: u8,
     pub reason: u8,
@@ -113,7 +113,7 @@ pub struct Phase {
 // Flow Control (document 02, A5). Of a receiver: the packet that states a number, its own number and the one that it stated when it was first handed
 // out (both 0 but while it is out), and the number of the last packet sent. Of a sender: the number recorded, up to which it may send.
 #[repr(C)]
-#[derive(Drop)]
+#[derive(Clone, Copy)]
 pub struct Flow {
     pub packet: Lone,
     pub number: u8,
@@ -124,7 +124,7 @@ pub struct Flow {
 
 // In OPEN: the ticks left until this end makes a Heartbeat (0: it makes none), the Heartbeat that is sent (document 02, A2), and Flow Control.
 #[repr(C)]
-#[derive(Drop)]
+#[derive(Clone, Copy)]
 pub struct Pulse {
     pub left: u16,
     pub beat: Lone,
@@ -136,7 +136,7 @@ pub struct Pulse {
 // A sender has ahead segments from the start on, of which flight were handed out; way of the receiver's last behind are of a
 // unit that is not finished.
 #[repr(C)]
-#[derive(Drop)]
+#[derive(Clone, Copy)]
 pub struct Window {
     pub start: u8,
     pub place: usize,
@@ -148,7 +148,7 @@ pub struct Window {
 
 // By place: ticks left to a segment that is out (0: none runs), and the resends left to it. closing: the receiver's close timer.
 #[repr(C)]
-#[derive(Drop)]
+#[derive(Clone, Copy)]
 pub struct Timers {
     pub closing: u16,
     pub left: [u16; 128],
@@ -157,7 +157,7 @@ pub struct Timers {
 
 // marks, by place: 0 for a slot not in use, else the segment's flags and 1 more. acked, by place: not 0 once acknowledged.
 #[repr(C)]
-#[derive(Drop)]
+#[derive(Clone, Copy)]
 pub struct Channel {
     pub addresses: Addresses,
     pub limits: Limits,

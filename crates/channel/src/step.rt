@@ -11,14 +11,14 @@ use packet::kinds::code_of;
 use packet::{Fields, Kind, Written, write_packet};
 
 // The channel after a step, and what the step answers.
-#[derive(Drop)]
+#[derive(Clone, Copy)]
 pub struct Stepped {
     pub channel: Channel,
     pub answer: Answer,
 }
 
 // The channel after a tick, and whether it went inactive in it.
-#[derive(Drop)]
+#[derive(Clone, Copy)]
 pub struct Ticked {
     pub channel: Channel,
     pub inactive: bool,

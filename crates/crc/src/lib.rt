@@ -1,4 +1,5 @@
 // The check sum of a packet. Its definition goes bit by bit; the proofs show that the sum is the same.
+#![tactic(auto)]
 ghost use Rattle.std.specs.Prelude.{◌≡◌, [], ◌∷◌, ◌+◌, ◌^◌, ◌≤◌, ◌<◌, length, drop, get_or};
 ghost use Rattle.crc.specs.Crc.{octet_into, crc_from, crc_of};
 ghost use Rattle.crc.specs.Table.{table};
@@ -44,7 +45,7 @@ fn join(upper: u64, lower: u64) -> u64
 }
 
 // Four words whose sum is still to be taken.
-#[derive(Drop)]
+#[derive(Clone, Copy)]
 struct Four {
     a: u64,
     b: u64,

@@ -12,7 +12,7 @@ use table::Told;
 use ticks::ticking::tick;
 
 // What a call told, and the channels after it.
-#[derive(Drop)]
+#[derive(Clone, Copy)]
 pub struct Kept {
     pub told: Told,
     pub table: [Channel; 2],

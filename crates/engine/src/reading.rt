@@ -9,7 +9,7 @@ ghost use Rattle.engine.specs.Reading.{unfinished, held_in, Feeds, unread};
 pub const LONGEST: usize = 65539;
 
 // Where a record became whole: its kind, and its body, which lies in the buffer from octet 4 up to held. next: where the piece goes on.
-#[derive(Drop)]
+#[derive(Clone, Copy)]
 pub struct Fed {
     pub whole: bool,
     pub kind: u16,

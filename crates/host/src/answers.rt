@@ -10,7 +10,7 @@ use table::Told;
 // What a call answers: document 01's number; with 0 and 15 the octets written, with 11 the octets that are wanted; with 0 the units confirmed, with 9 the
 // reason; else zeros. And the index of the channel that was served; as many as the table has records where none was.
 #[repr(C)]
-#[derive(Drop)]
+#[derive(Clone, Copy)]
 pub struct Said {
     pub number: u32,
     pub reason: u32,

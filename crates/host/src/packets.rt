@@ -7,7 +7,7 @@ use packet::{Fields, Read, Written};
 // What reading gives: the answer number, and with 0 the fields, how many octets the prefix has, which stand from octet 9 on, where the payload
 // begins and how many octets it has. A refusal has 0 in all of these.
 #[repr(C)]
-#[derive(Drop)]
+#[derive(Clone, Copy)]
 pub struct Reading {
     pub answer: u32,
     pub fields: Fields,
@@ -18,7 +18,7 @@ pub struct Reading {
 
 // What writing gives: the answer number, and with 0 how many octets were written.
 #[repr(C)]
-#[derive(Drop)]
+#[derive(Clone, Copy)]
 pub struct Writing {
     pub answer: u32,
     pub length: usize,

@@ -105,7 +105,7 @@ pub fn read(lines: &[u8]) -> [u8; 51]
     ensures { result ≡ lines.now }
 {
     let mut a = [0u8; 51];
-    bytes::copy(lines, &mut a);
+    a.copy_from_slice(lines);
     a
 }
 
@@ -113,7 +113,7 @@ pub fn write(lines: &mut [u8], a: [u8; 51])
     requires { length lines.old ≡ 51 }
     ensures { lines.new ≡ a }
 {
-    bytes::copy(&a, lines);
+    lines.copy_from_slice(&a);
 }
 
 // Nobody waits, as settings leave it.
@@ -122,5 +122,5 @@ pub fn clear(lines: &mut [u8])
     ensures { lines.new ≡ no_lines }
 {
     let a = [0u8; 51];
-    bytes::copy(&a, lines);
+    lines.copy_from_slice(&a);
 }

@@ -44,7 +44,7 @@ fn read_part(
     let from = slot * most + skip;
     let count = lesser(n - skip, end - at);
     let to = from + count;
-    bytes::copy(&mem[from..to], &mut out[at..]);
+    out[at..at + count].copy_from_slice(&mem[from..to]);
     count
 }
 

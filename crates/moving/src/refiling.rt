@@ -14,7 +14,7 @@ use slots::ring;
 use table::surveying::area;
 
 // A channel's own part of what is lent: where its lengths and its octets begin.
-#[derive(Drop)]
+#[derive(Clone, Copy)]
 pub struct Lot {
     pub limits: Limits,
     pub slot: usize,
@@ -22,7 +22,7 @@ pub struct Lot {
 }
 
 // A unit that is held: in whose part, in how many segments from which place on, and as how many octets it is filed anew.
-#[derive(Drop)]
+#[derive(Clone, Copy)]
 pub struct Unit {
     pub lot: Lot,
     pub count: usize,
@@ -31,7 +31,7 @@ pub struct Unit {
 }
 
 // The octets of one segment, at the front of as many as a slot may have.
-#[derive(Drop)]
+#[derive(Clone, Copy)]
 pub struct Cut {
     pub octets: [u8; 1024],
     pub length: usize,

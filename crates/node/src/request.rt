@@ -8,7 +8,7 @@ use table::looking::seek;
 use table::{Look, Sought};
 
 // The number is the index of the channel.
-#[derive(Drop)]
+#[derive(Clone, Copy)]
 pub enum Request {
     // Directives.
     Open(usize),

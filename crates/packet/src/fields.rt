@@ -8,7 +8,7 @@ use crate::kinds::{Kind, is_data, kind_of, most_carried};
 // As 000, 4.2.3, names and orders them, each subfield a number of its own, so that a caller can also say what is refused.
 // The lengths of the prefix and of the payload are not among them: they are the prefix's and the payload's own.
 #[repr(C)]
-#[derive(Drop)]
+#[derive(Clone, Copy)]
 pub struct Fields {
     pub destination: u8,
     pub protocol: u8,

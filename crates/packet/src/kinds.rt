@@ -2,7 +2,7 @@
 ghost use Rattle.std.specs.Prelude.{◌≡◌};
 ghost use Rattle.packet.specs.Kinds.{is_data, code_of, kind_of, most_carried};
 
-#[derive(Drop)]
+#[derive(Clone, Copy)]
 pub enum Kind {
     Data,
     DataAck,

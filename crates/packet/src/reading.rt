@@ -7,7 +7,7 @@ ghost use Rattle.packet.specs.Reading.{read_of, read_number};
 
 use crate::fields::{FRONT, Fields, HEAD, LEAST, is_lacking, is_strange};
 
-#[derive(Drop)]
+#[derive(Clone, Copy)]
 pub enum Read {
     // The fields, how many octets the prefix has, where the payload begins, and how many octets it has.
     Found {

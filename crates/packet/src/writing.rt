@@ -36,7 +36,7 @@ pub fn write_packet(fields: Fields, prefix: &[u8], payload: &[u8], out: &mut [u8
         return Written::Small(whole);
     }
     lay_head(fields, prefix, length as u16, out);
-    bytes::copy(payload, &mut out[head..]);
+    out[head..head + length].copy_from_slice(payload);
     seal(out, head + length);
     Written::Done(whole)
 }
@@ -60,8 +60,8 @@ fn lay_head(f: Fields, prefix: &[u8], count: u16, out: &mut [u8])
 {
     let n = prefix.len();
     let front = front_of(f, n as u8, count);
-    bytes::copy(&front, out);
-    bytes::copy(prefix, &mut out[FRONT..]);
+    out[..FRONT].copy_from_slice(&front);
+    out[FRONT..FRONT + n].copy_from_slice(prefix);
     out[FRONT + n] = f.source;
 }
 

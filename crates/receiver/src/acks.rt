@@ -14,7 +14,7 @@ use packet::Kind;
 use packet::fields::WHOLE;
 
 // What is acknowledged.
-#[derive(Drop)]
+#[derive(Clone, Copy)]
 pub enum Acked {
     Data,
     Open,

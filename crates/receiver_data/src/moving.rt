@@ -10,7 +10,7 @@ use channel::{Limits, Window};
 use slots::ring;
 
 // The window after the move, and whether the flags broke it off.
-#[derive(Drop)]
+#[derive(Clone, Copy)]
 pub struct Moved {
     pub window: Window,
     pub broken: bool,

@@ -6,7 +6,7 @@ ghost use Rattle.receiver_data.specs.Sorting.{distance, is_held, sort_at};
 use channel::{Limits, Window};
 use slots::ring;
 
-#[derive(Drop)]
+#[derive(Clone, Copy)]
 pub enum Sort {
     New,
     Held,

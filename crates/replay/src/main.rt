@@ -1,4 +1,5 @@
 // Replays a trace from standard input (document 01, Replay program): a line for each record, then `end ok`, or `end short` where a record is cut.
+#![tactic(auto)]
 ghost use Rattle.std.specs.Prelude.{◌≡◌, ◌≤◌, true, length};
 
 use channel::answer::number;
@@ -20,7 +21,7 @@ const FIRST: u16 = 1;
 const SECOND: u16 = 2;
 
 // The channels, how many records were done, and how many octets of the next one are in the buffer.
-#[derive(Drop)]
+#[derive(Clone, Copy)]
 struct Run {
     table: [Channel; 2],
     place: u64,

@@ -1,5 +1,6 @@
 // Runs of 0, 1, 63, 64, 65, 127 and 128 marks at every offset on the ring (document 02, A3), counted by `slots::ring::run` as it is compiled: on the
 // longest ring, and on shorter ones where the runs fit. What it counts is proved; this program shows that the machine code counts so.
+#![tactic(auto)]
 ghost use Rattle.std.specs.Prelude.{◌≤◌, ◌<◌};
 
 use libc::STDOUT_FILENO;

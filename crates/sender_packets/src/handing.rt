@@ -121,7 +121,7 @@ fn is_new_allowed(l: Limits, w: Window, recorded: u8) -> bool
 }
 
 // Of which ranks a packet is ready: Control, the Heartbeat or Flow Control, resent Data, new Data.
-#[derive(Drop)]
+#[derive(Clone, Copy)]
 pub struct Ranks {
     pub control: bool,
     pub again: bool,

@@ -5,7 +5,7 @@ ghost use Rattle.channel.specs.Pairs.{spare_fits, is_named, lead_for, pair_fits,
 use channel::record::SENDS;
 
 // By index: whom a record names as its spare (0: none, else the index and 1 more), whether its units have a leading octet, and its direction.
-#[derive(Drop)]
+#[derive(Clone, Copy)]
 pub struct Routes {
     pub spares: [u16; 16],
     pub leads: [u16; 16],

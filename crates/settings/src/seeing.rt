@@ -9,7 +9,7 @@ use table::surveying::{MOST_OCTETS, MOST_RECORDS, area};
 
 // Whether all is well so far, the slots and the octets together, and by index the addresses and the routes: a slice of structs is walked once, so
 // those before are kept.
-#[derive(Drop)]
+#[derive(Clone, Copy)]
 pub struct Seen {
     pub sound: bool,
     pub slots: usize,

@@ -16,7 +16,7 @@ pub fn file_segment(
     ensures { (mem.new ≡ laid mem.old (slot * most) part.now) × (lens.new ≡ set lens.old slot (length part.now)) }
 {
     let at = slot * most;
-    bytes::copy(part, &mut mem[at..]);
+    mem[at..at + part.len()].copy_from_slice(part);
     lens[slot] = part.len() as u16;
 }
 
@@ -37,7 +37,7 @@ pub fn file_led(
     let at = slot * most;
     mem[at] = lead;
     let next = at + 1;
-    bytes::copy(part, &mut mem[next..]);
+    mem[next..next + part.len()].copy_from_slice(part);
     lens[slot] = (part.len() + 1) as u16;
 }
 
@@ -58,5 +58,5 @@ pub fn read_segment(
     let n = lens[slot] as usize;
     let from = slot * most;
     let end = from + n;
-    bytes::copy(&mem[from..end], &mut out[at..]);
+    out[at..at + (end - from)].copy_from_slice(&mem[from..end]);
 }

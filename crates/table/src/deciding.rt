@@ -9,21 +9,21 @@ use channel::{Answer, Channel, Refusal};
 use lines::is_fit;
 
 // What a call answers, and the index of the channel that it served; as many as the table has records where it served none.
-#[derive(Drop)]
+#[derive(Clone, Copy)]
 pub struct Told {
     pub answer: Answer,
     pub index: usize,
 }
 
 // The channel that was served, as it is stored again, and what is told of it.
-#[derive(Drop)]
+#[derive(Clone, Copy)]
 pub struct Placed {
     pub channel: Channel,
     pub told: Told,
 }
 
 // The index of the record that is served, or what is told where it is no index of the table; and what was looked for and found.
-#[derive(Drop)]
+#[derive(Clone, Copy)]
 pub struct Decision {
     pub at: usize,
     pub told: Told,
@@ -32,7 +32,7 @@ pub struct Decision {
 }
 
 // Whether the table passes the test for 13, and what is told if it does not.
-#[derive(Drop)]
+#[derive(Clone, Copy)]
 pub struct Verdict {
     pub ok: bool,
     pub told: Told,

@@ -9,7 +9,7 @@ use channel::{Addresses, Channel, Prefix, Refusal, prefixes};
 use packet::kinds::kind_of;
 use packet::{Fields, Kind};
 
-#[derive(Drop)]
+#[derive(Clone, Copy)]
 pub enum Sought {
     // A request names its channel.
     Index(usize),
@@ -28,7 +28,7 @@ pub enum Sought {
 }
 
 // What is looked for, and of a packet the prefix: an array, which stands beside the enum.
-#[derive(Drop)]
+#[derive(Clone, Copy)]
 pub struct Look {
     pub sought: Sought,
     pub prefix: Prefix,

@@ -26,7 +26,7 @@ pub fn looked_at(n: usize) -> usize
 pub const MOST_OCTETS: usize = 2097152;
 
 // A record of the table: its index, where its lengths and its octets begin, and how well it suits.
-#[derive(Drop)]
+#[derive(Clone, Copy)]
 pub struct Spot {
     pub at: usize,
     pub slot: usize,
@@ -35,7 +35,7 @@ pub struct Spot {
 }
 
 // What the records so far have shown: what is looked for, the lines, whether they are lines and all records stand, how many slots and octets they have together, and the best.
-#[derive(Drop)]
+#[derive(Clone, Copy)]
 pub struct Survey {
     pub look: Look,
     pub lines: [u8; 51],

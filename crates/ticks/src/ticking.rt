@@ -26,7 +26,7 @@ use table::{Sought, Survey, Told};
 
 // Of the channels ticked so far: whether any went inactive, the lowest index of those that did, and its reason. While none did, the index is that
 // of the next channel.
-#[derive(Drop)]
+#[derive(Clone, Copy)]
 pub struct First {
     pub index: usize,
     pub reason: u8,
@@ -34,7 +34,7 @@ pub struct First {
 }
 
 // The first that went inactive; the index of the next channel, and the lines, by value.
-#[derive(Drop)]
+#[derive(Clone, Copy)]
 pub struct Round {
     pub first: First,
     pub at: usize,
@@ -42,7 +42,7 @@ pub struct Round {
 }
 
 // A channel after the tick, and the round with it.
-#[derive(Drop)]
+#[derive(Clone, Copy)]
 pub struct Turned {
     pub channel: Channel,
     pub round: Round,

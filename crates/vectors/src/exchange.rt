@@ -18,7 +18,7 @@ pub fn say_exchanges() {
 }
 
 // Both ends, and what the link loses: the Data packet and the Ack with these numbers, once; 0 for none.
-#[derive(Drop)]
+#[derive(Clone, Copy)]
 struct Link {
     table: [Channel; 2],
     lost: u8,

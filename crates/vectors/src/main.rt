@@ -1,5 +1,6 @@
 // Runs what document 01 gives as numbers to check and is not proved of a definition, shows one packet written and read, and plays the exchanges of
 // 000, Appendix B.
+#![tactic(auto)]
 mod asking;
 mod exchange;
 mod numbers;
