@@ -1,5 +1,6 @@
 // The check sum of a packet. Its definition goes bit by bit; the proofs show that the sum is the same.
 #![tactic(auto)]
+
 ghost use Rattle.std.specs.Prelude.{◌≡◌, [], ◌∷◌, ◌+◌, ◌^◌, ◌≤◌, ◌<◌, length, drop, get_or};
 ghost use Rattle.crc.specs.Crc.{octet_into, crc_from, crc_of};
 ghost use Rattle.crc.specs.Table.{table};
