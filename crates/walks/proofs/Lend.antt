@@ -4,7 +4,7 @@
 --     shares_on    the same as a `&ν [T]`; `SharedOn` is what the holder keeps
 --     unshares     after the call ν is ended, and the slice is back as it was
 -- Assumes nothing: `Logic`, the laws of a model, is an argument.
-use mathlib.Core.Path.{◌≡◌, refl, sym, ap, subst}
+use mathlib.Core.Path.{◌≡◌, refl, sym, subst}
 use Prim.Native.Nat.{ℕ}
 use mathlib.Core.List.{List, [], ◌∷◌}
 use lib.ListN.{length}
@@ -21,7 +21,7 @@ use types.Tokens.{lft_new, lft_end, lent_back}
 use denote.RattleType.{RattleType}
 use denote.Shadow.{shadow, pure_l, pure_i}
 use denote.Memory.{mem, shares}
-use denote.Slice.{slice_val, MutSlice, ShrSlice, Room, heres, coded_holeys, shr_slice_at, mut_slice_at, finally}
+use denote.Slice.{slice_val, MutSlice, ShrSlice, Room, heres, coded_holeys, mut_slice_at, finally}
 use denote.Lend.{Held, lends_slice, slice_back, lends_shr_slice}
 use denote.Index.{row, whole_in, whole_out, opens_slice, closes_slice}
 use Rattle.walks.proofs.Tab.{Elem, xs_at, xs_in}

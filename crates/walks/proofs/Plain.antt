@@ -5,7 +5,7 @@
 --     Has K L      values of K are MIR structs, and one of their fields is an L: which field, and what it holds
 --     has_at       an operand: that field of the local that the code names
 -- Assumes nothing: `Logic`, the laws of a model, is an argument.
-use mathlib.Core.Path.{◌≡◌, refl, ap, subst, ◌∙◌}
+use mathlib.Core.Path.{◌≡◌, ap, subst, ◌∙◌}
 use mathlib.Core.Option.{some as someᴼ}
 use mathlib.Core.List.{List, [], ◌∷◌}
 use Prim.Native.Nat.{ℕ}
@@ -14,7 +14,7 @@ use mir.Syntax.{Sym, Width, Ty, Tys, ty_int, ty_bool, ty_struct, field, place as
 use mir.Fields.{get_v}
 use mir.Val.{Val, Vals, vstruct}
 use prog.Memory.{field_at}
-use prog.Wp.{Env, Spot, spot_of}
+use prog.Wp.{Env, spot_of}
 use base.Fml.{Share, fat}
 use types.Logic.{Logic}
 use types.Kit.{Item, ‵}

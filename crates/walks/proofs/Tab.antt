@@ -5,6 +5,7 @@
 --     shr_at, mut_at       what it owns as a `&κ [T]` and as a `&κ mut [T]`
 --     gave_at              what is left of a `&κ mut [T]` that is given up: what says its last list, and the borrow
 --     fld_at               an operand: field k of the local that the code names (the local itself is `Types/ByLocal.antt`'s `get`)
+--     ptr_at               the address that the slice in the local that the code names points to, `&*s`
 --     Looked, Opened       what is kept of a slice while an element is out
 --     elem_ptr             the address of an element: the slice's pointer, and the index times the size
 --     in_room              the place of an element is a number of the machine's
@@ -28,22 +29,22 @@ use mathlib.Core.List.{List, [], ◌∷◌}
 use lib.ListN.{length, get_or, set, length-set}
 use seplogic.Ra.Ura.{Ura}
 use base.Fraction.{full_share}
-use mir.Syntax.{named, Sym, Width, w64, Ty, Tys, ty_struct, Fn, Callee, field, Place, place as place', Opd as Operand, copy, op2, offset, Rv as RValue, Body, seq, assign, skip, cond, exit, call}
+use mir.Syntax.{named, Sym, Width, w64, Lifetime, Mutability, Ty, Tys, ty_ref, ty_struct, Fn, Callee, field, deref, addr_of, Place, place as place', Opd as Operand, copy, op2, offset, Rv as RValue, Body, seq, assign, skip, cond, exit, call}
 use mir.Fields.{get_v, set_v}
 use prog.Memory.{field_at}
-use mir.Val.{Val, Vals, vint, vbool, vptr, vstruct, has_ty, WT}
+use mir.Val.{Val, Vals, vint, vbool, vptr, vstruct, vcons, vnil}
 use mathlib.Core.Bool.{Bool, not}
 use lib.Dec.{T}
 use lib.WfN.{lt-wf_rel}
 use mathlib.Core.WellFounded.InvImage
 use mathlib.Core.WellFounded.{WellFounded}
-use base.Fml.{Lft, GName, Share, Fml, fat, fsep, flft, fobs, fres, fauth, fbor, fobor, fhide}
+use base.Fml.{Lft, GName, Share, Fml, fat, fsep, flft, fobs, fres, fauth, fbor, fobor, feq, fhide}
 use prog.Wp.{Env, Spot, spot_of, Calls, Loops, Wp, exits, after_seq, at_return, WpFn, Tables}
 use sound.WpLaws.{FmC, WpFn-mono}
 use types.Logic.{Logic}
 use base.Logic.{SProp, ent, sep, id⊢}
-use types.Kit.{Goal, prop, post, runs, lands, any_q, at_ret, Post, Soaks, Item, ‵, raw, some, later, ◌⊛◌, nth, Seq, Step, step, ◌$◌, move, drop, split, join, pick, await, use1, regoal, fsplit, fjoin}
-use types.Run.{Opds, Rv, Finds, Writes, Walks, Opd, load, stop, fld, from, bin, assigns_last, skips, jumps, first, branches}
+use types.Kit.{Goal, prop, post, runs, lands, any_q, at_ret, Post, Soaks, Item, ‵, raw, some, later, ◌⊛◌, Seq, Step, step, ◌$◌, move, drop, split, join, pick, await, use1, regoal, fsplit, fjoin, feq_l}
+use types.Run.{Opds, Rv, Finds, Writes, Walks, Opd, load, addr, stop, hop, fld, from, bin, assigns_last, skips, jumps, first, branches}
 use types.Part.{Part, whole, sub}
 use types.ByLocal.{at, look_in_at}
 use denote.RattleType.{RattleType, flat}
@@ -63,7 +64,7 @@ use denote.Triple.Walked.{Stays, AllGo, walk_of, walked, walk_Meets}
 use denote.Memory.{cell_at, mem, shares}
 use denote.Bor.{Bor}
 use denote.MutBor.{MutBor}
-use denote.Slice.{slice_val, MutSlice, ShrSlice, Room, heres, coded_holeys, shr_slice_at, mut_slice_at, elements_shared, finally, res-finally}
+use denote.Slice.{slice_val, slice_ty, MutSlice, ShrSlice, Room, heres, coded_holeys, shr_slice_at, mut_slice_at, elements_shared, finally, res-finally}
 use denote.Lend.{Held}
 use denote.Index.{place, place_is, others, row as cells_row, elem_out, elem_put, elem_back, opens_slice, closes_slice, looks_slice, shuts_slice}
 use denote.Steps.{only, owned, facts}
@@ -205,6 +206,10 @@ module _ {M : Type 1} {𝓤 : Ura M} {𝓛 : Logic 𝓤} {K : Type 0} {Γ : List
   gives_up t R {κ} b o {γ} ys = step (λ s. fsplit t $ drop t $ fsplit t $ use1 𝓛 (‵ (fres γ ((coded_holeys R).code (heres R ys)))) (𝓛.names.obs-res γ ((coded_holeys R).code (heres R ys))) $
       use1 𝓛 (‵ (finally R γ ys)) (res-finally 𝓛 (named 0) κ R γ ys) $ fjoin t $ s)
 
+  -- the same, from what a callee that it was passed to says
+  pub gave_up : K → (R : RattleType) {κ : Lft} {b o n : ℕ} {γ : GName} {zs : List R.Denot} → (length zs ≡ n → Seq K 𝓛 (‵ (gave_at R κ b o γ n zs) ∷ Γ) G) → Seq K 𝓛 (‵ (fsep (fsep (finally R γ zs) (feq ℕ (length zs) n)) (fbor κ (Held R n b o γ))) ∷ Γ) G
+  gave_up t R k = fsplit t $ fsplit t $ move t (1 ∷ []) $ feq_l t (λ e. fjoin t $ k e)
+
 -- ---- operands
 module _ {M : Type 1} {𝓤 : Ura M} {𝓛 : Logic 𝓤} {K : Type 0} {Γ : List (Item 𝓤)} {E : Env 𝓤 𝓛.H} where
   open 𝓛 use {H}
@@ -214,6 +219,11 @@ module _ {M : Type 1} {𝓤 : Ura M} {𝓛 : Logic 𝓤} {K : Type 0} {Γ : List
   fld_at t k {i} {s} {ν} {τs} {b} {o} {vs} {τ} {d} e₁ e₂ e₃ =
       load t (from t (subst (λ (sp : Spot 𝓤 H). Walks K 𝓛 Γ E sp (field k ∷ []) (τ, b, o + d)) (sym e₂) (fld t e₃ (stop t))))
       (look_in_at t i (subst (λ (j : Item 𝓤). Part K 𝓛 j s τ b (o + d) (get_v vs k) (λ u. ‵ (fat s (ty_struct ν τs) b o (vstruct (set_v vs k u))))) (sym e₁) (sub t k e₃ (whole t))))
+
+  pub ptr_at : K → {i : ℕ} {s : Share} {ℓ : Lifetime} {μ : Mutability} {σ τ : Ty} {b o b' o' n : ℕ} → at 𝓛 i Γ ≡ ‵ (fat s (slice_ty (ty_ref ℓ μ σ)) b o (slice_val (b', o') n)) → spot_of 𝓤 H E i ≡ (slice_ty (ty_ref ℓ μ σ), b, o) → Rv K 𝓛 Γ E (addr_of (place' i (field 0 ∷ deref τ ∷ []))) (vptr b' o')
+  ptr_at t {i} {s} {ℓ} {μ} {σ} {τ} {b} {o} {b'} {o'} {n} e₁ e₂ =
+      addr t (from t (subst (λ (sp : Spot 𝓤 H). Walks K 𝓛 Γ E sp (field 0 ∷ deref τ ∷ []) (τ, b', o')) (sym e₂)
+      (fld t refl (hop t (look_in_at t i (subst (λ (j : Item 𝓤). Part K 𝓛 j s (ty_ref ℓ μ σ) b (o + 0) (vptr b' o') (λ u. ‵ (fat s (slice_ty (ty_ref ℓ μ σ)) b o (vstruct (set_v (vcons (vptr b' o') (vcons (vint w64 n) vnil)) 0 u))))) (sym e₁) (sub t 0 refl (whole t)))) (stop t)))))
 
   pub elem_ptr : K → (size o i : ℕ) {b : ℕ} {x z : Operand} → Opd K 𝓛 Γ E x (vptr b o) → Opd K 𝓛 Γ E z (vint w64 (i * size)) → Rv K 𝓛 Γ E (op2 offset x z) (vptr b (place size o i))
   elem_ptr t size o i {b} {x} {z} p r = subst (λ (m : ℕ). Rv K 𝓛 Γ E (op2 offset x z) (vptr b m)) (sym (place_is size o i)) (bin t p r tt)

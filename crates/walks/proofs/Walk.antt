@@ -26,7 +26,7 @@ unfoldable pub use contract.Running.{tables_of}
 pub use types.Kit.{Item, Sq, runs, any_q, at_ret, ‵, raw, ◌⊛◌, ⋆, ◌$◌, ◌∵◌, !, qed, by, use0, use1, use2, move, keep, drop, group, split, join, rewrite, fsplit, fjoin, feq_l, feq_i, suffices, frame, done}
 pub use types.Part.{agg, whole, sub, look_in}
 pub use types.Run.{look, look_raw, store, store_raw, init, forget, stop, hop, fld, from, load, lit, true_lit, unit_lit, addr, of_opd, bin, and_then, no_more, assigns, assigns_last, first, branches, blocks, loops, again, Below, exec, land, returns, enter}
-pub use types.ByLocal.{env, alloc_all, pass_all, free_all, look_at, look_in_at, set_at, get, get_in, through, sets, holding, forget_but}
+pub use types.ByLocal.{env, alloc_all, pass_all, free_all, look_at, look_in_at, set_at, get, get_in, through, sets, sets_last, lands_as, holding, forget_but}
 pub use sound.WpLaws.{fm_of}
 pub use denote.RattleType.{RattleType, owns}
 pub use denote.Laws.{Is}
