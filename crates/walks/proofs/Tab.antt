@@ -47,7 +47,7 @@ use types.Kit.{Goal, prop, post, runs, lands, any_q, at_ret, Post, Soaks, Item, 
 use types.Run.{Opds, Rv, Finds, Writes, Walks, Opd, load, addr, stop, hop, fld, from, bin, assigns_last, skips, jumps, first, branches}
 use types.Part.{Part, whole, sub}
 use types.ByLocal.{at, look_in_at}
-use denote.RattleType.{RattleType, flat}
+use denote.RattleType.{RattleType, RowLaws, flat}
 use denote.Exit.{unchanged}
 use denote.Shadow.{shadow, pure_l, pure_i}
 use contract.Lifetimes.{Lfts, Shares, AllOutlive}
@@ -68,12 +68,13 @@ use denote.Slice.{slice_val, slice_ty, MutSlice, ShrSlice, Room, heres, coded_ho
 use denote.Lend.{Held}
 use denote.Index.{place, place_is, others, row as cells_row, elem_out, elem_put, elem_back, opens_slice, closes_slice, looks_slice, shuts_slice}
 use denote.Steps.{only, owned, facts}
-use denote.Plain.{UInt, uint_Tells, uint_Lawful, uint_Makes, Boolean, bool_Tells, bool_Lawful, bool_Makes}
-use denote.Struct.Declared.{Declared, row, fields}
-use denote.Struct.Struct.{Plains}
+use denote.Plain.{UInt, uint_Tells, uint_Lawful, uint_Makes, Boolean, bool_Tells, bool_Lawful, bool_Makes, uint_row_laws, bool-row_laws}
+use denote.Struct.Declared.{Declared, row, shape, fields}
+use denote.Struct.Recorded.{Recorded-row_laws}
+use denote.Struct.Struct.{Plains, Struct, Struct-row_laws}
 use denote.Struct.Laws as LL
 use denote.Enum.Declared as ED
-use denote.Enum.Enum.{Plainss, Few}
+use denote.Enum.Enum.{Plainss, Few, Enum, Enum-row_laws}
 use denote.Enum.Laws as EL
 
 abbrev pub plainly : RattleType → Ty → RattleType
@@ -85,6 +86,7 @@ pub record Elem (R : RattleType) : Type 2 where
   pub typed : {M : Type 1} {𝓤 : Ura M} (𝓛 : Logic 𝓤) (y : R.Denot) → Is R y (val y ∷ []) → Typed R.mir (val y ∷ [])
   pub copied : {M : Type 1} {𝓤 : Ura M} (𝓛 : Logic 𝓤) → Copied 𝓛 R
   pub makes : {M : Type 1} {𝓤 : Ura M} (𝓛 : Logic 𝓤) → Makes 𝓛 R (Is R)
+  pub row_laws : RowLaws R
 
 abbrev pub struct_elem : (T : Declared) (L : LL.Laws T) → LL.Copyables T.parts → Plains (fields T) → Elem (row T)
 struct_elem T L cp pl = record {
@@ -93,6 +95,7 @@ struct_elem T L cp pl = record {
   typed = λ 𝓛 y p. (LL.lawful T L 𝓛).typed y (LL.val T L y ∷ []) p;
   copied = λ 𝓛. LL.copied T cp 𝓛;
   makes = λ 𝓛. LL.makes T pl 𝓛;
+  row_laws = Recorded-row_laws (Struct (shape T)) T.D T.to T.to_one (Struct-row_laws (shape T) (LL.copy_row_laws T.parts cp));
 }
 
 abbrev pub enum_elem : (T : ED.Declared) (L : EL.Laws T) → EL.Copyabless T.parts → Plainss (ED.variants T) → Few (ED.shape T) → Elem (ED.row T)
@@ -102,6 +105,7 @@ enum_elem T L cp pl few = record {
   typed = λ 𝓛 y p. (EL.lawful T L 𝓛 few).typed y (EL.val T L y ∷ []) p;
   copied = λ 𝓛. EL.copied T cp 𝓛;
   makes = λ 𝓛. EL.makes T pl 𝓛;
+  row_laws = Recorded-row_laws (Enum (ED.shape T)) T.D T.to T.to_one (Enum-row_laws (ED.shape T) (EL.copy_row_lawss T.parts cp));
 }
 
 abbrev pub uint_elem : (w : Width) → Elem (UInt w)
@@ -111,6 +115,7 @@ uint_elem w = record {
   typed = λ 𝓛 y p. (uint_Lawful 𝓛 w).typed y (vint w y ∷ []) p;
   copied = λ 𝓛. uint_Copied 𝓛 w;
   makes = λ 𝓛. uint_Makes 𝓛 w;
+  row_laws = uint_row_laws w;
 }
 
 abbrev pub bool_elem : Elem Boolean
@@ -120,6 +125,7 @@ bool_elem = record {
   typed = λ 𝓛 y p. (bool_Lawful 𝓛).typed y (vbool y ∷ []) p;
   copied = λ 𝓛. bool_Copied 𝓛;
   makes = λ 𝓛. bool_Makes 𝓛;
+  row_laws = bool-row_laws;
 }
 
 module _ (R : RattleType) (b o : ℕ) where

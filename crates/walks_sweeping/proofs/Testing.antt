@@ -6,8 +6,8 @@
 --     making       of `Making.antt`, over an instance of `Afresh.antt`: the same, with the table made by F of each of s. The test has that there
 --                  are as many of s as records (`may`)
 -- Assumes nothing.
-use mathlib.Core.Path.{◌≡◌, refl, sym, ap, subst, ◌∙◌}
-use mathlib.Core.Bool.{Bool, true, false}
+use mathlib.Core.Path.{◌≡◌, sym, ap, subst, ◌∙◌}
+use mathlib.Core.Bool.{Bool, true}
 use mathlib.Core.List.{List, map}
 use Prim.Native.Nat.{ℕ}
 use lib.ListN.{length}
