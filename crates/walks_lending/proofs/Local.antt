@@ -12,7 +12,7 @@ use seplogic.Ra.Ura.{Ura}
 use mir.Syntax.{named, ty_array}
 use mir.Raw.{raw as raw_ty}
 use mir.Val.{Val}
-use base.Fml.{Lft, GName, Fml, fsep, fat, fdead, flent}
+use base.Fml.{Lft, GName, fsep, fat, fdead, flent}
 use types.Logic.{Logic}
 use types.Kit.{Goal, Soaks, Item, ‵, ◌⊛◌, some, later, Seq, ◌$◌, move, drop, split, pick, await, use1, use3, rewrite, fsplit, fjoin, fpick, fpack, feq_l, feq_i}
 use types.SemTy.{cells, Arr}
