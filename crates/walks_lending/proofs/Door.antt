@@ -7,8 +7,8 @@
 --     Perform          the contract of the door.        Ask      that of `ask`, which ensures `r ≡ asked` of its arguments
 --     through          such a function, by its parameters after the first four and what it ensures, as one of `Lending.antt`
 --     asks             the call of `ask`
---     lends_none, shares-none     an array of no octets is lent as a `&mut [u8]` and as a `&[u8]`: there is nothing in it, so its local is left alone
---     comes-none       an array of no octets that was lent as a `&mut [u8]` has none at the end
+--     lends_none, shares_none     an array of no octets is lent as a `&mut [u8]` and as a `&[u8]`: there is nothing in it, so its local is left alone
+--     comes_none       an array of no octets that was lent as a `&mut [u8]` has none at the end
 --     apart            what the function is passed: the first four with their tokens, the other tokens, and what the other parameters own
 --     performs         the call of the door: what is left is what is said of the last values of t, mem, lens, lines and out, and the tokens
 --     gathers          the other way than `apart`, at the end: what the function has to leave

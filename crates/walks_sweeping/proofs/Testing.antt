@@ -1,4 +1,4 @@
--- What a call that is done only where a test holds ensures, said by equations of records (`specs/Serving.antt`'s `doneBy`), in the form that the
+-- What a call that is done only where a test holds ensures, said by equations of records (`specs/Serving.antt`'s `done_by`), in the form that the
 -- walks take.
 --     sweeping     of `Sweeping.antt`, over an instance of `Sweep.antt`: of the lines begin makes B and start St; survey makes Sv, judge
 --                  Jd, the sweep is by F, conclude makes Cn and leaves the lines as Cl, and the call G, which is what they make together
