@@ -21,18 +21,8 @@ const ENDS: [Direction; 4] = [
     Direction::Sending,
 ];
 
-/// The choice among the calls that is a move, the only one that has a length and no
-/// buffer.
-const MOVE: usize = 20;
-
-/// The spare of each channel: of the two that send, each may name the other.
-fn spares(noise: &mut Noise) -> [u32; 4] {
-    [noise.one_of(&[0, 4]), 0, 0, noise.one_of(&[0, 1])]
-}
-
 /// A table of four channels with small windows, and these remote prefixes.
 fn table(noise: &mut Noise, prefixes: &[Prefix; 4]) -> Vec<Settings> {
-    let spares = spares(noise);
     let settings = |index: usize| {
         let window = noise.one_of(&[1, 2, 4, 8]);
         let slots = window + noise.below(6) as u32;
@@ -51,8 +41,8 @@ fn table(noise: &mut Noise, prefixes: &[Prefix; 4]) -> Vec<Settings> {
             retries: noise.below(3) as u32,
             interval: noise.below(4) as u32,
             flow: noise.below(2) as u32,
-            spare: spares[index],
-            lead: u32::from(spares != [0; 4] && ENDS[index] == Direction::Sending),
+            spare: 0,
+            lead: 0,
         }
     };
     [0, 1, 2, 3].map(settings).to_vec()
@@ -143,11 +133,8 @@ impl Player {
     fn call(&mut self) -> u8 {
         let index = self.noise.below(4) + usize::from(self.noise.percent(1));
         let small = self.noise.percent(5);
-        let choice = self.noise.below(21);
-        let buffer = match small && choice != MOVE {
-            true => self.noise.below(30),
-            false => 128,
-        };
+        let buffer = if small { self.noise.below(30) } else { 128 };
+        let choice = self.noise.below(20);
         let length = self.noise.below(40).min(self.noise.below(40));
         let octets = match choice {
             0..=9 => self.packet(),
@@ -163,10 +150,9 @@ impl Player {
             15 => node.take(index, out),
             16 => node.reclaim(index, out),
             17 => node.tick(),
-            MOVE => node.move_units(index),
             _ => node.next_packet(out),
         });
-        if !matches!(choice, 0..=9 | 13 | 14 | MOVE) {
+        if !matches!(choice, 0..=9 | 13 | 14) {
             assert!(memory == self.node.memory() && lengths == self.node.lengths());
         }
         if let (0..=9, 0, Some(index)) = (choice, answer.number, answer.index) {
@@ -174,8 +160,7 @@ impl Player {
         }
         match choice {
             17 => self.check_tick(&before, answer),
-            MOVE => self.check_others(&before, &[0, 3]),
-            _ => self.check_others(&before, answer.index.as_slice()),
+            _ => self.check_others(&before, answer),
         }
         if let 13 | 14 = choice {
             assert_eq!(before.would_transfer(index, octets.len()), answer);
@@ -192,9 +177,9 @@ impl Player {
     }
 
     /// "an arrival or request reads and changes its own channel alone", the one
-    /// that the answer names; a move "changes both channels", the two that send.
-    fn check_others(&self, before: &Node, own: &[usize]) {
-        for index in (0..4).filter(|index| !own.contains(index)) {
+    /// that the answer names.
+    fn check_others(&self, before: &Node, answer: Answer) {
+        for index in (0..4).filter(|&index| answer.index != Some(index)) {
             assert_eq!(self.node.state(index), before.state(index));
             assert_eq!(self.node.sight(index), before.sight(index));
         }

@@ -37,7 +37,7 @@ fn lines_that_cannot_be() {
             rig.node.lines_mut()[17] = 1;
         }
         let before = rig.node.clone();
-        assert_eq!(table::all_calls(&mut rig.node), [13; 11], "{place} {octet}");
+        assert_eq!(table::all_calls(&mut rig.node), [13; 10], "{place} {octet}");
         assert_eq!(rig.node, before);
         assert_eq!(
             rig.node
@@ -55,7 +55,7 @@ fn lines_of_another_size() {
         let mut rig = three();
         rig.node.lines_mut().resize(octets, 0);
         let before = rig.node.clone();
-        assert_eq!(table::all_calls(&mut rig.node), [13; 11]);
+        assert_eq!(table::all_calls(&mut rig.node), [13; 10]);
         assert_eq!(
             rig.node
                 .settings(&[sending(0), sending(1), receiving(2)])

@@ -12,7 +12,6 @@ fn no_such_channel() {
         assert_eq!(rig.transfer(index, &[0; 1_000]), 14);
         assert_eq!(rig.take(index), Err(14));
         assert_eq!(rig.reclaim(index), Err(14));
-        assert_eq!(rig.node.move_units(index), Answer::from(Refusal::NoChannel));
         assert_eq!(rig.node.take(index, &mut []).number, 14);
         assert_eq!(rig.node.state(index), None);
         assert_eq!(rig.node.reason(index), None);

@@ -3,7 +3,7 @@
 use super::*;
 
 /// The answer numbers of all other calls.
-pub(super) fn all_calls(node: &mut Node) -> [u8; 11] {
+pub(super) fn all_calls(node: &mut Node) -> [u8; 10] {
     let out = &mut [0; 64];
     [
         node.open(0),
@@ -12,7 +12,6 @@ pub(super) fn all_calls(node: &mut Node) -> [u8; 11] {
         node.would_transfer(0, 1),
         node.take(0, out),
         node.reclaim(0, out),
-        node.move_units(0),
         node.tick(),
         node.arrival(&alone(OPEN, 0), out),
         node.arrival(&[], &mut []),
@@ -29,7 +28,7 @@ pub(super) fn all_calls(node: &mut Node) -> [u8; 11] {
 fn without_settings_every_call_gives_13() {
     let mut node = unset_node(&[SENDING]);
     let before = node.clone();
-    assert_eq!(all_calls(&mut node), [13; 11]);
+    assert_eq!(all_calls(&mut node), [13; 10]);
     assert_eq!(node.open(7).number, 13);
     assert_eq!(node.state(0), None);
     assert_eq!(node, before);
@@ -58,7 +57,7 @@ fn a_table_or_storage_of_another_size() {
     }
     let mut none = Node::new(HERE, 0, vec![], vec![], vec![0; LINE_OCTETS]);
     assert_eq!(none.settings(&[]).number, 13);
-    assert_eq!(all_calls(&mut none), [13; 11]);
+    assert_eq!(all_calls(&mut none), [13; 10]);
     let many: Vec<Settings> = (0..17).map(sending).collect();
     let mut node = unset_node(&many);
     assert_eq!(node.settings(&many).number, 13);
