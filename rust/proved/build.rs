@@ -1,4 +1,4 @@
-//! Links the static library that `rt staticlib host` leaves under the
+//! Links the static library that `rt lib host` leaves under the
 //! repository's root.
 
 use std::env;
@@ -6,12 +6,12 @@ use std::path::PathBuf;
 
 fn main() {
     let here = env::var_os("CARGO_MANIFEST_DIR").expect("cargo sets CARGO_MANIFEST_DIR");
-    let folder = PathBuf::from(here).join("../../target/staticlib");
+    let folder = PathBuf::from(here).join("../../crates/host/out");
     let archive = folder.join("libhost.a");
     println!("cargo:rerun-if-changed={}", archive.display());
     assert!(
         archive.exists(),
-        "target/staticlib/libhost.a is missing: `rt staticlib host` makes it"
+        "crates/host/out/libhost.a is missing: `rt lib host` makes it"
     );
     println!("cargo:rustc-link-search=native={}", folder.display());
     println!("cargo:rustc-link-lib=static=host");

@@ -1,7 +1,6 @@
 -- What an arrival does to the channel that it is for (document 01, Answer numbers: 'Arrivals test 11, 1, 2, 4, 3, 14, Data payload over P (3),
 -- state (5), number (9, 15, 16), room (8), flags (9)'). Which channel that is, is said in specs/Finding.antt.
-use Rattle.std.specs.Prelude.{◌≡◌, ℕ, ◌≤◌, ◌<◌, true, false, List, ltb, eqb, length, get_or}
-use Rattle.laws.specs.Choice.{if◌then◌else◌}
+use Rattle.std.specs.Prelude.{◌≡◌, ℕ, ◌≤◌, ◌<◌, true, false, List, ltb, eqb, length, get_or, if◌then◌else◌}
 use Rattle.packet.specs.declared.fields.Fields.{Fields}
 use Rattle.packet.specs.declared.kinds.Kind.{Kind}
 use Rattle.packet.specs.declared.kinds.Kind.TheVariants.{Data, DataAck, Open, Close, Heartbeat, HeartbeatAck, FlowControl, ControlAck, Lacking}

@@ -1,6 +1,5 @@
 -- An arrival of Data (document 01, Answer numbers: 'Data payload over P (3)'; Receiving).
-use Rattle.std.specs.Prelude.{ℕ, Bool, false, not, List, ltb, eqb}
-use Rattle.laws.specs.Choice.{if◌then◌else◌}
+use Rattle.std.specs.Prelude.{ℕ, Bool, false, not, List, ltb, eqb, if◌then◌else◌}
 use Rattle.packet.specs.declared.fields.Fields.{Fields}
 use Rattle.packet.specs.declared.kinds.Kind.{Kind}
 use Rattle.packet.specs.declared.kinds.Kind.TheVariants.{Data, DataAck, Open, Close, Heartbeat, HeartbeatAck, FlowControl, ControlAck, Lacking}

@@ -1,7 +1,6 @@
 -- The reply to an arrival (document 01, Receiving: an Ack where the answer is 0 or 15; a Heartbeat is answered at either end: document 02, A2; an
 -- Ack of Data or Control states a number: A5).
-use Rattle.std.specs.Prelude.{ℕ, Bool, true, false, List, ◌++◌, length, drop}
-use Rattle.laws.specs.Choice.{if◌then◌else◌}
+use Rattle.std.specs.Prelude.{ℕ, Bool, true, false, List, ◌++◌, length, drop, if◌then◌else◌}
 use Rattle.packet.specs.Layout.{packet_of}
 use Rattle.packet.specs.Tests.{flags_whole}
 use Rattle.walks.specs.Serving.{Worked, works}

@@ -1,7 +1,6 @@
 // The reply to a packet that an end has taken, and the channel once it is written.
-ghost use Rattle.std.specs.Prelude.{◌≡◌, ◌≤◌, true, length};
+ghost use Rattle.std.specs.Prelude.{◌≡◌, ◌≤◌, true, length, if◌then◌else◌};
 ghost use Rattle.channel.specs.Prefixes.{fit_prefix};
-ghost use Rattle.laws.specs.Choice.{if◌then◌else◌};
 ghost use Rattle.channel.specs.Flow.{replied_in};
 ghost use Rattle.channel.specs.Steps.{outgoing_length};
 ghost use Rattle.receiver.specs.Receiving.{carries, carrying};

@@ -3,7 +3,7 @@
 -- Assumes nothing.
 use Rattle.std.proofs.Common.{◌≡◌, ℕ, zero, suc, ◌+◌, ◌-◌, ◌<◌, ◌≤◌, Bool, true, false, not, ◌&&◌, ◌||◌, eqb, leb, List, ◌∷◌, length, get_or, refl, ap, ◌∙◌, ap₂, arith, eq-eqb, ne_eqb, leb-true}
 use borrow.Author.Tests.{eqb-false}
-use Rattle.laws.specs.Choice.{if◌then◌else◌}
+use Rattle.std.specs.Prelude.{if◌then◌else◌}
 use Rattle.laws.proofs.Choice.{either_way}
 use Rattle.channel.specs.declared.record.Limits.{Limits}
 use Rattle.channel.specs.Record.{sends}

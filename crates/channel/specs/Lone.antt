@@ -1,6 +1,5 @@
 -- One packet that is sent alone: an Open or a Close (document 01, Sending), or a Heartbeat (document 02, A2).
-use Rattle.std.specs.Prelude.{ℕ, ◌-◌, Bool, true, false, not, ◌||◌, ◌==◌, nat_le}
-use Rattle.laws.specs.Choice.{if◌then◌else◌}
+use Rattle.std.specs.Prelude.{ℕ, ◌-◌, Bool, true, false, not, ◌||◌, ◌==◌, nat_le, if◌then◌else◌}
 use Rattle.channel.specs.declared.record.Lone.{Lone}
 use Rattle.channel.specs.declared.lone.Fallen.{Fallen}
 use Rattle.channel.specs.Record.{lone_ready, lone_out, lone_again, no_lone}

@@ -1,7 +1,6 @@
 -- Pairs of routes (document 02, A13): a sender may name its spare, which carries on with its units. On a pair a unit has a leading octet, 0 as it was
 -- transferred, 1 (may repeat) once it was moved; it is part of what is filed.
-use Rattle.std.specs.Prelude.{ℕ, zero, suc, ◌+◌, ◌-◌, Bool, true, false, not, ◌&&◌, ◌||◌, List, ◌∷◌, map, length, drop, ◌==◌, nat_le, slice_index}
-use Rattle.laws.specs.Choice.{if◌then◌else◌}
+use Rattle.std.specs.Prelude.{ℕ, zero, suc, ◌+◌, ◌-◌, Bool, true, false, not, ◌&&◌, ◌||◌, List, ◌∷◌, map, length, drop, ◌==◌, nat_le, slice_index, if◌then◌else◌}
 use Rattle.channel.specs.declared.record.Limits.{Limits}
 use Rattle.channel.specs.declared.record.Settings.{Settings}
 use Rattle.channel.specs.Record.{sends}

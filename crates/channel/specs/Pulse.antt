@@ -1,7 +1,6 @@
 -- The Heartbeat of an end, the same at both (document 02, A2; 000, 4.4.4.7 and 4.5.3.6): the interval, what starts it anew, the Heartbeat that is made
 -- when it ends, and what arrives. What moves it leaves Flow Control as it is.
-use Rattle.std.specs.Prelude.{ℕ, ◌-◌, not, ◌==◌, nat_le}
-use Rattle.laws.specs.Choice.{if◌then◌else◌}
+use Rattle.std.specs.Prelude.{ℕ, ◌-◌, not, ◌==◌, nat_le, if◌then◌else◌}
 use Rattle.channel.specs.declared.record.Limits.{Limits}
 use Rattle.channel.specs.declared.record.Lone.{Lone}
 use Rattle.channel.specs.declared.record.Pulse.{Pulse}

@@ -1,6 +1,5 @@
 -- The standing condition of a record with its lengths (docs/CONDITION.md): as a test, and as facts.
-use Rattle.std.specs.Prelude.{◌≡◌, ℕ, zero, suc, ◌+◌, ◌-◌, ◌<◌, ◌≤◌, Bool, true, false, not, ◌&&◌, ◌||◌, List, length, ◌==◌, nat_eq, nat_le, nat_lt, slice_index}
-use Rattle.laws.specs.Choice.{if◌then◌else◌}
+use Rattle.std.specs.Prelude.{◌≡◌, ℕ, zero, suc, ◌+◌, ◌-◌, ◌<◌, ◌≤◌, Bool, true, false, not, ◌&&◌, ◌||◌, List, length, ◌==◌, nat_eq, nat_le, nat_lt, slice_index, if◌then◌else◌}
 use Rattle.slots.specs.Ring.{round_of, back_of, run_of}
 use Rattle.slots.specs.Marks.{ends}
 use Rattle.channel.specs.Places.{slot_of}

@@ -8,7 +8,7 @@ use native.Mathlib.Omega.{arith}
 use borrow.Author.Tests.{eqb-true, eqb-false, eq-eqb, ne_eqb, ltb-false}
 use lib.Dec.{ltb, eqb}
 use lib.ListN.{length, get_or, take, drop}
-use Rattle.laws.specs.Choice.{if◌then◌else◌}
+use Rattle.std.specs.Prelude.{if◌then◌else◌}
 use Rattle.laws.proofs.Choice.{chosen, passed_by}
 use Rattle.slots.specs.Slots.{segment_in}
 use Rattle.channel.specs.Places.{slot_of}

@@ -8,7 +8,7 @@ use borrow.Author.Tests.{eqb-false, eqb-true, eq-eqb}
 use lib.Dec.{leb, eqb}
 use lib.ListN.{length, take, drop}
 use lib.Seq.{take_at}
-use Rattle.laws.specs.Choice.{if◌then◌else◌}
+use Rattle.std.specs.Prelude.{if◌then◌else◌}
 use Rattle.laws.proofs.Choice.{chosen, last_not}
 use Rattle.slots.specs.Slots.{laid}
 use Rattle.channel.specs.Places.{slot_of}

@@ -10,7 +10,7 @@ use native.Mathlib.Omega.{arith}
 use borrow.Author.Tests.{eqb-true, eqb-false}
 use lib.Dec.{eqb, ltb, leb}
 use lib.ListN.{length, take}
-use Rattle.laws.specs.Choice.{if◌then◌else◌}
+use Rattle.std.specs.Prelude.{if◌then◌else◌}
 use Rattle.packet.specs.declared.kinds.Kind.TheVariants.{Data, DataAck}
 use Rattle.packet.specs.Kinds.{kind_of}
 use Rattle.packet.proofs.KindLaws.{kind_back}

@@ -1,6 +1,5 @@
 -- A node in which one channel is watched, and every call that can be made of it, with its real arguments.
-use Rattle.std.specs.Prelude.{ℕ, ◌+◌, List, eqb, length}
-use Rattle.laws.specs.Choice.{if◌then◌else◌}
+use Rattle.std.specs.Prelude.{ℕ, ◌+◌, List, eqb, length, if◌then◌else◌}
 use Rattle.walks.specs.Serving.{Called}
 use Rattle.channel.specs.declared.record.Node.{Node}
 use Rattle.channel.specs.declared.record.Channel.{Channel}

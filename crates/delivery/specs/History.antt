@@ -1,6 +1,5 @@
 -- What happened, and what is read from it: from the calls, their answers and the octets that they wrote, and from nothing that an end remembers.
-use Rattle.std.specs.Prelude.{ℕ, suc, ◌+◌, ◌≡◌, ◌⊎◌, Bool, true, false, not, ◌&&◌, List, [], ◌∷◌, ◌++◌, eqb, take}
-use Rattle.laws.specs.Choice.{if◌then◌else◌}
+use Rattle.std.specs.Prelude.{ℕ, suc, ◌+◌, ◌≡◌, ◌⊎◌, Bool, true, false, not, ◌&&◌, List, [], ◌∷◌, ◌++◌, eqb, take, if◌then◌else◌}
 use Rattle.packet.specs.declared.kinds.Kind as packets
 use Rattle.packet.specs.declared.kinds.Kind.TheVariants.{Data, DataAck}
 use Rattle.packet.specs.declared.kinds.Kind.TheVariants as kinds

@@ -9,7 +9,7 @@ use Prim.Native.Nat.{ℕ, zero, suc, ◌+◌, ◌%◌, ◌<◌}
 use native.Mathlib.Omega.{arith}
 use lib.Dec.{lit≤}
 use lib.ListN.{length, replicate, get_or, take, drop, set}
-use Rattle.laws.specs.Choice.{if◌then◌else◌}
+use Rattle.std.specs.Prelude.{if◌then◌else◌}
 use Rattle.packet.specs.Kinds.{kind_of}
 use Rattle.packet.specs.Layout.{head_of, body_of, packet_of}
 use Rattle.packet.specs.Tests.{short, damaged, lacking, strange}

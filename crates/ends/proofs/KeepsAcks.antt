@@ -7,7 +7,7 @@ use Prim.Native.Nat.{ℕ, ◌+◌, ◌-◌, ◌%◌, ◌≤◌, ◌<◌}
 use native.Mathlib.Omega.{arith}
 use lib.Dec.{eqb}
 use lib.ListN.{get_or, set}
-use Rattle.laws.specs.Choice.{if◌then◌else◌}
+use Rattle.std.specs.Prelude.{if◌then◌else◌}
 use Rattle.slots.specs.Ring.{round_of, back_of, cleared}
 use Rattle.slots.proofs.RingLaws.{round_lt, round_add, back_lt, forth_back, run_le, cleared_out}
 use Rattle.store.proofs.Laws.{last_le}

@@ -11,7 +11,7 @@ use borrow.Author.Tests.{le-leb, eq-eqb, eqb-true, eqb-false}
 use lib.Dec.{leb, eqb}
 use lib.ListN.{length, get_or}
 use Rattle.laws.proofs.Numbers.{lt_cases}
-use Rattle.laws.specs.Choice.{if◌then◌else◌}
+use Rattle.std.specs.Prelude.{if◌then◌else◌}
 use Rattle.slots.specs.Ring.{round_of}
 use Rattle.slots.proofs.RingLaws.{round_lt, round_add, round_apart, back_lt}
 use Rattle.slots.specs.Slots.{Sized}

@@ -11,7 +11,7 @@ use borrow.Author.Tests.{le-leb, le-ltb, ltb-true, eqb-true, eqb-false, ne_eqb}
 use lib.Dec.{ltb, eqb}
 use lib.ListN.{length, get_or, set, take, drop, length-set}
 use lib.Seq.{get_or-set_same, get_or-set_other}
-use Rattle.laws.specs.Choice.{if◌then◌else◌}
+use Rattle.std.specs.Prelude.{if◌then◌else◌}
 use Rattle.laws.proofs.Choice.{both}
 use Rattle.laws.proofs.Numbers.{lt_cases}
 use Rattle.slots.specs.Ring.{round_of, back_of, cleared}

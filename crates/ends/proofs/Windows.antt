@@ -9,7 +9,7 @@ use native.Mathlib.Omega.{arith}
 use borrow.Author.Tests.{ltb-false, leb-false}
 use lib.Dec.{T, leb, ltb}
 use lib.ListN.{replicate}
-use Rattle.laws.specs.Choice.{if◌then◌else◌}
+use Rattle.std.specs.Prelude.{if◌then◌else◌}
 use Rattle.laws.proofs.Choice.{either, by_test}
 use Rattle.laws.proofs.Numbers.{lt_cases}
 use Rattle.slots.specs.Ring.{round_of}

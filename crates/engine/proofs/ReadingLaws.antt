@@ -10,7 +10,7 @@ use borrow.Author.Tests.{eq-eqb, ne_eqb, lt-ltb, le-ltb, ltb-true, ltb-false, eq
 use lib.Dec.{ltb, eqb}
 use lib.ListN.{length, get_or, take, drop, set, length-set}
 use lib.Seq.{length-take-le, get_or-take, get_or-set_other, take-suc-set, drop-cons, drop-set-lt, drop-drop}
-use Rattle.laws.specs.Choice.{if◌then◌else◌}
+use Rattle.std.specs.Prelude.{if◌then◌else◌}
 use Rattle.laws.proofs.Choice.{either_way, chosen, passed_by}
 use Rattle.laws.proofs.Lists.{take_drop}
 use Rattle.engine.specs.Trace.{Entry, Records, little_at, is_whole, entry_of, after, records_from}

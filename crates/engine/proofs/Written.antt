@@ -10,7 +10,7 @@ use borrow.Author.Tests.{eq-eqb, ne_eqb, le-ltb}
 use lib.Dec.{ltb, eqb}
 use lib.ListN.{length, get_or, get_or-append}
 use lib.Seq.{append_snoc}
-use Rattle.laws.specs.Choice.{if◌then◌else◌}
+use Rattle.std.specs.Prelude.{if◌then◌else◌}
 use Rattle.laws.proofs.Choice.{chosen, passed_by}
 use Rattle.laws.proofs.Lists.{length_snoc}
 use Rattle.engine.specs.Trace.{Entry, Records, little_at, is_whole, entry_of, after, records_from, records_of, written_as, WrittenThenRead}

@@ -1,7 +1,6 @@
 -- What a record of a trace asks of the node (document 01, Replay program): '1 arrival, 2 tick, 3 Open, 4 Close, 5 transfer, 6 take, 7 next packet, 8
 -- reclaim; kinds 3, 4, 5, 6 and 8 begin with a channel index octet. An unknown kind or a missing index answers 14'.
-use Rattle.std.specs.Prelude.{List, ℕ, eqb, length, get_or}
-use Rattle.laws.specs.Choice.{if◌then◌else◌}
+use Rattle.std.specs.Prelude.{List, ℕ, eqb, length, get_or, if◌then◌else◌}
 use Rattle.channel.specs.declared.record.Node.{Node}
 use Rattle.node.specs.declared.request.Request.{Request}
 use Rattle.node.specs.declared.request.Request.TheVariants.{Open, Close, Transfer, Take, Reclaim, Arrival, NextPacket, Unknown}

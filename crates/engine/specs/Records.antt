@@ -1,6 +1,5 @@
 -- A record of a trace, and the two channels of a replay (document 01, Replay program).
-use Rattle.std.specs.Prelude.{List, [], ◌∷◌, ℕ, eqb, drop}
-use Rattle.laws.specs.Choice.{if◌then◌else◌}
+use Rattle.std.specs.Prelude.{List, [], ◌∷◌, ℕ, eqb, drop, if◌then◌else◌}
 use Rattle.walks.specs.Serving.{Called, leaves, saying}
 use Rattle.channel.specs.declared.record.Node.{Node}
 use Rattle.channel.specs.declared.record.Settings.{Settings}

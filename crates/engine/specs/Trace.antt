@@ -1,6 +1,5 @@
 -- The records of a trace (document 01, Replay program): 'body length (2 octets, little-endian), kind (2, little-endian), body', one after another.
-use Rattle.std.specs.Prelude.{◌≡◌, Bool, false, List, [], ◌∷◌, ◌++◌, ℕ, ◌+◌, ◌/◌, ◌%◌, ltb, eqb, length, get_or, drop}
-use Rattle.laws.specs.Choice.{if◌then◌else◌}
+use Rattle.std.specs.Prelude.{◌≡◌, Bool, false, List, [], ◌∷◌, ◌++◌, ℕ, ◌+◌, ◌/◌, ◌%◌, ltb, eqb, length, get_or, drop, if◌then◌else◌}
 use Rattle.laws.specs.Octets.{pair_of}
 
 pub record Entry : Type 0 where

@@ -12,7 +12,7 @@ use lib.Dec.{ltb, eqb}
 use lib.ListN.{length, set, length-set, length-map, replicate, take, drop}
 use lib.Seq.{get_or-set_same, get_or-set_other}
 use Rattle.laws.proofs.Choice.{either, either_way, chosen, passed_by, first_not}
-use Rattle.laws.specs.Choice.{if◌then◌else◌}
+use Rattle.std.specs.Prelude.{if◌then◌else◌}
 use Rattle.walks.specs.Serving.{Worked, Called, Changed}
 use Rattle.lines.specs.Lines.{stands, line_in, part_at, line_at, no_lines}
 use Rattle.lines.specs.Fit.{fit_lines}

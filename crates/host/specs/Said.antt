@@ -1,6 +1,5 @@
 -- The answer of a call, as C sees it: document 01's number, the values or zeros, and the index of the channel that was served.
-use Rattle.std.specs.Prelude.{ℕ, eqb}
-use Rattle.laws.specs.Choice.{if◌then◌else◌}
+use Rattle.std.specs.Prelude.{ℕ, eqb, if◌then◌else◌}
 use Rattle.walks.specs.Serving.{Called, Changed, saying, telling}
 use Rattle.channel.specs.declared.record.Channel.{Channel}
 use Rattle.channel.specs.declared.answer.Answer.{Answer}

@@ -8,7 +8,7 @@ use Prim.Native.Nat.{ℕ, zero, suc, ◌<◌}
 use native.Mathlib.Nat.{not-suc-le-zero, le_of_suc-le-suc}
 use lib.Dec.{ltb, eqb}
 use lib.ListN.{length, set, take, drop}
-use Rattle.laws.specs.Choice.{if◌then◌else◌}
+use Rattle.std.specs.Prelude.{if◌then◌else◌}
 use Rattle.laws.proofs.Choice.{chosen}
 use Rattle.packet.specs.declared.reading.Read.{Read}
 use Rattle.packet.specs.declared.reading.Read.TheVariants.{Found, Short, Damaged, Lacking, Strange}

@@ -8,7 +8,7 @@ use native.Mathlib.Omega.{arith}
 use borrow.Author.Tests.{ne_eqb}
 use lib.Dec.{eqb, ltb}
 use lib.ListN.{length}
-use Rattle.laws.specs.Choice.{if◌then◌else◌}
+use Rattle.std.specs.Prelude.{if◌then◌else◌}
 use Rattle.laws.proofs.Choice.{either, either_way, chosen, passed_by, first_not}
 use Rattle.packet.specs.Layout.{fields_at, length_at, payload_in}
 use Rattle.walks.specs.Serving.{Worked}

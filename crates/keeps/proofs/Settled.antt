@@ -7,7 +7,7 @@ use Prim.Native.Nat.{ℕ}
 use lib.Dec.{eqb}
 use lib.ListN.{length, take, drop}
 use lib.Seq.{map-set_same}
-use Rattle.laws.specs.Choice.{if◌then◌else◌}
+use Rattle.std.specs.Prelude.{if◌then◌else◌}
 use Rattle.laws.proofs.Choice.{chosen}
 use Rattle.walks.specs.Serving.{Worked, Called, Changed, works}
 use Rattle.channel.specs.declared.record.Addresses.{Addresses}

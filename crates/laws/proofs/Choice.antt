@@ -2,14 +2,14 @@
 -- Assumes nothing.
 use mathlib.Core.Path.{◌≡◌, refl, sym, ap, ◌∙◌}
 use mathlib.Core.Bool.{Bool, true, false, ◌||◌, ◌&&◌, true≢false, false≢true}
-use Rattle.laws.specs.Choice.{if◌then◌else◌}
+use Rattle.std.specs.Prelude.{if◌then◌else◌}
 
 -- a test holds or fails
 pub either_way {ℓ} : {A : Type ℓ} (t : Bool) → (t ≡ true → A) → (t ≡ false → A) → A
 either_way true p q = p refl
 either_way false p q = q refl
 
-module _ {ℓ} {A : Type ℓ} (t : Bool) (a b : A) where
+module _ {A : Type 0} (t : Bool) (a b : A) where
   pub chosen : t ≡ true → (if t then a else b) ≡ a
   chosen e = ap (λ (x : Bool). if x then a else b) e
 

@@ -1,6 +1,5 @@
 -- Whether octets are lines of a table of n records, 16 at most: as a test (13 where it fails), and as facts.
-use Rattle.std.specs.Prelude.{ℕ, ◌+◌, ◌≤◌, ◌<◌, ◌≡◌, Bool, true, not, ◌&&◌, List, [], ◌∷◌, eqb, leb, ltb, length, get_or, drop}
-use Rattle.laws.specs.Choice.{if◌then◌else◌}
+use Rattle.std.specs.Prelude.{ℕ, ◌+◌, ◌≤◌, ◌<◌, ◌≡◌, Bool, true, not, ◌&&◌, List, [], ◌∷◌, eqb, leb, ltb, length, get_or, drop, if◌then◌else◌}
 use Rattle.lines.specs.Lines.{stands, line_octets, line_in, part_at, relist_all}
 
 -- ---- as a test

@@ -1,8 +1,7 @@
 -- Which channel is served next: Control and Heartbeats before resent Data before new Data, and within a rank by the line, from the head on (document
 -- 02, A4).
 -- Each channel has a grade, and the least is served; 48 is the grade of a channel that stands in no line with a packet of its rank ready.
-use Rattle.std.specs.Prelude.{ℕ, ◌+◌, ◌*◌, min, Bool, ◌&&◌, List}
-use Rattle.laws.specs.Choice.{if◌then◌else◌}
+use Rattle.std.specs.Prelude.{ℕ, ◌+◌, ◌*◌, min, Bool, ◌&&◌, List, if◌then◌else◌}
 use Rattle.lines.specs.Lines.{stands, before, line_at}
 
 -- how many stand before i; 16 where it does not stand

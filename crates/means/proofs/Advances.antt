@@ -11,7 +11,7 @@ use borrow.Author.Tests.{eq-eqb, ne_eqb, not-false, not-true as not_yes}
 use lib.Dec.{eqb}
 use lib.ListN.{length, take, drop, get_or, length-drop}
 use lib.Seq.{get_or-take, get_or-drop, length-take-le}
-use Rattle.laws.specs.Choice.{if◌then◌else◌}
+use Rattle.std.specs.Prelude.{if◌then◌else◌}
 use Rattle.laws.proofs.Numbers.{lt_cases}
 use Rattle.laws.proofs.Choice.{chosen, passed_by}
 use Rattle.slots.specs.Ring.{round_of, back_of, cleared}

@@ -10,7 +10,7 @@ use borrow.Author.Tests.{eqb-true, eqb-false, eq-eqb}
 use lib.Dec.{eqb}
 use lib.ListN.{length, get_or, length-append}
 use lib.Seq.{get_or-append-add}
-use Rattle.laws.specs.Choice.{if◌then◌else◌}
+use Rattle.std.specs.Prelude.{if◌then◌else◌}
 use Rattle.slots.specs.Marks.{mark_of}
 use Rattle.slots.specs.Units.{segments_of, flags_of}
 use Rattle.slots.proofs.Units.{segments_some}

@@ -12,7 +12,7 @@ use borrow.Author.Tests.{ltb-true, ltb-false}
 use lib.Dec.{ltb, eqb}
 use lib.ListN.{length, get_or, get_or-append}
 use lib.Seq.{get_or-append_seam}
-use Rattle.laws.specs.Choice.{if◌then◌else◌}
+use Rattle.std.specs.Prelude.{if◌then◌else◌}
 use Rattle.laws.proofs.Lists.{length_snoc}
 use Rattle.slots.specs.Ring.{round_of}
 use Rattle.slots.proofs.RingLaws.{round_lt, back_forth}

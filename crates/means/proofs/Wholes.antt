@@ -9,7 +9,7 @@ use borrow.Author.Tests.{ltb-true, ltb-false}
 use lib.Dec.{ltb}
 use lib.ListN.{length, take, drop, take-append-drop}
 use lib.Seq.{take-nil, take-add, take-length, length-take-le}
-use Rattle.laws.specs.Choice.{if◌then◌else◌}
+use Rattle.std.specs.Prelude.{if◌then◌else◌}
 use Rattle.protocol.specs.Units.{Segment, units, endings, whole_to, one_more, first_unit, on_way}
 use Rattle.protocol.proofs.Cutting.{length_units, units_take, endings_append, whole_to_append}
 

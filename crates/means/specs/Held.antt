@@ -1,6 +1,5 @@
 -- The units that a channel holds, read from its record, its lengths and its memory (document 01, A channel's record and memory).
-use Rattle.std.specs.Prelude.{ℕ, zero, suc, ◌+◌, List, [], ◌∷◌, ◌++◌, get_or}
-use Rattle.laws.specs.Choice.{if◌then◌else◌}
+use Rattle.std.specs.Prelude.{ℕ, zero, suc, ◌+◌, List, [], ◌∷◌, ◌++◌, get_or, if◌then◌else◌}
 use Rattle.slots.specs.Ring.{round_of}
 use Rattle.slots.specs.Marks.{ends}
 use Rattle.slots.specs.Slots.{segment_in}

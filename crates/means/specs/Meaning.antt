@@ -1,7 +1,6 @@
 -- What a record's numbers mean in the protocol (crate protocol): its state, its limits, and the segment in a slot or in a Data packet.
-use Rattle.std.specs.Prelude.{ℕ, List, eqb, get_or}
+use Rattle.std.specs.Prelude.{ℕ, List, eqb, get_or, if◌then◌else◌}
 use Rattle.std.proofs.Math.Option.{Option, none, some}
-use Rattle.laws.specs.Choice.{if◌then◌else◌}
 use Rattle.slots.specs.Marks.{mark_of, begins, ends}
 use Rattle.channel.specs.declared.record.Limits as channel
 use Rattle.channel.specs.declared.record.Channel.{Channel}

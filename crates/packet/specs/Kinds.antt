@@ -1,7 +1,6 @@
 -- The kinds of packets, and the codes of their types (000, Table 4-2). No type is told by its number anywhere else. Type 6 is Flow Control and its
 -- Ack: 000's note tells them apart by the end that sends it, and how many octets they carry does too (document 02, A5).
-use Rattle.std.specs.Prelude.{ℕ, Bool, true, false, eqb}
-use Rattle.laws.specs.Choice.{if◌then◌else◌}
+use Rattle.std.specs.Prelude.{ℕ, Bool, true, false, eqb, if◌then◌else◌}
 use Rattle.packet.specs.declared.kinds.Kind.{Kind}
 use Rattle.packet.specs.declared.kinds.Kind.TheVariants.{Data, DataAck, Open, Close, Heartbeat, HeartbeatAck, FlowControl, ControlAck, Lacking}
 

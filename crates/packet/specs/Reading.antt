@@ -1,6 +1,5 @@
 -- What reading a packet alone gives, for whatever octets: tests 1, 2, 4, 3 in this order (document 01, The packet).
-use Rattle.std.specs.Prelude.{ℕ, List}
-use Rattle.laws.specs.Choice.{if◌then◌else◌}
+use Rattle.std.specs.Prelude.{ℕ, List, if◌then◌else◌}
 use Rattle.packet.specs.declared.reading.Read.{Read}
 use Rattle.packet.specs.declared.reading.Read.TheVariants.{Found, Short, Damaged, Lacking, Strange}
 use Rattle.packet.specs.Layout.{fields_at, prefix_at, length_at, payload_at}

@@ -10,7 +10,7 @@ use borrow.Author.Tests.{eq-eqb, ne_eqb}
 use lib.Dec.{eqb}
 use lib.ListN.{length, take, drop}
 use lib.Seq.{drop-drop}
-use Rattle.laws.specs.Choice.{if◌then◌else◌}
+use Rattle.std.specs.Prelude.{if◌then◌else◌}
 use Rattle.slots.specs.Units.{segments_of, segment_cut, joined}
 use Rattle.slots.proofs.Units.{segments_some, rejoined}
 use Rattle.protocol.specs.Units.{DataUnit, Segment, segments_from, cut, cuts, units, endings, whole_to, one_more, first_unit}

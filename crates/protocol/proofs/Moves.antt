@@ -9,7 +9,7 @@ use native.Mathlib.Nat.{le_refl}
 use native.Mathlib.Omega.{arith}
 use lib.ListN.{length, take, get_or}
 use lib.Seq.{take-suc, take-append-le}
-use Rattle.laws.specs.Choice.{if◌then◌else◌}
+use Rattle.std.specs.Prelude.{if◌then◌else◌}
 use Rattle.laws.proofs.Lists.{length_snoc}
 use Rattle.protocol.specs.Units.{Segment, blank, on_way, fitting}
 use Rattle.protocol.specs.Ends.{Limits}

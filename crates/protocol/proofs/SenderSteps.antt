@@ -11,7 +11,7 @@ use borrow.Author.Tests.{ltb-true, leb-true, eqb-true, eqb-false}
 use lib.Dec.{leb, ltb, eqb}
 use lib.ListN.{length, take, drop, get_or, length-append, take-append-drop, get_or-append}
 use lib.Seq.{take-append-le, take-add, drop-drop, length-take-le}
-use Rattle.laws.specs.Choice.{if◌then◌else◌}
+use Rattle.std.specs.Prelude.{if◌then◌else◌}
 use Rattle.protocol.specs.Numbers.{number_at, distance}
 use Rattle.protocol.specs.Units.{DataUnit, Segment, blank, cut, units, endings, whole_to, first_unit}
 use Rattle.protocol.specs.Ends

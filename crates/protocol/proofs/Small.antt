@@ -11,7 +11,7 @@ use native.Mathlib.Omega.{arith}
 use borrow.Author.Tests.{eqb-true, eqb-false}
 use lib.Dec.{ltb, eqb}
 use lib.ListN.{length}
-use Rattle.laws.specs.Choice.{if◌then◌else◌}
+use Rattle.std.specs.Prelude.{if◌then◌else◌}
 use Rattle.laws.proofs.Choice.{both}
 use Rattle.protocol.specs.Units.{Segment, first_unit, one_more}
 use Rattle.protocol.specs.Ends.{Phase, fresh, enabled, opened, closing, shut, rank, is_open, is_shut, put}

@@ -1,6 +1,5 @@
 -- What the two ends of a channel have in common over one opening.
-use Rattle.std.specs.Prelude.{ℕ, Bool, [], eqb}
-use Rattle.laws.specs.Choice.{if◌then◌else◌}
+use Rattle.std.specs.Prelude.{ℕ, Bool, [], eqb, if◌then◌else◌}
 use Rattle.protocol.specs.Units.{DataUnit, Segment, blank}
 
 -- window k, slots, most payload octets P, most segments in a unit M

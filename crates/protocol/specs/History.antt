@@ -1,6 +1,5 @@
 -- A history, and what is read from it: from the calls and their answers alone, never from what an end remembers.
-use Rattle.std.specs.Prelude.{ℕ, ◌+◌, ◌≡◌, ◌⊎◌, Bool, ◌||◌, List, [], ◌∷◌, ◌++◌, eqb}
-use Rattle.laws.specs.Choice.{if◌then◌else◌}
+use Rattle.std.specs.Prelude.{ℕ, ◌+◌, ◌≡◌, ◌⊎◌, Bool, ◌||◌, List, [], ◌∷◌, ◌++◌, eqb, if◌then◌else◌, cond}
 use Rattle.protocol.specs.Units.{DataUnit, Segment}
 use Rattle.protocol.specs.Ends.{Answer}
 use Rattle.protocol.specs.Sending.{SenderCall}
@@ -92,7 +91,7 @@ taken (e ∷ past) = taken_at e.call e.answer (taken past)
 abbrev pub sent_by : SenderCall → Answer → ℕ → Segment → Type 0 → Type 0
 sent_by (SenderCall.control p) a i g P = P
 sent_by (SenderCall.transfer u) a i g P = P
-sent_by (SenderCall.hand_out j) a i g P = if done a then ((j ≡ i) × (a.segment ≡ g)) ⊎ P else P
+sent_by (SenderCall.hand_out j) a i g P = cond (done a) (((j ≡ i) × (a.segment ≡ g)) ⊎ P) P
 sent_by (SenderCall.ack j q) a i g P = P
 sent_by SenderCall.reclaim a i g P = P
 sent_by SenderCall.noise a i g P = P
@@ -112,7 +111,7 @@ replied a = eqb a.number 0 || eqb a.number 15
 -- `Acked past i`: a Data Ack was written for an arrival that is a copy of the segment i.
 abbrev pub acked_by : ReceiverCall → Answer → ℕ → Type 0 → Type 0
 acked_by (ReceiverCall.control p) a i P = P
-acked_by (ReceiverCall.arrival j q g) a i P = if replied a then (j ≡ i) ⊎ P else P
+acked_by (ReceiverCall.arrival j q g) a i P = cond (replied a) ((j ≡ i) ⊎ P) P
 acked_by ReceiverCall.take_unit a i P = P
 acked_by ReceiverCall.noise a i P = P
 

@@ -1,7 +1,6 @@
 -- The receiver's end over one opening, with unbounded indices (document 01, Receiving).
-use Rattle.std.specs.Prelude.{ℕ, zero, suc, ◌+◌, ◌-◌, Bool, true, false, List, [], ◌∷◌, ◌++◌, leb, ltb, length, drop}
+use Rattle.std.specs.Prelude.{ℕ, zero, suc, ◌+◌, ◌-◌, Bool, true, false, List, [], ◌∷◌, ◌++◌, leb, ltb, length, drop, if◌then◌else◌}
 use Rattle.std.proofs.Math.Option.{Option, none, some}
-use Rattle.laws.specs.Choice.{if◌then◌else◌}
 use Rattle.protocol.specs.Numbers.{number_at, distance}
 use Rattle.protocol.specs.Units.{DataUnit, Segment, units, first_unit, on_way, fitting}
 use Rattle.protocol.specs.Ends.{Limits, Phase, fresh, shut, rank, is_open, Answer, say, give_unit, put}

@@ -1,6 +1,5 @@
 -- The sender's end over one opening, with unbounded indices (document 01, Sending).
-use Rattle.std.specs.Prelude.{ℕ, zero, suc, ◌+◌, ◌-◌, Bool, true, false, not, ◌&&◌, List, [], ◌∷◌, ◌++◌, leb, ltb, eqb, length, take, drop, get_or}
-use Rattle.laws.specs.Choice.{if◌then◌else◌}
+use Rattle.std.specs.Prelude.{ℕ, zero, suc, ◌+◌, ◌-◌, Bool, true, false, not, ◌&&◌, List, [], ◌∷◌, ◌++◌, leb, ltb, eqb, length, take, drop, get_or, if◌then◌else◌}
 use Rattle.protocol.specs.Numbers.{number_at, distance}
 use Rattle.protocol.specs.Units.{DataUnit, Segment, blank, cut, units, endings, whole_to, first_unit}
 use Rattle.protocol.specs.Ends.{Limits, Phase, fresh, enabled, opened, closing, shut, rank, is_open, Answer, say, give_unit, give_count, give_segment, put}

@@ -1,6 +1,5 @@
 -- A receive end, step by step (document 01, Receiving; 000, 4.5.2 and 4.5.3.4; its Heartbeat: document 02, A2; Flow Control: A5).
-use Rattle.std.specs.Prelude.{ℕ, ◌-◌, Bool, true, false, not, List, [], ◌∷◌, take, leb, eqb}
-use Rattle.laws.specs.Choice.{if◌then◌else◌}
+use Rattle.std.specs.Prelude.{ℕ, ◌-◌, Bool, true, false, not, List, [], ◌∷◌, take, leb, eqb, if◌then◌else◌}
 use Rattle.slots.specs.Ring.{back_of, cleared}
 use Rattle.packet.specs.declared.kinds.Kind.{Kind}
 use Rattle.packet.specs.declared.kinds.Kind.TheVariants.{DataAck, ControlAck, HeartbeatAck, FlowControl}

@@ -1,6 +1,5 @@
 -- Data at a receive end: sorted by its number, filed where it is new, and the start moved (document 01, Receiving; 000, 4.5.3.4 (1)).
-use Rattle.std.specs.Prelude.{ℕ, ◌*◌, Bool, false, not, List, length, ◌==◌, slice_set}
-use Rattle.laws.specs.Choice.{if◌then◌else◌}
+use Rattle.std.specs.Prelude.{ℕ, ◌*◌, Bool, false, not, List, length, ◌==◌, slice_set, if◌then◌else◌}
 use Rattle.slots.specs.Slots.{laid}
 use Rattle.channel.specs.Places.{slot_of}
 use Rattle.slots.specs.Marks.{mark_of}

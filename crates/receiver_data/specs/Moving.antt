@@ -1,6 +1,5 @@
 -- The window start moves past every leading number held, and flags must read 11, or 01, any 00s, 10 (document 01, Receiving).
-use Rattle.std.specs.Prelude.{ℕ, zero, suc, ◌+◌, ◌-◌, ◌%◌, Bool, true, false, not, ◌&&◌, ◌||◌, List, ◌==◌, nat_eq, nat_lt, slice_index}
-use Rattle.laws.specs.Choice.{if◌then◌else◌}
+use Rattle.std.specs.Prelude.{ℕ, zero, suc, ◌+◌, ◌-◌, ◌%◌, Bool, true, false, not, ◌&&◌, ◌||◌, List, ◌==◌, nat_eq, nat_lt, slice_index, if◌then◌else◌}
 use Rattle.slots.specs.Ring.{round_of}
 use Rattle.slots.specs.Marks.{begins, ends}
 use Rattle.channel.specs.declared.record.Limits.{Limits}

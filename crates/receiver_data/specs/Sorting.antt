@@ -1,6 +1,5 @@
 -- Where the number of an arriving Data packet lies (document 01, Receiving; 000, 4.5.3.4 (1)).
-use Rattle.std.specs.Prelude.{ℕ, ◌+◌, ◌-◌, ◌%◌, Bool, false, not, List, ◌==◌, nat_le, nat_lt, slice_index}
-use Rattle.laws.specs.Choice.{if◌then◌else◌}
+use Rattle.std.specs.Prelude.{ℕ, ◌+◌, ◌-◌, ◌%◌, Bool, false, not, List, ◌==◌, nat_le, nat_lt, slice_index, if◌then◌else◌}
 use Rattle.slots.specs.Ring.{round_of}
 use Rattle.channel.specs.declared.record.Limits.{Limits}
 use Rattle.channel.specs.declared.record.Window.{Window}

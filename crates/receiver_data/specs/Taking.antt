@@ -1,6 +1,5 @@
 -- Taking complete units, the oldest first, in any state (document 01, Receiving; Answer numbers 12 and 11).
-use Rattle.std.specs.Prelude.{ℕ, ◌-◌, List, length, ◌==◌, nat_lt}
-use Rattle.laws.specs.Choice.{if◌then◌else◌}
+use Rattle.std.specs.Prelude.{ℕ, ◌-◌, List, length, ◌==◌, nat_lt, if◌then◌else◌}
 use Rattle.slots.specs.Ring.{cleared}
 use Rattle.slots.specs.Slots.{laid}
 use Rattle.channel.specs.Places.{slot_of}

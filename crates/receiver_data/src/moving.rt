@@ -1,7 +1,6 @@
 // The window start moves past every leading number held. Flags are looked at only there: a segment beyond a gap may not yet have
 // what stands before it.
-ghost use Rattle.std.specs.Prelude.{◌≡◌, ◌+◌, ◌%◌, ◌≤◌, not, nat_eq};
-ghost use Rattle.laws.specs.Choice.{if◌then◌else◌};
+ghost use Rattle.std.specs.Prelude.{◌≡◌, ◌+◌, ◌%◌, ◌≤◌, not, nat_eq, if◌then◌else◌};
 ghost use Rattle.slots.specs.Marks.{begins};
 ghost use Rattle.channel.specs.Asked.{Ringed};
 ghost use Rattle.receiver_data.specs.Moving.{fitting, way_after, passed, moved_of};

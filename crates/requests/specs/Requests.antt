@@ -1,7 +1,6 @@
 -- What a request does to the channel that it names (document 01, Answer numbers: 'Requests test 14, then direction and state (5), then 10, 6, 7,
 -- 12, 11 where they apply').
-use Rattle.std.specs.Prelude.{List, ℕ, eqb, length}
-use Rattle.laws.specs.Choice.{if◌then◌else◌}
+use Rattle.std.specs.Prelude.{List, ℕ, eqb, length, if◌then◌else◌}
 use Rattle.walks.specs.Serving.{works}
 use Rattle.channel.specs.declared.record.Channel.{Channel}
 use Rattle.channel.specs.declared.answer.Answer.TheVariants.{Refused}

@@ -1,6 +1,5 @@
 -- A transmit end: its directives, and what leaving OPEN keeps (document 01, Sending; 000, 4.4.3).
-use Rattle.std.specs.Prelude.{ℕ, ◌+◌, not, eqb}
-use Rattle.laws.specs.Choice.{if◌then◌else◌}
+use Rattle.std.specs.Prelude.{ℕ, ◌+◌, not, eqb, if◌then◌else◌}
 use Rattle.slots.specs.Ring.{round_of}
 use Rattle.channel.specs.declared.record.Limits.{Limits}
 use Rattle.channel.specs.declared.record.Lone.{Lone}

@@ -1,7 +1,6 @@
 -- A tick at a transmit end (document 01, Sending; document 02, A2): each timer falls by one. If one ends and its retries are used up, the channel goes
 -- inactive; otherwise its packet is ready again.
-use Rattle.std.specs.Prelude.{ℕ, ◌-◌, Bool, true, false, ◌||◌, ◌&&◌, List, [], ◌∷◌, map, eqb}
-use Rattle.laws.specs.Choice.{if◌then◌else◌}
+use Rattle.std.specs.Prelude.{ℕ, ◌-◌, Bool, true, false, ◌||◌, ◌&&◌, List, [], ◌∷◌, map, eqb, if◌then◌else◌}
 use Rattle.channel.specs.declared.record.Channel.{Channel}
 use Rattle.channel.specs.declared.lone.Fallen.{Fallen}
 use Rattle.channel.specs.declared.pulse.Beaten.{Beaten}

@@ -1,6 +1,5 @@
 -- Acks at a transmit end (document 01, Sending; 000, 4.4.4.5).
-use Rattle.std.specs.Prelude.{ℕ, ◌+◌, ◌-◌, ◌%◌, Bool, false, not, ◌||◌, List, ◌==◌, nat_lt, slice_index, slice_set}
-use Rattle.laws.specs.Choice.{if◌then◌else◌}
+use Rattle.std.specs.Prelude.{ℕ, ◌+◌, ◌-◌, ◌%◌, Bool, false, not, ◌||◌, List, ◌==◌, nat_lt, slice_index, slice_set, if◌then◌else◌}
 use Rattle.slots.specs.Ring.{run_of, cleared}
 use Rattle.store.specs.Store.{ends_in, last_end_in}
 use Rattle.channel.specs.declared.record.Window.{Window}

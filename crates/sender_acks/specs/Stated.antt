@@ -1,7 +1,6 @@
 -- What an Ack states is recorded (document 02, A5; 000, 4.4.4.6: 'Upon the reception of a Data Ack, Control Ack, or Flow Control Packet, the Transmit TEP
 -- shall record the MASN contained in the Packet'). An Ack that is not taken changes nothing.
-use Rattle.std.specs.Prelude.{ℕ, Bool, true, false, ◌&&◌, ◌==◌}
-use Rattle.laws.specs.Choice.{if◌then◌else◌}
+use Rattle.std.specs.Prelude.{ℕ, Bool, true, false, ◌&&◌, ◌==◌, if◌then◌else◌}
 use Rattle.channel.specs.declared.record.Pulse.{Pulse}
 use Rattle.channel.specs.declared.record.Channel.{Channel}
 use Rattle.channel.specs.declared.answer.Answer.{Answer}

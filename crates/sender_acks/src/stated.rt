@@ -1,6 +1,5 @@
 // What an Ack states is recorded (document 02, A5), if it is taken.
-ghost use Rattle.std.specs.Prelude.{◌≡◌, ◌&&◌, ◌==◌};
-ghost use Rattle.laws.specs.Choice.{if◌then◌else◌};
+ghost use Rattle.std.specs.Prelude.{◌≡◌, ◌&&◌, ◌==◌, if◌then◌else◌};
 ghost use Rattle.channel.specs.Record.{opened};
 ghost use Rattle.channel.specs.Asked.{Ringed};
 ghost use Rattle.channel.specs.Flow.{recorded_first};

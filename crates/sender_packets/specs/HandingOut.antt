@@ -1,8 +1,7 @@
 -- Of which ranks a packet of a channel is ready, and the hand-out of that of a rank (document 01, Sending: Control, resent Data, new Data; within a
 -- channel the lowest segment; document 02, A2: a Heartbeat ranks with Control; A5: so does Flow Control, last in a channel, and new Data asks the
 -- number recorded).
-use Rattle.std.specs.Prelude.{ℕ, zero, suc, ◌+◌, ◌-◌, ◌%◌, Bool, false, not, ◌&&◌, ◌||◌, List, [], ◌∷◌, length, take, ◌==◌, nat_eq, nat_lt, slice_index, slice_set}
-use Rattle.laws.specs.Choice.{if◌then◌else◌}
+use Rattle.std.specs.Prelude.{ℕ, zero, suc, ◌+◌, ◌-◌, ◌%◌, Bool, false, not, ◌&&◌, ◌||◌, List, [], ◌∷◌, length, take, ◌==◌, nat_eq, nat_lt, slice_index, slice_set, if◌then◌else◌}
 use Rattle.slots.specs.Ring.{round_of}
 use Rattle.slots.specs.Slots.{segment_in}
 use Rattle.channel.specs.Places.{slot_of}

@@ -1,6 +1,6 @@
 // Of which ranks a packet of a channel is ready (Control, the Heartbeat or Flow Control, resent Data, new Data), of each the lowest segment; and the hand-out of that of
 // a rank, whole or not at all.
-ghost use Rattle.std.specs.Prelude.{◌≡◌, ◌+◌, ◌-◌, ◌<◌, ◌≤◌, true, not, ◌&&◌, ◌||◌, length, ◌==◌, slice_index};
+ghost use Rattle.std.specs.Prelude.{◌≡◌, ◌+◌, ◌-◌, ◌<◌, ◌≤◌, true, not, ◌&&◌, ◌||◌, length, ◌==◌, slice_index, if◌then◌else◌};
 ghost use Rattle.channel.specs.Record.{receives, enabled, opened, closing};
 ghost use Rattle.channel.specs.Flow.{stated, flow_number, may_follow};
 ghost use Rattle.packet.specs.declared.kinds.Kind.TheVariants.{Open, Close, Heartbeat, FlowControl};
@@ -8,7 +8,6 @@ ghost use Rattle.channel.specs.Prefixes.{fit_prefix};
 ghost use Rattle.channel.specs.Lone.{is_ready};
 ghost use Rattle.channel.specs.Asked.{Ringed, Asked};
 ghost use Rattle.sender_packets.specs.HandingOut.{again_in, again_at, ready_open, next_in_window, ranks_of, timed_at, lone_sent, beside_out, single_out, single_count, single_payload, again_out, new_out, single_fields, data_fields, sent_step, sent_out, hand_step, hand_out};
-ghost use Rattle.laws.specs.Choice.{if◌then◌else◌};
 ghost use Rattle.slots.specs.Slots.{segment_in};
 ghost use Rattle.channel.specs.Places.{slot_of};
 ghost use Rattle.sender.specs.Directives.{place_at};

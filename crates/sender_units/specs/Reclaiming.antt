@@ -1,6 +1,5 @@
 -- In CLOSED the application reclaims the units held, whole and oldest first (document 01, Sending; Answer numbers 5, 12, 11).
-use Rattle.std.specs.Prelude.{ℕ, ◌+◌, ◌-◌, not, List, ltb, eqb, length}
-use Rattle.laws.specs.Choice.{if◌then◌else◌}
+use Rattle.std.specs.Prelude.{ℕ, ◌+◌, ◌-◌, not, List, ltb, eqb, length, if◌then◌else◌}
 use Rattle.slots.specs.Ring.{round_of, cleared}
 use Rattle.slots.specs.Slots.{laid}
 use Rattle.channel.specs.Places.{slot_of}

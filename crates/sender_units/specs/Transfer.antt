@@ -1,6 +1,5 @@
 -- Transfer of a unit: ask, then file (document 01, Sending; Answer numbers 5, 6, 7).
-use Rattle.std.specs.Prelude.{ℕ, ◌+◌, Bool, not, List, ltb, eqb, length}
-use Rattle.laws.specs.Choice.{if◌then◌else◌}
+use Rattle.std.specs.Prelude.{ℕ, ◌+◌, Bool, not, List, ltb, eqb, length, if◌then◌else◌}
 use Rattle.slots.specs.Ring.{cleared}
 use Rattle.channel.specs.Places.{slot_of}
 use Rattle.slots.specs.Units.{segments_of}

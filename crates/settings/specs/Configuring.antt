@@ -1,7 +1,6 @@
 -- Settings for a whole table (document 01, A channel's record and memory): 'Settings come for a whole table at once: that call reads no old
 -- record, makes every channel CLOSED and empty, and alone may drop held units'. All others are refused with 13, and nothing changes.
-use Rattle.std.specs.Prelude.{ℕ, Bool, ◌&&◌, List, map, eqb, length}
-use Rattle.laws.specs.Choice.{if◌then◌else◌}
+use Rattle.std.specs.Prelude.{ℕ, Bool, ◌&&◌, List, map, eqb, length, if◌then◌else◌}
 use Rattle.walks.specs.Serving.{Changed, changes}
 use Rattle.lines.specs.Lines.{no_lines}
 use Rattle.channel.specs.declared.record.Settings.{Settings}

@@ -1,6 +1,5 @@
 -- How the settings of a table are looked at, one after another. What it amounts to is `configured` (specs/Configuring.antt): a reader need not look here.
-use Rattle.std.specs.Prelude.{ℕ, zero, suc, ◌+◌, Bool, true, false, not, ◌&&◌, ◌||◌, List, [], ltb, leb, eqb, length, get_or, set, replicate}
-use Rattle.laws.specs.Choice.{if◌then◌else◌}
+use Rattle.std.specs.Prelude.{ℕ, zero, suc, ◌+◌, Bool, true, false, not, ◌&&◌, ◌||◌, List, [], ltb, leb, eqb, length, get_or, set, replicate, if◌then◌else◌}
 use Rattle.walks.specs.Fold.{fold_from}
 use Rattle.lines.specs.Lines.{no_lines}
 use Rattle.channel.specs.declared.record.Addresses.{Addresses}

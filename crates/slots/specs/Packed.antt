@@ -1,6 +1,5 @@
 -- Marks in a row, and eight of them as one word of the machine.
-use Rattle.std.specs.Prelude.{ℕ, zero, suc, ◌+◌, ◌*◌, List, get_or, eqb}
-use Rattle.laws.specs.Choice.{if◌then◌else◌}
+use Rattle.std.specs.Prelude.{ℕ, zero, suc, ◌+◌, ◌*◌, List, get_or, eqb, if◌then◌else◌}
 
 -- of the n marks from a place on, in a row, how many are set before the first that is not; past the last mark none is set
 unfoldable pub row_of : List ℕ → ℕ → ℕ → ℕ

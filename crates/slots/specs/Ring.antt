@@ -1,7 +1,6 @@
 -- The ring of slots: places from 0 to slots - 1, where 0 follows the last, and a mark at each, 0 or not (document 01, A channel's record and
 -- memory). What the marks stand for is the caller's business.
-use Rattle.std.specs.Prelude.{ℕ, zero, suc, ◌+◌, ◌-◌, List, get_or, set, ltb, eqb}
-use Rattle.laws.specs.Choice.{if◌then◌else◌}
+use Rattle.std.specs.Prelude.{ℕ, zero, suc, ◌+◌, ◌-◌, List, get_or, set, ltb, eqb, if◌then◌else◌}
 
 -- a place on the ring, at most one turn past its end
 unfoldable pub round_of : ℕ → ℕ → ℕ

@@ -1,6 +1,5 @@
 -- How a unit is cut into segments (document 01, Sending): all but the last have P octets, and an empty unit is one whole segment of 0 octets.
-use Rattle.std.specs.Prelude.{ℕ, zero, suc, ◌+◌, ◌-◌, ◌*◌, ◌/◌, List, [], ◌++◌, take, drop, eqb}
-use Rattle.laws.specs.Choice.{if◌then◌else◌}
+use Rattle.std.specs.Prelude.{ℕ, zero, suc, ◌+◌, ◌-◌, ◌*◌, ◌/◌, List, [], ◌++◌, take, drop, eqb, if◌then◌else◌}
 
 -- how many segments of at most `most` octets a unit of n octets has
 abbrev pub segments_of : ℕ → ℕ → ℕ

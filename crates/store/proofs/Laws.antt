@@ -11,7 +11,7 @@ use borrow.Author.Tests.{ltb-true, ltb-false, le-leb, lt-leb}
 use lib.Dec.{eqb, ltb}
 use lib.ListN.{length, get_or, set, take, drop, length-append, length-drop, length-set}
 use lib.Seq.{length-take-le, take_all, get_or-set_same, get_or-set_other}
-use Rattle.laws.specs.Choice.{if◌then◌else◌}
+use Rattle.std.specs.Prelude.{if◌then◌else◌}
 use Rattle.slots.specs.Ring.{round_of}
 use Rattle.slots.proofs.RingLaws.{round_out, round_lt, round_add, round_apart, first_place, next_place}
 use Rattle.slots.specs.Marks.{mark_of, ends}

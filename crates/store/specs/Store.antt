@@ -1,7 +1,6 @@
 -- Units on the ring of slots (document 01, A channel's record and memory, Sending, Receiving): of the n segments in the slots from a place on,
 -- round the ring, where units end, how many octets they have, and the octets themselves; and a unit filed there, segment by segment.
-use Rattle.std.specs.Prelude.{ℕ, zero, suc, ◌+◌, ◌*◌, ◌≤◌, ◌<◌, Bool, List, [], ◌++◌, length, get_or, set}
-use Rattle.laws.specs.Choice.{if◌then◌else◌}
+use Rattle.std.specs.Prelude.{ℕ, zero, suc, ◌+◌, ◌*◌, ◌≤◌, ◌<◌, Bool, List, [], ◌++◌, length, get_or, set, if◌then◌else◌}
 use Rattle.slots.specs.Ring.{round_of}
 use Rattle.slots.specs.Marks.{mark_of, ends}
 use Rattle.slots.specs.Slots.{laid, segment_in}

@@ -1,6 +1,5 @@
 // A unit is cut into segments, and each is filed in a slot, from a place on.
-ghost use Rattle.std.specs.Prelude.{◌≡◌, ◌+◌, ◌-◌, ◌*◌, ◌<◌, ◌≤◌, length, take, drop, set, ltb};
-ghost use Rattle.laws.specs.Choice.{if◌then◌else◌};
+ghost use Rattle.std.specs.Prelude.{◌≡◌, ◌+◌, ◌-◌, ◌*◌, ◌<◌, ◌≤◌, length, take, drop, set, ltb, if◌then◌else◌};
 ghost use Rattle.slots.specs.Slots.{Sized, laid};
 ghost use Rattle.channel.specs.Pairs.{filed};
 ghost use Rattle.channel.specs.Places.{slot_in};

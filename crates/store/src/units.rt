@@ -1,6 +1,5 @@
 // Where units end among the n segments from a place on, by their marks.
-ghost use Rattle.std.specs.Prelude.{◌≡◌, ◌<◌, ◌≤◌};
-ghost use Rattle.laws.specs.Choice.{if◌then◌else◌};
+ghost use Rattle.std.specs.Prelude.{◌≡◌, ◌<◌, ◌≤◌, if◌then◌else◌};
 ghost use Rattle.slots.specs.Marks.{ends};
 ghost use Rattle.store.specs.Store.{unit_of, ends_in, last_end_in};
 

@@ -10,7 +10,7 @@ use borrow.Author.Tests.{ltb-true, ltb-false, lt-ltb, le-ltb, le-leb, leb-true, 
 use lib.Dec.{ltb, leb, eqb}
 use lib.ListN.{length, get_or, set, take, drop, length-take, length-drop}
 use lib.Seq.{length-take-le}
-use Rattle.laws.specs.Choice.{if◌then◌else◌}
+use Rattle.std.specs.Prelude.{if◌then◌else◌}
 use Rattle.laws.proofs.Choice.{both, chosen, passed_by}
 use Rattle.slots.specs.Slots.{Sized, laid}
 use Rattle.lines.specs.Lines.{no_lines}

@@ -1,6 +1,5 @@
 -- How the survey of a table goes, record by record. What it amounts to is `serveOne` (Serving.antt): a reader need not look here.
-use Rattle.std.specs.Prelude.{◌≡◌, ℕ, ◌+◌, ◌≤◌, ◌<◌, Bool, true, false, not, ◌&&◌, List, ltb, leb, eqb, length, take, drop}
-use Rattle.laws.specs.Choice.{if◌then◌else◌}
+use Rattle.std.specs.Prelude.{◌≡◌, ℕ, ◌+◌, ◌≤◌, ◌<◌, Bool, true, false, not, ◌&&◌, List, ltb, leb, eqb, length, take, drop, if◌then◌else◌}
 use Rattle.slots.specs.Slots.{Sized, laid}
 use Rattle.walks.specs.Fold.{fold_from}
 use Rattle.lines.specs.Lines.{no_lines}

@@ -1,7 +1,6 @@
 -- Who waits to hand out a packet, and in which line (document 02, A4): 'a channel joins the line of a rank when it first has a ready packet of
 -- that rank, is served from the head, and rejoins at the tail if it has more'.
-use Rattle.std.specs.Prelude.{ℕ, Bool, true, false, ◌&&◌, List, ltb, eqb}
-use Rattle.laws.specs.Choice.{if◌then◌else◌}
+use Rattle.std.specs.Prelude.{ℕ, Bool, true, false, ◌&&◌, List, ltb, eqb, if◌then◌else◌}
 use Rattle.lines.specs.Lines.{relist_all, served_from}
 use Rattle.lines.specs.Grades.{grade_of}
 use Rattle.channel.specs.declared.record.Channel.{Channel}

@@ -1,8 +1,7 @@
 // Who waits to hand out a packet, and what a call does to the lines (document 02, A4).
-ghost use Rattle.std.specs.Prelude.{◌≡◌, ◌<◌};
+ghost use Rattle.std.specs.Prelude.{◌≡◌, ◌<◌, if◌then◌else◌};
 ghost use Rattle.lines.specs.Fit.{Fit};
 ghost use Rattle.table.specs.Waiting.{waiting_of, rank_in, moved_with, may_move};
-ghost use Rattle.laws.specs.Choice.{if◌then◌else◌};
 
 use crate::looking::Sought;
 use channel::record::SENDS;

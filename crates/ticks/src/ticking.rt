@@ -1,10 +1,9 @@
 // A tick of the whole node: every channel is ticked, each alone, and listed by what is then ready.
-ghost use Rattle.std.specs.Prelude.{◌≡◌};
+ghost use Rattle.std.specs.Prelude.{◌≡◌, if◌then◌else◌};
 ghost use Rattle.channel.specs.Asked.{Ringed};
 ghost use Rattle.ticks.specs.Ticking.{ticked_by, first_by, next_at, lined_by, round_by, turned_by, quiet};
 ghost use Rattle.walks.specs.Sweep.{Every};
 ghost use Rattle.walks.specs.Serving.{changes, telling};
-ghost use Rattle.laws.specs.Choice.{if◌then◌else◌};
 ghost use Rattle.channel.specs.declared.answer.Answer.TheVariants.{Done, Inactive};
 ghost use Rattle.channel.specs.declared.answer.Refusal.TheVariants as refusal;
 ghost use Rattle.channel.specs.declared.record.Channel.{Channel as Record};

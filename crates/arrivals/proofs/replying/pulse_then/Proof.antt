@@ -1,7 +1,7 @@
 -- `arrivals::replying::pulse_then` meets its contract: by the answer.
 -- Assumes nothing.
 use mathlib.Core.Path.{sym, ap, ◌∙◌}
-use Rattle.laws.specs.Choice.{if◌then◌else◌}
+use Rattle.std.specs.Prelude.{if◌then◌else◌}
 use Rattle.channel.specs.declared.answer.Answer.{Answer}
 use Rattle.channel.specs.Flow.{replied_in}
 use Rattle.arrivals.specs.Replying.{replies}

@@ -1,6 +1,6 @@
 -- `sender_acks::stated::control_ack_stated` meets its contract: by its parts.
 use Rattle.std.proofs.Common.{Bool, ◌&&◌, eqb, ap, ◌∙◌}
-use Rattle.laws.specs.Choice.{if◌then◌else◌}
+use Rattle.std.specs.Prelude.{if◌then◌else◌}
 use Rattle.channel.specs.Record.{opened}
 use Rattle.channel.specs.Flow.{recorded_first}
 use Rattle.sender_acks.specs.Stated.{with_stated, heeding_first, control_ack_stated}
