@@ -3,7 +3,7 @@
 use mathlib.Core.Path.{◌≡◌, refl, sym, ap, ◌∙◌}
 use mathlib.Core.Bool.{Bool, true, false}
 use mathlib.Core.List.{List, []}
-use Prim.Native.Nat.{ℕ, ◌+◌, ◌<◌}
+use Prim.Native.Nat.{ℕ}
 use native.Mathlib.Nat.{add-zero, pos_of_ne-zero}
 use borrow.Author.Tests.{eqb-true, eq-eqb}
 use lib.Dec.{eqb}
@@ -17,7 +17,7 @@ use Rattle.packet.specs.Kinds.{kind_of}
 use Rattle.channel.specs.declared.record.Addresses.{Addresses}
 use Rattle.channel.specs.declared.record.Prefix.{Prefix}
 use Rattle.channel.specs.Record.{sends, receives}
-use Rattle.table.specs.Looking.{same, flow_finds}
+use Rattle.table.specs.Looking.{same}
 use Rattle.table.proofs.OneLaws.{kind_finds}
 use Rattle.walks.specs.Serving.{Worked, works}
 use Rattle.channel.specs.declared.record.Node.{Node}

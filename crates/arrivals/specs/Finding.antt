@@ -1,5 +1,5 @@
 -- Which channel an arriving packet is for (document 01, Answer numbers: 'Arrivals test 11, 1, 2, 4, 3, 14, ..').
-use Rattle.std.specs.Prelude.{ℕ, Bool, ◌&&◌, List, ltb, eqb, length, take, drop}
+use Rattle.std.specs.Prelude.{ℕ, Bool, ◌&&◌, List, ltb, eqb, take, drop}
 use Rattle.laws.specs.Choice.{if◌then◌else◌}
 use Rattle.packet.specs.declared.fields.Fields.{Fields}
 use Rattle.packet.specs.declared.reading.Read.{Read}

@@ -1,0 +1,1 @@
+-- `arrivals::finding::look_for` meets its contract: by what `is_ours` says.
