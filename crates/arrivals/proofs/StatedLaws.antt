@@ -1,14 +1,11 @@
--- Laws of what an Ack or Flow Control states: where the number lies in the packet, and which end a packet of type 6 is for.
+-- Laws of type 6: which end a packet of it is for, and that it leaves the memory and the lengths.
 -- Assumes nothing.
-use mathlib.Core.Path.{◌≡◌, refl, sym, ap, ◌∙◌}
+use mathlib.Core.Path.{◌≡◌, refl, ◌∙◌}
 use mathlib.Core.Bool.{Bool, true, false}
 use mathlib.Core.List.{List, []}
 use Prim.Native.Nat.{ℕ}
-use native.Mathlib.Nat.{add-zero, pos_of_ne-zero}
 use borrow.Author.Tests.{eqb-true, eq-eqb}
 use lib.Dec.{eqb}
-use lib.ListN.{get_or, take, drop}
-use lib.Seq.{get_or-take, get_or-drop}
 use Rattle.laws.specs.Choice.{if◌then◌else◌}
 use Rattle.laws.proofs.Choice.{chosen}
 use Rattle.packet.specs.declared.fields.Fields.{Fields}
@@ -26,14 +23,7 @@ use Rattle.channel.specs.declared.step.Stepped.{Stepped}
 use Rattle.channel.specs.Flow.{flow_step, flow_ack_step}
 use Rattle.receiver.specs.declared.acks.Acked.TheVariants as acked
 use Rattle.arrivals.specs.Replying.{replying}
-use Rattle.arrivals.specs.Arriving.{stated_in, six_for}
-
-pub stated_none : (l : List ℕ) (n : ℕ) → n ≡ 0 → 0 ≡ stated_in (take n l)
-stated_none l n e = sym (ap (λ (k : ℕ). stated_in (take k l)) e)
-
-pub stated_some : (s : List ℕ) (start n : ℕ) → (n ≡ 0 → ⊥) → get_or s start 0 ≡ stated_in (take n (drop start s))
-stated_some s start n some =
-    sym (get_or-take n (drop start s) 0 0 (pos_of_ne-zero some) ∙ get_or-drop start s 0 0 ∙ ap (λ (k : ℕ). get_or s k 0) (add-zero start))
+use Rattle.arrivals.specs.Arriving.{six_for}
 
 -- what comes to a sender carries an octet
 pub six_carries : (a : Addresses) (f : Fields) (x : ℕ) (q : Prefix) → same a f x q ≡ true → kind_of f.kind ≡ FlowControl → (a.direction ≡ receives → ⊥) → x ≡ 0 → ⊥

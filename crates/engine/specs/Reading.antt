@@ -1,5 +1,5 @@
 -- What the reader of a trace promises of one call, and of any number of calls over any pieces.
-use Rattle.std.specs.Prelude.{◌≡◌, Bool, true, false, List, [], ◌∷◌, ◌++◌, ℕ, ◌+◌, ◌-◌, ◌≤◌, ◌<◌, ltb, length, take, drop}
+use Rattle.std.specs.Prelude.{◌≡◌, true, false, List, [], ◌∷◌, ◌++◌, ℕ, ◌+◌, ◌-◌, ◌≤◌, ◌<◌, ltb, length, take, drop}
 use Rattle.laws.specs.Choice.{if◌then◌else◌}
 use Rattle.engine.specs.declared.reading.Fed.{Fed}
 use Rattle.engine.specs.Trace.{Entry, Records, little_at, records_from, records_of}

@@ -1,1 +1,0 @@
--- `arrivals::finding::look_for` meets its contract: by what `is_ours` says.
