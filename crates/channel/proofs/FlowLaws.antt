@@ -13,7 +13,7 @@ use Rattle.channel.specs.declared.answer.Refusal.TheVariants as refusal
 use Rattle.channel.specs.Record.{opened, lone_none, no_lone, with_pulse}
 use Rattle.channel.specs.Lone.{ready_lone, is_out}
 use Rattle.channel.specs.Steps.{refusing, doing, outgoing_length}
-use Rattle.channel.specs.Flow.{flows, acceptable, stated, with_flow, told_by, telling_in, replied_in, answered_by, flow_ack_step, recording, recorded_first, flow_out, flow_step}
+use Rattle.channel.specs.Flow.{flows, acceptable, stated, with_flow, telling_in, replied_in, answered_by, flow_ack_step, recording, recorded_first, flow_step}
 use Rattle.channel.proofs.StandingLaws.{Sane}
 
 -- ---- case by case

@@ -1,6 +1,6 @@
 -- A channel that fit settings make stands, and so does one whose opening begins.
 -- Assumes nothing.
-use Rattle.std.proofs.Common.{◌≡◌, ℕ, ◌-◌, ◌<◌, ◌≤◌, Bool, true, eqb, leb, List, length, get_or, refl, ap, ◌∙◌, zero-le, not-suc-le-zero, arith, lt-ltb, le-leb}
+use Rattle.std.proofs.Common.{◌≡◌, ℕ, ◌-◌, ◌<◌, ◌≤◌, Bool, true, eqb, List, length, get_or, refl, ap, ◌∙◌, zero-le, not-suc-le-zero, arith, lt-ltb, le-leb}
 use lib.ListN.{get_or-replicate}
 use Rattle.laws.proofs.Choice.{both, either}
 use Rattle.channel.specs.declared.record.Settings.{Settings}

@@ -1,7 +1,6 @@
 -- Laws of an end's Heartbeat: what each of its steps gives, case by case, and that the state of its packet keeps a meaning.
 -- Assumes nothing.
-use Rattle.std.proofs.Common.{◌≡◌, ℕ, ◌≤◌, Bool, true, false, not, eqb, leb, refl, arith, eq-eqb, ne_eqb}
-use Rattle.laws.specs.Choice.{if◌then◌else◌}
+use Rattle.std.proofs.Common.{◌≡◌, ℕ, ◌≤◌, true, false, not, eqb, leb, arith, eq-eqb, ne_eqb}
 use Rattle.laws.proofs.Choice.{either}
 use Rattle.channel.specs.declared.record.Limits.{Limits}
 use Rattle.channel.specs.declared.record.Lone.{Lone}

@@ -1,6 +1,6 @@
 -- What fit settings have shown.
 -- Assumes nothing.
-use Rattle.std.proofs.Common.{◌≡◌, ℕ, ◌≤◌, Bool, true, false, ◌&&◌, ◌||◌, eqb, leb, sym, ap, ◌∙◌, le_trans, ne_eqb, eqb-true, leb-true}
+use Rattle.std.proofs.Common.{◌≡◌, ◌≤◌, Bool, true, false, ◌&&◌, ◌||◌, eqb, leb, sym, ap, ◌∙◌, le_trans, ne_eqb, eqb-true, leb-true}
 use Rattle.laws.proofs.Choice.{both}
 use Rattle.channel.specs.declared.record.Addresses.{Addresses}
 use Rattle.channel.specs.declared.record.Limits.{Limits}

@@ -1,6 +1,6 @@
 -- What the settings of a table have shown that are fit: each is, and no two clash.
 -- Assumes nothing.
-use Rattle.std.proofs.Common.{◌≡◌, ℕ, zero, suc, ◌<◌, ◌≤◌, Bool, true, false, not, ◌&&◌, leb, List, [], ◌∷◌, length, get_or, refl, le_of_suc-le-suc, not-suc-le-zero, leb-true}
+use Rattle.std.proofs.Common.{◌≡◌, ℕ, zero, suc, ◌<◌, ◌≤◌, true, false, not, ◌&&◌, leb, List, [], ◌∷◌, length, get_or, le_of_suc-le-suc, not-suc-le-zero, leb-true}
 use borrow.Author.Tests.{not-true}
 use Rattle.laws.proofs.Choice.{both, neither}
 use Rattle.channel.specs.declared.record.Addresses.{Addresses}

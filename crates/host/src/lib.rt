@@ -1,5 +1,6 @@
 // The library for C and Rust: each call under the prefix peat_, over numbers, lent slices and #[repr(C)] structs. None has a `requires`.
 #![tactic(auto)]
+
 pub mod answers;
 pub mod asking;
 pub mod calls;

@@ -1,18 +1,20 @@
--- What the code finds in a line's octets: the place, by the kit's search; and indexes that were passed, by marks.
+-- What the code finds in a line's octets: the place, by std's search; and indexes that were passed, by marks.
 -- Assumes nothing.
 use mathlib.Core.Path.{◌≡◌, refl, sym, ap, ap₂, ◌∙◌, subst}
 use mathlib.Core.Bool.{Bool, true, false, not, ◌&&◌, and-false, and-true}
-use mathlib.Core.Logic.{◌⊎◌, ⊎_elim}
-use mathlib.Core.List.{List, [], ◌∷◌, ◌++◌, append-nil}
+use mathlib.Core.Logic.{⊎_elim}
+use mathlib.Core.List.{List, [], ◌∷◌, ◌++◌}
 use Prim.Native.Nat.{ℕ, zero, suc, ◌+◌, ◌-◌, ◌*◌, ◌≤◌, ◌<◌, min}
 use native.Mathlib.Numerals.{add-one}
 use native.Mathlib.Omega.{arith}
 use borrow.Author.Tests.{eq-eqb, ne_eqb, lt-ltb, le-ltb}
 use lib.Dec.{eqb, ltb}
-use lib.ListN.{length, get_or, set, take, drop, replicate, length-set, length-take, length-drop, drop_of_length-le}
+use lib.ListN.{length, get_or, set, take, drop, replicate, length-set, length-drop, drop_of_length-le}
 use lib.Seq.{get_or-set_same, get_or-set_other, drop-cons, drop-drop, length-take-le, get_or-take, get_or-drop, take-length, take_all}
-use Rattle.laws.proofs.Choice.{first_not, last_not}
-use Rattle.laws.proofs.Lists.{take_drop}
+use Rattle.std.proofs.Common.{◌==◌, cond, Some, None, position}
+use Rattle.std.specs.List.{position_or_len}
+use Rattle.std.proofs.lemmas.List.Recursion.{is_position_or_len}
+use Rattle.laws.proofs.Choice.{either_way, first_not, last_not}
 use Rattle.laws.proofs.Numbers.{lt_cases}
 use Rattle.slots.specs.Slots.{laid}
 use Rattle.lines.specs.Lines.{stands, joined, before, line_octets, line_in, part_at, line_at, with_line}
@@ -25,27 +27,20 @@ use Rattle.lines.proofs.GradeLaws as grade
 
 -- ---- the place
 
--- the part of a list from a place to another
-abbrev pub slice : ℕ → ℕ → List ℕ → List ℕ
-slice from to l = drop from (take to l)
-
--- where the first i stands, or the length if none does
-abbrev index_after : Bool → ℕ → ℕ
-index_after true n = 0
-index_after false n = suc n
-
-abbrev pub index_of : ℕ → List ℕ → ℕ
-index_of i [] = 0
-index_of i (x ∷ l) = index_after (eqb x i) (index_of i l)
-
-index_before : (i : ℕ) (l : List ℕ) → index_of i l ≡ before i l
+-- how many the search passes stand before i
+passed : (i : ℕ) (l : List ℕ) → position_or_len (λ x. x == i) l ≡ before i l
 unfolding before
-index_before i [] = refl
-index_before i (x ∷ l) =
-    ⊎_elim
-    (λ e. ap (λ (t : Bool). index_after t (index_of i l)) (eq-eqb x i e) ∙ sym (line.before_head x i l e))
-    (λ n. ap (λ (t : Bool). index_after t (index_of i l)) (ne_eqb x i n) ∙ ap suc (index_before i l) ∙ sym (line.before_past x i l n))
-    (line.same_or_not x i)
+passed i l = sym (is_position_or_len (before i) (λ x. x == i) refl (λ x t. ap (cond (x == i) 0) (omega arith)) l)
+
+search_there : (i : ℕ) (l : List ℕ) → stands i l ≡ true → position (λ x. x == i) l ≡ Some (before i l)
+search_there i l e =
+    ap (λ (n : ℕ). cond (ltb n (length l)) (Some n) None) (passed i l)
+    ∙ ap (λ (t : Bool). cond t (Some (before i l)) None) (lt-ltb (before i l) (length l) (line.before_lt i l e))
+
+search_none : (i : ℕ) (l : List ℕ) → stands i l ≡ false → position (λ x. x == i) l ≡ None
+search_none i l e =
+    ap (λ (n : ℕ). cond (ltb n (length l)) (Some n) None) (passed i l ∙ line.before_all i l e)
+    ∙ ap (λ (t : Bool). cond t (Some (length l)) None) (le-ltb (length l) (length l) (omega arith))
 
 -- of more than there are, all
 take_most : (n : ℕ) (l : List ℕ) → take (min n (length l)) l ≡ take n l
@@ -55,32 +50,27 @@ take_most n l =
     (λ h. let e : min n (length l) ≡ length l = omega arith in ap (λ (k : ℕ). take k l) e ∙ take-length l ∙ sym (take_all n l h))
     (lt_cases n (length l))
 
-module _ (o : List ℕ) (size : length o ≡ 17) where
-  -- a count of more than 16 reads as 16
-  line_count : length (line_in o) ≡ min (get_or o 0 0) 16
+-- the row that is searched: a count of more than 16 reads as 16
+module _ (o : List ℕ) (size : length o ≡ 17) (end : ℕ) (e : end ≡ min (get_or o 0 0) 16 + 1) (i : ℕ) where
+  row_line : take (end - 1) (drop 1 o) ≡ line_in o
   unfolding line_in
-  line_count = omega (arith, length-take (get_or o 0 0) (drop 1 o), length-drop 1 o)
+  row_line =
+      let n : end - 1 ≡ min (get_or o 0 0) (length (drop 1 o)) = omega (arith, length-drop 1 o) in
+      ap (λ (k : ℕ). take k (drop 1 o)) n ∙ take_most (get_or o 0 0) (drop 1 o)
 
-  slice_line : slice 1 (min (get_or o 0 0) 16 + 1) o ≡ line_in o
-  unfolding line_in
-  slice_line =
-      let e : min (get_or o 0 0) 16 + 1 ≡ 1 + min (get_or o 0 0) (length (drop 1 o)) = omega (arith, length-drop 1 o) in
-      ap (λ (k : ℕ). drop 1 (take k o)) e
-      ∙ sym (take_drop 1 (min (get_or o 0 0) (length (drop 1 o))) o)
-      ∙ take_most (get_or o 0 0) (drop 1 o)
+  pub place_found : (k : ℕ) → Some k ≡ position (λ x. x == i) (take (end - 1) (drop 1 o)) → k ≡ place_in i (line_in o)
+  place_found k h =
+      let f : Some k ≡ position (λ x. x == i) (line_in o) = h ∙ ap (position (λ x. x == i)) row_line in
+      either_way (stands i (line_in o))
+      (λ s. let there = f ∙ search_there i (line_in o) s in cc (there, grade.place_there i (line_in o) s))
+      (λ s. let none = f ∙ search_none i (line_in o) s in absurd (cc none))
 
-  module _ (i at : ℕ) (e : at ≡ 1 + index_of i (slice 1 (min (get_or o 0 0) 16 + 1) o)) where
-    at_before : at ≡ 1 + before i (line_in o)
-    at_before = e ∙ ap (λ (k : ℕ). 1 + k) (ap (index_of i) slice_line ∙ index_before i (line_in o))
-
-    pub place_found : at < min (get_or o 0 0) 16 + 1 → at - 1 ≡ place_in i (line_in o)
-    place_found h =
-        let there = line.stands_there i (line_in o) (omega (arith, at_before, line_count)) in
-        omega (arith, at_before, grade.place_there i (line_in o) there)
-
-    pub place_missing : min (get_or o 0 0) 16 + 1 ≤ at → 16 ≡ place_in i (line_in o)
-    place_missing h =
-        sym (grade.place_none i (line_in o) (line.stands_nowhere i (line_in o) (omega (arith, at_before, line_count))))
+  pub place_missing : None ≡ position (λ x. x == i) (take (end - 1) (drop 1 o)) → 16 ≡ place_in i (line_in o)
+  place_missing h =
+      let f : None ≡ position (λ x. x == i) (line_in o) = h ∙ ap (position (λ x. x == i)) row_line in
+      either_way (stands i (line_in o))
+      (λ s. let there = f ∙ search_there i (line_in o) s in absurd (cc there))
+      (λ s. sym (grade.place_none i (line_in o) s))
 
 -- where it joins there is room
 pub room_for : (o : List ℕ) → FitLine 16 o → (i : ℕ) → i < 16 → 16 ≤ place_in i (line_in o)
@@ -281,9 +271,3 @@ module _ (o : List ℕ) (size : length o ≡ 17) (few : get_or o 0 0 ≤ 16) (ma
         opened
         ∙ ap₂ (λ (p q : Bool). p && (q && rest)) (lt-ltb x n b) (eq-eqb (get_or marks x 0) 0 z)
         ∙ ap (λ (j : ℕ). fresh (set marks x 1) n (drop j (line_in o))) (sym (add-one k))
-
--- ---- copied whole
-
-pub copied : (a b q : List ℕ) → q ≡ take (length a) a ++ drop (length a) b → length b ≤ length a → q ≡ a
-copied a b q e h =
-    e ∙ ap₂ (λ (x y : List ℕ). x ++ y) (take-length a) (drop_of_length-le b h) ∙ append-nil a

@@ -1,7 +1,7 @@
 -- The lines of channels that wait to be served (document 02, A4: 'a channel joins the line of a rank when it first has a ready packet of that
 -- rank, is served from the head, and rejoins at the tail if it has more'). There are three, one for each rank: 0 Control and Heartbeats, 1
 -- resent Data, 2 new Data. A channel is its index here, and no more.
-use Rattle.std.specs.Prelude.{ℕ, suc, ◌+◌, ◌-◌, ◌*◌, Bool, false, ◌||◌, List, [], ◌∷◌, ◌++◌, eqb, length, get_or, take, drop, replicate}
+use Rattle.std.specs.Prelude.{ℕ, suc, ◌-◌, ◌*◌, Bool, false, ◌||◌, List, [], ◌∷◌, ◌++◌, eqb, length, get_or, take, drop, replicate}
 use Rattle.laws.specs.Choice.{if◌then◌else◌}
 use Rattle.slots.specs.Slots.{laid}
 

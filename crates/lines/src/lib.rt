@@ -1,5 +1,6 @@
 // The lines of channels that wait to be served, one for each rank (document 02, A4), as octets that the caller lends. A channel is its index here.
 #![tactic(auto)]
+
 pub mod fit;
 mod line;
 pub mod ranks;

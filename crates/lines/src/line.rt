@@ -1,5 +1,5 @@
 // One line: 17 octets, how many stand in it, and their indexes from the head on.
-ghost use Rattle.std.specs.Prelude.{◌≡◌, ◌+◌, ◌<◌, min, length};
+ghost use Rattle.std.specs.Prelude.{◌≡◌, ◌+◌, ◌<◌, ◌==◌, min, length, position};
 ghost use Rattle.lines.specs.Lines.{joined, without, relisted, line_octets, line_in};
 ghost use Rattle.lines.specs.Grades.{place_in};
 ghost use Rattle.lines.specs.Fit.{FitLine};
@@ -14,14 +14,23 @@ fn end_of(count: u8) -> usize
     if count < 16 { count as usize + 1 } else { 17 }
 }
 
+// Where the first i of a row stands.
+fn find(row: &[u8], i: u8) -> Option<usize>
+    ensures { result ≡ position (λ x. x == i) row.now }
+{
+    row.iter().position(|x| *x == i)
+}
+
 // How many stand before i.
 pub fn place(line: &[u8], i: u8) -> usize
     requires { length line.now ≡ 17 }
     ensures { result ≡ place_in i (line_in line.now) }
 {
     let end = end_of(line[0]);
-    let at = bytes::scan::find(line, 1, end, i);
-    if at < end { at - 1 } else { NOWHERE }
+    match find(&line[1..end], i) {
+        Some(before) => before,
+        None => NOWHERE,
+    }
 }
 
 // i joins at the tail, unless it stands there.

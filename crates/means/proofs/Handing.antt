@@ -43,9 +43,9 @@ again_unacked acked left slots zero from p b h = absurd (omega arith)
 again_unacked acked left slots (suc n) from p b h =
     let next = round_of slots (from + 1) in
     let rest = again_in acked left slots n next in
-    let go : (t : Bool) → (eqb (get_or acked from 0) 0 && eqb (get_or left from 0) 0) ≡ t → (if t then 0 else suc rest) < suc n
-    → get_or acked (round_of slots (from + (if t then 0 else suc rest))) 0 ≡ 0
-    = λ t. elim t [
+    let go = λ (t : Bool). elim t as
+    (λ t. (eqb (get_or acked from 0) 0 && eqb (get_or left from 0) 0) ≡ t → (if t then 0 else suc rest) < suc n
+    → get_or acked (round_of slots (from + (if t then 0 else suc rest))) 0 ≡ 0) [
       | true ↦ λ e l.
           ap (λ (k : ℕ). get_or acked k 0) (first_place slots from p) ∙ eqb-true _ _ (both (eqb (get_or acked from 0) 0) _ e).0
       | false ↦ λ e l.

@@ -74,8 +74,7 @@ module _ (k : Channel) (mem lens : List ℕ) (base : ℕ) (f : ℕ → Option Se
         room = a.room;
         near = λ i x q. omega (arith, a.near i x q);
         known = λ i h.
-            let go : (b : Bool) → ltb i (length l) ≡ b → f i ≡ some (get_or (l ++ (g ∷ [])) i blank)
-            = λ b. elim b [
+            let go = λ (b : Bool). elim b as (λ b. ltb i (length l) ≡ b → f i ≡ some (get_or (l ++ (g ∷ [])) i blank)) [
               | true ↦ λ t. a.known i (ltb-true i (length l) t) ∙ ap some (sym (get_or-append l (g ∷ []) blank i (ltb-true i (length l) t)))
               | false ↦ λ t.
                   let q : length l ≤ i = ltb-false i (length l) t in
@@ -111,8 +110,7 @@ module _ (k : Channel) (mem lens : List ℕ) (base : ℕ) (f : ℕ → Option Se
       → Goal n m w l
   unfolding moved_by
   moved_within zero m w l on full a top =
-      let past : (o : Option Segment) → f (length l) ≡ o → f (length l) ≡ none
-      = λ o. elim o [
+      let past = λ (o : Option Segment). elim o as (λ o. f (length l) ≡ o → f (length l) ≡ none) [
         | none ↦ λ e. e
         | some g ↦ λ e. absurd (let z : length l < base + slots = a.room (length l) g e in omega (arith, a.behind))
       ]
@@ -122,8 +120,8 @@ module _ (k : Channel) (mem lens : List ℕ) (base : ℕ) (f : ℕ → Option Se
       let c = with_window k w in
       let mark = get_or k.marks w.place 0 in
       let lies : lying c mem lens w.place ≡ f (length l) = here w l on less a in
-      let goes : (m : ℕ) → ((i : ℕ) (g : Segment) → f i ≡ some g → i < length l + m) → (g : Segment) → f (length l) ≡ some g → Goal (suc n) m w l
-      = λ m. elim m [
+      let goes = λ (m : ℕ). elim m as
+      (λ m. ((i : ℕ) (g : Segment) → f i ≡ some g → i < length l + m) → (g : Segment) → f (length l) ≡ some g → Goal (suc n) m w l) [
         | zero ↦ λ top g e. absurd (let z : length l < length l + 0 = top (length l) g e in omega arith)
         | suc m ↦ λ top g e.
             let used : mark ≡ 0 → ⊥ = some_marked c mem lens w.place g (lies ∙ e) in
@@ -136,11 +134,11 @@ module _ (k : Channel) (mem lens : List ℕ) (base : ℕ) (f : ℕ → Option Se
             = ap (λ (o : Option Segment). moved_past (limits_of k.limits) o (λ g. moved (limits_of k.limits) m f (l ++ (g ∷ []))) l) e
             in
             let next = passed slots w mark in
-            let by : (b : Bool) → fitting k.limits.segments (on_way 0 l) g ≡ b
+            let by = λ (b : Bool). elim b as
+            (λ b. fitting k.limits.segments (on_way 0 l) g ≡ b
             → Ended
             (moved_by slots k.limits.segments k.marks (suc n) w)
-            (if b then moved (limits_of k.limits) m f (l ++ (g ∷ [])) else (l, false))
-            = λ b. elim b [
+            (if b then moved (limits_of k.limits) m f (l ++ (g ∷ [])) else (l, false))) [
               | true ↦ λ t.
                   subst (λ (x : Moved). Ended x (moved (limits_of k.limits) m f (l ++ (g ∷ []))))
                   (sym (move_step slots k.limits.segments k.marks w n used (fits ∙ t)))
@@ -155,8 +153,7 @@ module _ (k : Channel) (mem lens : List ℕ) (base : ℕ) (f : ℕ → Option Se
             in subst (Ended (moved_by slots k.limits.segments k.marks (suc n) w)) (sym step) (by (fitting k.limits.segments (on_way 0 l) g) refl)
       ]
       in
-      let at : (o : Option Segment) → f (length l) ≡ o → Goal (suc n) m w l
-      = λ o. elim o [
+      let at = λ (o : Option Segment). elim o as (λ o. f (length l) ≡ o → Goal (suc n) m w l) [
         | none ↦ λ e.
             stopped (suc n) m w l a e (move_stop slots k.limits.segments k.marks w (suc n) (none_unmarked c mem lens w.place (lies ∙ e)))
         | some g ↦ λ e. goes m top g e

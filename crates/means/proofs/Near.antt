@@ -29,14 +29,13 @@ module _ (c : Limits) where
   moved_near : (n : ℕ) (f : ℕ → Option Segment) (l : List Segment) → Near n (length l) (length (moved c n f l).0)
   moved_near zero f l = omega arith
   moved_near (suc n) f l =
-      let fit : (g : Segment) (b : Bool) → Near (suc n) (length l) (length (if b then moved c n f (l ++ (g ∷ [])) else (l, false)).0)
-      = λ g b. elim b [
+      let fit = λ (g : Segment) (b : Bool). elim b as (λ b. Near (suc n) (length l) (length (if b then moved c n f (l ++ (g ∷ [])) else (l, false)).0)) [
         | true ↦ omega (arith, moved_near n f (l ++ (g ∷ [])), length-append l (g ∷ []))
         | false ↦ omega arith
       ]
       in
-      let go : (o : Option Segment) → Near (suc n) (length l) (length (moved_past c o (λ g. moved c n f (l ++ (g ∷ []))) l).0)
-      = λ o. elim o [ none ↦ omega arith | some g ↦ fit g (fitting c.segments (on_way 0 l) g) ]
+      let go = λ (o : Option Segment). elim o as
+      (λ o. Near (suc n) (length l) (length (moved_past c o (λ g. moved c n f (l ++ (g ∷ []))) l).0)) [ none ↦ omega arith | some g ↦ fit g (fitting c.segments (on_way 0 l) g) ]
       in go (f (length l))
 
   module _ (r : Receiver) where

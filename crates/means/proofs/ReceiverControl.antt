@@ -202,7 +202,7 @@ module _ (c : Channel) (mem lens : List ℕ) (r : Receiver) (asked : Asked c mem
         let now : c.phase.state ≡ 1 = state_is enabled e in
         let up : c.phase.state ≡ 0 → ⊥ = λ z. omega arith in
         numbered (omega arith) (omega arith) up
-        (λ zero_is b. elim b [
+        (λ zero_is b. elim b as (λ b. opens ≡ b → Goal (control_step c opens number)) [
           | true ↦ λ q. subst Goal (sym (law.control_open c opens number up zero_is q ∙ law.open_opens c now)) (opens_now e)
           | false ↦ λ q. subst Goal (sym (law.control_close c opens number up zero_is q ∙ law.close_other c (λ z. omega arith) (λ z. omega arith))) idle
         ])
@@ -210,8 +210,7 @@ module _ (c : Channel) (mem lens : List ℕ) (r : Receiver) (asked : Asked c mem
         let was : rank r.phase ≡ 2 = ap rank e in
         let now : c.phase.state ≡ 2 = state_is opened e in
         let up : c.phase.state ≡ 0 → ⊥ = λ z. omega arith in
-        let again : (b : Bool) → eqb c.phase.accepted 0 ≡ b → number ≡ 0 → opens ≡ true → Goal (control_step c opens number)
-        = λ b. elim b [
+        let again = λ (b : Bool). elim b as (λ b. eqb c.phase.accepted 0 ≡ b → number ≡ 0 → opens ≡ true → Goal (control_step c opens number)) [
           | true ↦ λ a zero_is q.
               subst Goal (sym (law.control_open c opens number up zero_is q ∙ law.open_again c (λ z. omega arith) now (eqb-true _ _ a))) idle
           | false ↦ λ a zero_is q.
@@ -220,7 +219,7 @@ module _ (c : Channel) (mem lens : List ℕ) (r : Receiver) (asked : Asked c mem
         ]
         in
         numbered (omega arith) (omega arith) up
-        (λ zero_is b. elim b [
+        (λ zero_is b. elim b as (λ b. opens ≡ b → Goal (control_step c opens number)) [
           | true ↦ λ q. again (eqb c.phase.accepted 0) refl zero_is q
           | false ↦ λ q.
               subst Goal (sym (law.control_close c opens number up zero_is q ∙ law.close_closes c now)) (leaves c.limits.closing (omega arith) (omega arith))
@@ -230,7 +229,7 @@ module _ (c : Channel) (mem lens : List ℕ) (r : Receiver) (asked : Asked c mem
         let now : c.phase.state ≡ 3 = state_is closing e in
         let up : c.phase.state ≡ 0 → ⊥ = λ z. omega arith in
         numbered (omega arith) (omega arith) up
-        (λ zero_is b. elim b [
+        (λ zero_is b. elim b as (λ b. opens ≡ b → Goal (control_step c opens number)) [
           | true ↦ λ q. subst Goal (sym (law.control_open c opens number up zero_is q ∙ law.open_other c (λ z. omega arith) (λ z. omega arith))) idle
           | false ↦ λ q. subst Goal (sym (law.control_close c opens number up zero_is q ∙ law.close_again c (λ z. omega arith) now)) idle
         ])

@@ -85,12 +85,11 @@ module _ (c : Channel) (mem lens : List ℕ) where
       in
       let last : ends (get_or marks from 0) ≡ g.last = ap (λ (x : Segment). x.last) f.is in
       let octets : octets_at c mem lens from ≡ g.octets = ap (λ (x : Segment). x.octets) f.is in
-      let step : (t : Bool)
-      → (if t
+      let step = λ (t : Bool). elim t as
+      (λ t. (if t
       then (part ++ g.octets) ∷ units_in c mem lens [] (length l) next
       else units_in c mem lens (part ++ g.octets) (length l) next)
-      ≡ (if t then (part ++ g.octets) ∷ units [] l else units (part ++ g.octets) l)
-      = λ t. elim t [ true ↦ ap ((part ++ g.octets) ∷◌) (go []) | false ↦ go (part ++ g.octets) ]
+      ≡ (if t then (part ++ g.octets) ∷ units [] l else units (part ++ g.octets) l)) [ true ↦ ap ((part ++ g.octets) ∷◌) (go []) | false ↦ go (part ++ g.octets) ]
       in simp (last, octets) (step g.last)
 
   -- ---- the first of them: how many segments it has, and its octets
@@ -162,8 +161,8 @@ module _ (c : Channel) (mem lens : List ℕ) where
       let next = round_of slots (from + 1) in
       let rest = run_endings l next (after_lt from p) (omega arith) (lies_rest from g l p (omega arith) h) in
       let last : ends (get_or marks from 0) ≡ g.last = ap (λ (x : Segment). x.last) f.is in
-      let step : (t : Bool) → (if t then 1 else 0) + ends_in marks slots (length l) next ≡ (if t then suc (endings l) else endings l)
-      = λ t. elim t [ true ↦ omega (arith, rest) | false ↦ omega (arith, rest) ]
+      let step = λ (t : Bool). elim t as
+      (λ t. (if t then 1 else 0) + ends_in marks slots (length l) next ≡ (if t then suc (endings l) else endings l)) [ true ↦ omega (arith, rest) | false ↦ omega (arith, rest) ]
       in ap (λ (t : Bool). (if t then 1 else 0) + ends_in marks slots (length l) next) last ∙ step g.last
 
   -- the index past the last end, from the index `at` of the first: b if none ends
@@ -183,14 +182,12 @@ module _ (c : Channel) (mem lens : List ℕ) where
       let rest : (b2 : ℕ) → whole_to b2 (suc at) l ≡ whole_by b2 (suc at) r
       = λ b2. run_whole l b2 (suc at) next (after_lt from p) (omega arith) (lies_rest from g l p (omega arith) h)
       in
-      let step : (t : Bool) (k : ℕ)
-      → (if t then whole_by (suc at) (suc at) k else whole_by b (suc at) k) ≡ whole_by b at (last_with t k)
-      = λ t. elim t [
-        | true ↦ λ k. elim k [ zero ↦ (omega arith) | suc k ↦ (omega arith) ]
-        | false ↦ λ k. elim k [ zero ↦ refl | suc k ↦ (omega arith) ]
+      let step = λ (t : Bool). elim t as (λ t. (k : ℕ) → (if t then whole_by (suc at) (suc at) k else whole_by b (suc at) k) ≡ whole_by b at (last_with t k)) [
+        | true ↦ λ k. elim k as (λ k. whole_by (suc at) (suc at) k ≡ whole_by b at (last_with true k)) [ zero ↦ (omega arith) | suc k ↦ (omega arith) ]
+        | false ↦ λ k. elim k as (λ k. whole_by b (suc at) k ≡ whole_by b at (last_with false k)) [ zero ↦ refl | suc k ↦ (omega arith) ]
       ]
       in
-      let two : (t : Bool) → (if t then whole_to (suc at) (suc at) l else whole_to b (suc at) l) ≡ (if t then whole_by (suc at) (suc at) r else whole_by b (suc at) r)
-      = λ t. elim t [ true ↦ rest (suc at) | false ↦ rest b ]
+      let two = λ (t : Bool). elim t as
+      (λ t. (if t then whole_to (suc at) (suc at) l else whole_to b (suc at) l) ≡ (if t then whole_by (suc at) (suc at) r else whole_by b (suc at) r)) [ true ↦ rest (suc at) | false ↦ rest b ]
       in
       two g.last ∙ step g.last r ∙ ap (λ (t : Bool). whole_by b at (last_with t r)) (sym last)

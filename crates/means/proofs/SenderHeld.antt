@@ -49,8 +49,7 @@ complete (g ∷ l) part zero e h =
       is = chosen g.last ((part ++ g.octets) ∷ units [] l) (units (part ++ g.octets) l) h;
     }
 complete (g ∷ l) part (suc k) e h =
-    let go : (t : Bool) → g.last ≡ t → Complete part (g ∷ l)
-    = λ t. elim t [
+    let go = λ (t : Bool). elim t as (λ t. g.last ≡ t → Complete part (g ∷ l)) [
       | true ↦ λ p.
           record {
             unit = part ++ g.octets;

@@ -54,8 +54,8 @@ whole_in l = let p : 0 + 0 ≡ 0 = omega arith in omega (arith, whole_way 0 0 0 
 whole_none : (b i : ℕ) (l : List Segment) → endings l ≡ 0 → whole_to b i l ≡ b
 whole_none b i [] e = refl
 whole_none b i (s ∷ l) e =
-    let go : (t : Bool) → (if t then suc (endings l) else endings l) ≡ 0 → (if t then whole_to (suc i) (suc i) l else whole_to b (suc i) l) ≡ b
-    = λ t. elim t [
+    let go = λ (t : Bool). elim t as
+    (λ t. (if t then suc (endings l) else endings l) ≡ 0 → (if t then whole_to (suc i) (suc i) l else whole_to b (suc i) l) ≡ b) [
       | true ↦ λ p. absurd (omega arith)
       | false ↦ λ p. whole_none b (suc i) l p
     ]
@@ -65,13 +65,12 @@ whole_none b i (s ∷ l) e =
 endings_whole : (b i : ℕ) (l : List Segment) → b ≤ i → endings (take (whole_to b i l - i) l) ≡ endings l
 endings_whole b i [] h = ap endings (take-nil (b - i))
 endings_whole b i (s ∷ l) h =
-    let go : (t : Bool)
-    → endings
+    let go = λ (t : Bool). elim t as
+    (λ t. endings
     (take
     ((if t then whole_to (suc i) (suc i) l else whole_to b (suc i) l) - i)
     (record { first = s.first; last = t; octets = s.octets } ∷ l))
-    ≡ (if t then suc (endings l) else endings l)
-    = λ t. elim t [
+    ≡ (if t then suc (endings l) else endings l)) [
       | true ↦
           let p : suc i ≤ suc i = omega arith in
           let f = whole_to (suc i) (suc i) l in
@@ -81,8 +80,8 @@ endings_whole b i (s ∷ l) h =
           let p : b ≤ suc i = omega arith in
           let f = whole_to b (suc i) l in
           let ih : endings (take (f - suc i) l) ≡ endings l = endings_whole b (suc i) l p in
-          let near : (z : Bool) → ltb i f ≡ z → endings (take (f - i) (record { first = s.first; last = false; octets = s.octets } ∷ l)) ≡ endings l
-          = λ z. elim z [
+          let near = λ (z : Bool). elim z as
+          (λ z. ltb i f ≡ z → endings (take (f - i) (record { first = s.first; last = false; octets = s.octets } ∷ l)) ≡ endings l) [
             | true ↦ λ q.
                 let e : f - i ≡ suc (f - suc i) = omega (arith, ltb-true i f q) in
                 rw e ih
@@ -98,8 +97,7 @@ endings_whole b i (s ∷ l) h =
 first_none : (l : List Segment) → endings l ≡ 0 → first_unit l ≡ 0
 first_none [] h = refl
 first_none (s ∷ l) h =
-    let go : (t : Bool) → (if t then suc (endings l) else endings l) ≡ 0 → (if t then 1 else one_more (first_unit l)) ≡ 0
-    = λ t. elim t [
+    let go = λ (t : Bool). elim t as (λ t. (if t then suc (endings l) else endings l) ≡ 0 → (if t then 1 else one_more (first_unit l)) ≡ 0) [
       | true ↦ λ q. absurd (omega arith)
       | false ↦ λ q. ap one_more (first_none l q)
     ]
@@ -109,9 +107,9 @@ first_take : (m : ℕ) (l : List Segment) → endings (take m l) ≡ endings l �
 first_take zero l h = sym (first_none l (sym h))
 first_take (suc m) [] h = refl
 first_take (suc m) (s ∷ l) h =
-    let go : (t : Bool) → (if t then suc (endings (take m l)) else endings (take m l)) ≡ (if t then suc (endings l) else endings l)
-    → (if t then 1 else one_more (first_unit (take m l))) ≡ (if t then 1 else one_more (first_unit l))
-    = λ t. elim t [
+    let go = λ (t : Bool). elim t as
+    (λ t. (if t then suc (endings (take m l)) else endings (take m l)) ≡ (if t then suc (endings l) else endings l)
+    → (if t then 1 else one_more (first_unit (take m l))) ≡ (if t then 1 else one_more (first_unit l))) [
       | true ↦ λ q. refl
       | false ↦ λ q. ap one_more (first_take m l q)
     ]

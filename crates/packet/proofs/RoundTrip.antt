@@ -2,32 +2,28 @@
 -- accepted is written back to the same octets.
 -- Assumes nothing.
 use mathlib.Core.Path.{◌≡◌, refl, sym, ap, ap₂, ◌∙◌}
-use mathlib.Core.Bool.{Bool, true, false, not}
+use mathlib.Core.Bool.{false, not}
 use mathlib.Core.List.{List, [], ◌∷◌, ◌++◌, append_assoc}
-use Prim.Native.Nat.{ℕ, zero, suc, ◌+◌, ◌-◌, ◌*◌, ◌/◌, ◌%◌, ◌≤◌, ◌<◌}
+use Prim.Native.Nat.{ℕ, suc, ◌+◌, ◌-◌, ◌*◌, ◌/◌, ◌%◌, ◌≤◌, ◌<◌}
 use native.Mathlib.Numerals.{add-one}
 use native.Mathlib.Omega.{arith}
-use borrow.Author.Tests.{le-ltb, eq-eqb, ltb-false}
-use lib.Dec.{ltb, eqb}
+use borrow.Author.Tests.{eq-eqb}
 use lib.ListN.{length, get_or, take, drop, take-append-drop, length-drop, length-append}
 use lib.Seq.{take_at, drop_at, get_or_at, get_or-append-add, take-suc, take-add, take_all, length-take-le}
 use Rattle.laws.specs.Octets.{Octets, octets_of, pair_of, pair_at}
-use Rattle.laws.proofs.Choice.{not_first}
 use Rattle.laws.proofs.Lists.{firsts}
 use Rattle.crc.specs.Crc.{crc_of}
 use Rattle.packet.specs.declared.fields.Fields.{Fields}
-use Rattle.packet.specs.declared.reading.Read.{Read}
-use Rattle.packet.specs.declared.reading.Read.TheVariants.{Found, Short, Damaged, Lacking, Strange}
-use Rattle.packet.specs.declared.writing.Written.{Written}
+use Rattle.packet.specs.declared.reading.Read.TheVariants.{Found}
 use Rattle.packet.specs.declared.writing.Written.TheVariants as written
 use Rattle.packet.specs.Layout.{least, prefix_from, source_at, payload_at, whole_length, front_of, head_of, body_of, packet_of, fields_at, prefix_at, prefix_in, length_at, payload_in}
 use Rattle.packet.specs.Tests.{short, damaged, lacking, strange, Sound}
 use Rattle.packet.specs.Reading.{read_of}
-use Rattle.packet.specs.Writing.{written_of, after_write}
-use Rattle.packet.specs.RoundTrip.{ReadsBack, WrittenThenRead, WritesBack, ReadThenWritten}
+use Rattle.packet.specs.Writing.{after_write}
+use Rattle.packet.specs.RoundTrip.{WrittenThenRead, ReadThenWritten}
 use Rattle.packet.proofs.Tests.{long, whole, sourced, not_short, undamaged, sound}
-use Rattle.packet.proofs.ReadLaws.{read_found, Accepted, accepted}
-use Rattle.packet.proofs.WriteLaws.{write_done, head_length, head_cut, packet_length, Writable, writable}
+use Rattle.packet.proofs.ReadLaws.{read_found, accepted}
+use Rattle.packet.proofs.WriteLaws.{write_done, head_length, head_cut, packet_length, writable}
 
 -- ---- written, then read
 

@@ -1,26 +1,24 @@
 -- Laws of `written_of` and `afterWrite`, and how a packet is laid down: the head with its prefix, the payload, the check sum.
 -- Assumes nothing.
 use mathlib.Core.Path.{◌≡◌, refl, sym, ap, ap₂, ◌∙◌}
-use mathlib.Core.Bool.{Bool, true, false}
-use mathlib.Core.List.{List, [], ◌∷◌, ◌++◌, append_assoc, append-nil}
-use Prim.Native.Nat.{ℕ, suc, ◌+◌, ◌-◌, ◌/◌, ◌%◌, ◌≤◌, ◌<◌}
-use native.Mathlib.Nat.{le_of_eq}
+use mathlib.Core.Bool.{true, false}
+use mathlib.Core.List.{List, [], ◌∷◌, ◌++◌, append_assoc}
+use Prim.Native.Nat.{ℕ, suc, ◌+◌, ◌/◌, ◌%◌, ◌≤◌, ◌<◌}
 use native.Mathlib.Numerals.{add-one}
 use native.Mathlib.Omega.{arith}
 use borrow.Author.Tests.{lt-ltb, le-ltb, ltb-false}
 use lib.Dec.{ltb}
-use lib.ListN.{length, get_or, take, drop, set, length-append, length-drop, drop_of_length-le}
-use lib.Seq.{sets-eq, set_at, take-length, take_at, drop_at, drop-cons, drop-append-add, drop-drop}
+use lib.ListN.{length, get_or, take, drop, set, length-append}
+use lib.Seq.{sets-eq, set_at, take_at, drop_at, drop-cons, drop-append-add, drop-drop}
 use Rattle.laws.specs.Octets.{octets_of}
 use Rattle.laws.proofs.Choice.{not_first}
-use Rattle.laws.proofs.Lists.{tail_part}
 use Rattle.crc.specs.Crc.{crc_of}
 use Rattle.packet.specs.declared.fields.Fields.{Fields}
 use Rattle.packet.specs.declared.writing.Written.{Written}
 use Rattle.packet.specs.declared.writing.Written.TheVariants.{Done, Lacking, Strange, Small}
 use Rattle.packet.specs.Layout.{prefix_from, source_at, payload_at, whole_length, front_of, head_of, body_of, packet_of}
 use Rattle.packet.specs.Tests.{lacking, strange}
-use Rattle.packet.specs.Writing.{written_of, after_write, written_number}
+use Rattle.packet.specs.Writing.{written_of, written_number}
 
 -- ---- the answer from the tests
 
@@ -84,22 +82,20 @@ packet_length f q p = omega (arith, length-append (body_of f q p) (octets_of (cr
 pub sealed : (l : List ℕ) (n c : ℕ) → n + 2 ≤ length l → set (set l n (c / 256)) (n + 1) (c % 256) ≡ take n l ++ octets_of c ++ drop (n + 2) l
 sealed l n c h = rw add-one (sets-eq (octets_of c) l n h)
 
--- p copied behind what stands at the front of a buffer. Behind a lent part, which here runs to the end of the buffer, nothing is left
-behind : (h p out w t : List ℕ) (at : ℕ)
+-- p copied behind what stands at the front of a buffer, to the k places that it takes
+behind : (h p out w t : List ℕ) (at k : ℕ)
     → length h ≡ at
     → w ≡ h ++ drop at out
-    → t ≡ take (length p) p ++ drop (length p) (take (length w - at) (drop at w))
-    → take at w ++ (t ++ drop (length w - at) (drop at w)) ≡ (h ++ p) ++ drop (at + length p) out
-behind h p out w t at lh ew et =
-    let rest : drop at w ≡ drop at out = ap (drop at) ew ∙ drop_at h (drop at out) at lh in
-    let copied : t ≡ p ++ drop (at + length p) out =
-    et
-    ∙ ap₂ (λ (a b : List ℕ). a ++ drop (length p) b) (take-length p) (tail_part at w ∙ rest)
-    ∙ ap (λ (l : List ℕ). p ++ l) (drop-drop (length p) at out) in
-    let all : t ++ drop (length w - at) (drop at w) ≡ p ++ drop (at + length p) out =
-    ap (λ (l : List ℕ). t ++ l) (drop_of_length-le (drop at w) (le_of_eq (length-drop at w))) ∙ append-nil t ∙ copied in
+    → t ≡ p
+    → k ≡ length p
+    → take at w ++ (t ++ drop k (drop at w)) ≡ (h ++ p) ++ drop (at + length p) out
+behind h p out w t at k lh ew et ek =
     let front : take at w ≡ h = ap (take at) ew ∙ take_at h (drop at out) at lh in
-    ap₂ (λ (a b : List ℕ). a ++ b) front all ∙ sym (append_assoc h p (drop (at + length p) out))
+    let rest : drop k (drop at w) ≡ drop (at + length p) out =
+    ap₂ (λ (n : ℕ) (l : List ℕ). drop n l) ek (ap (drop at) ew ∙ drop_at h (drop at out) at lh) ∙ drop-drop (length p) at out in
+    ap₂ (λ (a b : List ℕ). a ++ (t ++ b)) front rest
+    ∙ ap (λ (l : List ℕ). h ++ (l ++ drop (at + length p) out)) et
+    ∙ sym (append_assoc h p (drop (at + length p) out))
 
 -- a head and what stands behind it, cut where the source address stands
 pub head_cut : (f : Fields) (q rest : List ℕ) (x : ℕ) → head_of f q x ++ rest ≡ (front_of f (length q) x ++ q) ++ (f.source ∷ rest)
@@ -107,30 +103,27 @@ unfolding head_of
 head_cut f q rest x = append_assoc (front_of f (length q) x ++ q) (f.source ∷ []) rest
 
 -- the calls of `lay_head`, one after the other: what each leaves, and what the last store then makes
-pub headed : (f : Fields) (front q out w t : List ℕ) (x : ℕ)
+pub headed : (f : Fields) (front q out s t : List ℕ) (k x : ℕ)
     → front ≡ front_of f (length q) x
     → payload_at (length q) ≤ length out
-    → w ≡ take (length front) front ++ drop (length front) out
-    → t ≡ take (length q) q ++ drop (length q) (take (length w - prefix_from) (drop prefix_from w))
-    → set (take prefix_from w ++ (t ++ drop (length w - prefix_from) (drop prefix_from w))) (source_at (length q)) f.source
+    → s ≡ front
+    → t ≡ q
+    → k ≡ length q
+    → set (take prefix_from (s ++ drop prefix_from out) ++ (t ++ drop k (drop prefix_from (s ++ drop prefix_from out)))) (source_at (length q)) f.source
     ≡ head_of f q x ++ drop (payload_at (length q)) out
-headed f front q out w t x ef room ew et =
+headed f front q out s t k x ef room es et ek =
     let h = front_of f (length q) x in
     let at = source_at (length q) in
-    let written : w ≡ h ++ drop prefix_from out =
-    ew ∙ ap (λ (l : List ℕ). l ++ drop (length front) out) (take-length front) ∙ ap (λ (l : List ℕ). l ++ drop (length l) out) ef in
+    let written = ap (λ (l : List ℕ). l ++ drop prefix_from out) (es ∙ ef) in
     let next : drop at out ≡ get_or out at 0 ∷ drop (suc at) out = drop-cons out at 0 (omega arith) in
     let count : length (h ++ q) ≡ at = omega (arith, length-append h q) in
     let one : suc at ≡ payload_at (length q) = omega arith in
-    ap (λ (l : List ℕ). set l at f.source) (behind h q out w t prefix_from refl written et ∙ ap (λ (l : List ℕ). (h ++ q) ++ l) next)
+    ap
+    (λ (l : List ℕ). set l at f.source)
+    (behind h q out (s ++ drop prefix_from out) t prefix_from k refl written et ek ∙ ap (λ (l : List ℕ). (h ++ q) ++ l) next)
     ∙ set_at (h ++ q) (get_or out at 0) (drop (suc at) out) f.source at count
-    ∙ ap (λ (k : ℕ). (h ++ q) ++ f.source ∷ drop k out) one
+    ∙ ap (λ (n : ℕ). (h ++ q) ++ f.source ∷ drop n out) one
     ∙ sym (head_cut f q (drop (payload_at (length q)) out) x)
-
--- the buffer is as long then as before
-pub headed_length : (f : Fields) (q out : List ℕ) (x : ℕ) → payload_at (length q) ≤ length out → length (head_of f q x ++ drop (payload_at (length q)) out) ≡ length out
-headed_length f q out x room =
-    omega (arith, length-append (head_of f q x) (drop (payload_at (length q)) out), head_length f q x, length-drop (payload_at (length q)) out)
 
 -- the body at the buffer's front, sealed, is the packet at its front
 whole : (f : Fields) (q p out : List ℕ) (n : ℕ)
@@ -151,19 +144,24 @@ whole f q p out n en =
     ∙ ap (λ (k : ℕ). drop k out) g in
     ap₂ (λ (a b : List ℕ). a ++ octets_of (crc_of a) ++ b) front back
 
--- the calls of `write_packet`, one after the other: what each leaves, and what the last then is
-pub assembled : (f : Fields) (q p out w t s : List ℕ)
+-- the calls of `write_packet`, one after the other: the payload behind the head
+pub filled : (f : Fields) (q p out w t : List ℕ) (k : ℕ)
     → w ≡ head_of f q (length p) ++ drop (payload_at (length q)) out
-    → t ≡ take (length p) p ++ drop (length p) (take (length w - payload_at (length q)) (drop (payload_at (length q)) w))
-    → s
-    ≡ take (payload_at (length q) + length p) (take (payload_at (length q)) w ++ (t ++ drop (length w - payload_at (length q)) (drop (payload_at (length q)) w)))
-    ++ octets_of (crc_of (take (payload_at (length q) + length p) (take (payload_at (length q)) w ++ (t ++ drop (length w - payload_at (length q)) (drop (payload_at (length q)) w)))))
-    ++ drop (payload_at (length q) + length p + 2) (take (payload_at (length q)) w ++ (t ++ drop (length w - payload_at (length q)) (drop (payload_at (length q)) w)))
-    → s ≡ packet_of f q p ++ drop (whole_length (length q) (length p)) out
+    → t ≡ p
+    → k ≡ length p
+    → take (payload_at (length q)) w ++ (t ++ drop k (drop (payload_at (length q)) w)) ≡ body_of f q p ++ drop (payload_at (length q) + length p) out
 unfolding body_of
-assembled f q p out w t s ew et es =
-    let at = payload_at (length q) in
-    let n = at + length p in
-    let body : take at w ++ (t ++ drop (length w - at) (drop at w)) ≡ body_of f q p ++ drop n out =
-    behind (head_of f q (length p)) p out w t at (head_length f q (length p)) ew et in
-    es ∙ ap (λ (m : List ℕ). take n m ++ octets_of (crc_of (take n m)) ++ drop (n + 2) m) body ∙ whole f q p out n refl
+filled f q p out w t k ew et ek =
+    behind (head_of f q (length p)) p out w t (payload_at (length q)) k (head_length f q (length p)) ew et ek
+
+-- and the check sum behind both
+pub assembled : (f : Fields) (q p out m s : List ℕ)
+    → m ≡ body_of f q p ++ drop (payload_at (length q) + length p) out
+    → s
+    ≡ take (payload_at (length q) + length p) m
+    ++ octets_of (crc_of (take (payload_at (length q) + length p) m))
+    ++ drop (payload_at (length q) + length p + 2) m
+    → s ≡ packet_of f q p ++ drop (whole_length (length q) (length p)) out
+assembled f q p out m s em es =
+    let n = payload_at (length q) + length p in
+    es ∙ ap (λ (l : List ℕ). take n l ++ octets_of (crc_of (take n l)) ++ drop (n + 2) l) em ∙ whole f q p out n refl

@@ -1,5 +1,5 @@
 -- The tests of a packet alone, one definition for each answer: short 1, damaged 2, lacking 4, strange 3 (document 01, Answer numbers).
-use Rattle.std.specs.Prelude.{◌≡◌, ℕ, ◌-◌, ◌≤◌, ◌<◌, Bool, true, false, not, ◌||◌, List, length, take, ltb, leb, eqb}
+use Rattle.std.specs.Prelude.{◌≡◌, ℕ, ◌-◌, ◌≤◌, ◌<◌, Bool, not, ◌||◌, List, length, take, ltb, leb, eqb}
 use Rattle.laws.specs.Choice.{if◌then◌else◌}
 use Rattle.laws.specs.Octets.{pair_at}
 use Rattle.crc.specs.Crc.{crc_of}

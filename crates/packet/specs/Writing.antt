@@ -1,5 +1,5 @@
 -- What writing a packet alone gives, for whatever fields, prefix, payload and buffer: tests 4, 3, 11 in this order (document 01, The packet).
-use Rattle.std.specs.Prelude.{ℕ, List, ◌++◌, length, drop, ltb}
+use Rattle.std.specs.Prelude.{ℕ, List, ◌++◌, drop, ltb}
 use Rattle.laws.specs.Choice.{if◌then◌else◌}
 use Rattle.packet.specs.declared.fields.Fields.{Fields}
 use Rattle.packet.specs.declared.writing.Written.{Written}

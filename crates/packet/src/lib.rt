@@ -1,6 +1,7 @@
 // One packet alone: its fields, how it is written into a lent buffer, and how it is read where it lies (document 01, The packet). Addresses,
 // protocol ID and channel are plain fields here; whose they are is the node's business.
 #![tactic(auto)]
+
 pub mod fields;
 pub mod kinds;
 pub mod reading;

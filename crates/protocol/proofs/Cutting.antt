@@ -3,7 +3,7 @@
 use mathlib.Core.Path.{◌≡◌, refl, sym, ap, ◌∙◌}
 use mathlib.Core.Bool.{Bool, true, false}
 use mathlib.Core.List.{List, [], ◌∷◌, ◌++◌, append_assoc, append-nil}
-use Prim.Native.Nat.{ℕ, zero, suc, ◌+◌, ◌-◌, ◌≤◌, zero-le, suc-le-suc}
+use Prim.Native.Nat.{ℕ, zero, suc, ◌+◌, ◌≤◌, zero-le, suc-le-suc}
 use native.Mathlib.Nat.{add-zero, suc-add, le_of_suc-le-suc}
 use native.Mathlib.Omega.{arith}
 use borrow.Author.Tests.{eq-eqb, ne_eqb}
@@ -118,7 +118,7 @@ drop_more i whole s l e =
     let q : suc i ≡ i + 1 = omega arith in
     ap (λ (n : ℕ). drop n whole) q ∙ sym (drop-drop 1 i whole) ∙ ap (drop 1) e
 
--- The units are those complete among the first j segments, and then those of the segments from the wholeTo on.
+-- The units are those complete among the first j segments, and then those of the segments from the `whole_to` on.
 split : (b i : ℕ) (whole : List Segment) (part : DataUnit) (j : ℕ) (l : List Segment)
     → drop i whole ≡ l
     → units part l ≡ units [] (drop b whole)
@@ -126,14 +126,13 @@ split : (b i : ℕ) (whole : List Segment) (part : DataUnit) (j : ℕ) (l : List
 split b i whole part zero l e h = h
 split b i whole part (suc j) [] e h = h
 split b i whole part (suc j) (s ∷ l) e h =
-    let go : (t : Bool) →
-    (if t then (part ++ s.octets) ∷ units [] l else units (part ++ s.octets) l) ≡ units [] (drop b whole) →
+    let go = λ (t : Bool). elim t as
+    (λ t. (if t then (part ++ s.octets) ∷ units [] l else units (part ++ s.octets) l) ≡ units [] (drop b whole) →
     (if t then (part ++ s.octets) ∷ units [] l else units (part ++ s.octets) l)
     ≡ take
     (if t then suc (endings (take j l)) else endings (take j l))
     (if t then (part ++ s.octets) ∷ units [] l else units (part ++ s.octets) l)
-    ++ units [] (drop (if t then whole_to (suc i) (suc i) (take j l) else whole_to b (suc i) (take j l)) whole)
-    = λ t. elim t [
+    ++ units [] (drop (if t then whole_to (suc i) (suc i) (take j l) else whole_to b (suc i) (take j l)) whole)) [
       | true ↦ λ q. ap
           ((part ++ s.octets) ∷◌)
           (split (suc i) (suc i) whole [] j l (drop_more i whole s l e) (ap (units []) (sym (drop_more i whole s l e))))
@@ -151,18 +150,16 @@ pub first_unit_whole : (part : DataUnit) (l : List Segment) (u : DataUnit) (us :
     → (r : List Segment) → units part (take (first_unit l) l ++ r) ≡ u ∷ units [] r
 first_unit_whole part [] u us e r = cc
 first_unit_whole part (s ∷ l) u us e r =
-    let longer : (m : ℕ) →
-    ((r' : List Segment) → units (part ++ s.octets) (take m l ++ r') ≡ u ∷ units [] r') →
-    units part (take (one_more m) (record { first = s.first; last = false; octets = s.octets } ∷ l) ++ r) ≡ u ∷ units [] r
-    = λ m. elim m [
+    let longer = λ (m : ℕ). elim m as
+    (λ m. ((r' : List Segment) → units (part ++ s.octets) (take m l ++ r') ≡ u ∷ units [] r') →
+    units part (take (one_more m) (record { first = s.first; last = false; octets = s.octets } ∷ l) ++ r) ≡ u ∷ units [] r) [
       | zero ↦ λ h. let z : ◌≡◌ {A = List DataUnit} [] (u ∷ []) = h [] in cc
       | suc m ↦ λ h. h r
     ]
     in
-    let go : (t : Bool) →
-    units part (record { first = s.first; last = t; octets = s.octets } ∷ l) ≡ u ∷ us →
-    units part (take (if t then 1 else one_more (first_unit l)) (record { first = s.first; last = t; octets = s.octets } ∷ l) ++ r) ≡ u ∷ units [] r
-    = λ t. elim t [
+    let go = λ (t : Bool). elim t as
+    (λ t. units part (record { first = s.first; last = t; octets = s.octets } ∷ l) ≡ u ∷ us →
+    units part (take (if t then 1 else one_more (first_unit l)) (record { first = s.first; last = t; octets = s.octets } ∷ l) ++ r) ≡ u ∷ units [] r) [
       | true ↦ λ q. cc
       | false ↦ λ q. longer (first_unit l) (first_unit_whole (part ++ s.octets) l u us q)
     ]

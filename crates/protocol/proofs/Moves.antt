@@ -47,8 +47,7 @@ module _ (c : Limits) (line : List Segment) (next : ℕ) where
     pub move_keeps : (n : ℕ) (l : List Segment) → l ≡ take (length l) line → length l ≤ next → Moved l (moved c n f l).0
     move_keeps zero l p q = stay l p q
     move_keeps (suc n) l p q =
-        let fit : (g : Segment) → f (length l) ≡ some g → (b : Bool) → Moved l (if b then moved c n f (l ++ (g ∷ [])) else (l, false)).0
-        = λ g e b. elim b [
+        let fit = λ (g : Segment) (e : f (length l) ≡ some g) (b : Bool). elim b as (λ b. Moved l (if b then moved c n f (l ++ (g ∷ [])) else (l, false)).0) [
           | true ↦
               let at : (length l < next) × (get_or line (length l) blank ≡ g) = same (length l) g e in
               further
@@ -59,8 +58,7 @@ module _ (c : Limits) (line : List Segment) (next : ℕ) where
           | false ↦ stay l p q
         ]
         in
-        let go : (o : Option Segment) → f (length l) ≡ o → Moved l (moved_past c o (λ g. moved c n f (l ++ (g ∷ []))) l).0
-        = λ o. elim o [
+        let go = λ (o : Option Segment). elim o as (λ o. f (length l) ≡ o → Moved l (moved_past c o (λ g. moved c n f (l ++ (g ∷ []))) l).0) [
           | none ↦ λ e. stay l p q
           | some g ↦ λ e. fit g e (fitting c.segments (on_way 0 l) g)
         ]
@@ -70,22 +68,20 @@ module _ (c : Limits) (line : List Segment) (next : ℕ) where
   pub stops : (f : ℕ → Option Segment) (n : ℕ) (l : List Segment) → ((i : ℕ) (g : Segment) → f i ≡ some g → i < length l + n)
       → (moved c n f l).1 ≡ true → f (length (moved c n f l).0) ≡ none
   stops f zero l near e =
-      let go : (o : Option Segment) → f (length l) ≡ o → f (length l) ≡ none
-      = λ o. elim o [ none ↦ λ q. q | some g ↦ λ q. absurd (let z : length l < length l + 0 = near (length l) g q in omega arith) ]
+      let go = λ (o : Option Segment). elim o as
+      (λ o. f (length l) ≡ o → f (length l) ≡ none) [ none ↦ λ q. q | some g ↦ λ q. absurd (let z : length l < length l + 0 = near (length l) g q in omega arith) ]
       in go (f (length l)) refl
   stops f (suc n) l near e =
-      let fit : (g : Segment) → f (length l) ≡ some g → (b : Bool)
-      → (if b then moved c n f (l ++ (g ∷ [])) else (l, false)).1 ≡ true
-      → f (length (if b then moved c n f (l ++ (g ∷ [])) else (l, false)).0) ≡ none
-      = λ g q b. elim b [
+      let fit = λ (g : Segment) (q : f (length l) ≡ some g) (b : Bool). elim b as
+      (λ b. (if b then moved c n f (l ++ (g ∷ [])) else (l, false)).1 ≡ true → f (length (if b then moved c n f (l ++ (g ∷ [])) else (l, false)).0) ≡ none) [
         | true ↦ λ t. stops f n (l ++ (g ∷ [])) (λ i x y. omega (arith, near i x y, length_snoc l g)) t
         | false ↦ λ t. absurd (yes_no t refl)
       ]
       in
-      let go : (o : Option Segment) → f (length l) ≡ o
+      let go = λ (o : Option Segment). elim o as
+      (λ o. f (length l) ≡ o
       → (moved_past c o (λ g. moved c n f (l ++ (g ∷ []))) l).1 ≡ true
-      → f (length (moved_past c o (λ g. moved c n f (l ++ (g ∷ []))) l).0) ≡ none
-      = λ o. elim o [
+      → f (length (moved_past c o (λ g. moved c n f (l ++ (g ∷ []))) l).0) ≡ none) [
         | none ↦ λ q t. q
         | some g ↦ λ q t. fit g q (fitting c.segments (on_way 0 l) g) t
       ]

@@ -205,9 +205,9 @@ module _
           = λ j y t. let z : j < length receiver.passed = v.gap.got j y (absent j t).0 in omega (arith, m.longer)
           in
           let empty : receiver.filed (length receiver.passed) ≡ none = v.gap.early (open_early receiver.phase e) in
-          let go : (t : Bool) → b ≡ t
-          → Inv c acc cnt back tak Out (λ j. acked_by (ReceiverCall.arrival o q g) (Receiving.moved_answer t receiver f r).1 j (Back j)) sender (Receiving.moved_answer t receiver f r).0
-          = λ t. elim t [
+          let go = λ (t : Bool). elim t as
+          (λ t. b ≡ t
+          → Inv c acc cnt back tak Out (λ j. acked_by (ReceiverCall.arrival o q g) (Receiving.moved_answer t receiver f r).1 j (Back j)) sender (Receiving.moved_answer t receiver f r).0) [
             | true ↦ λ y.
                 let got : (j : ℕ) → Back' j → f j ≡ none → j < length r
                 = λ j. ⊎_elim (λ p z. absurd ((absent j z).1 p)) (λ x z. old j x z)

@@ -3,7 +3,7 @@
 use mathlib.Core.Path.{◌≡◌, refl, sym, ap, ◌∙◌, subst}
 use mathlib.Core.Bool.{Bool, true, false, not}
 use mathlib.Core.List.{List, [], ◌∷◌, ◌++◌, append_assoc}
-use mathlib.Core.Logic.{◌⊎◌, ⊎_elim}
+use mathlib.Core.Logic.{⊎_elim}
 use Prim.Native.Nat.{ℕ, suc, ◌+◌, ◌-◌, ◌≤◌, ◌<◌}
 use native.Mathlib.Omega.{arith}
 use native.Mathlib.Nat.{zero-add}
@@ -106,12 +106,12 @@ module _
       in
       let w = v.window in
       let to : ℕ = (if (eqb i sender.next) then suc i else sender.next) in
-      let go : (t : Bool) → eqb i sender.next ≡ t
+      let go = λ (t : Bool). elim t as
+      (λ t. eqb i sender.next ≡ t
       → (i < (if t then suc i else sender.next))
       × (sender.next ≤ (if t then suc i else sender.next))
       × ((if t then suc i else sender.next) ≤ sender.start + c.window)
-      × ((if t then suc i else sender.next) ≤ length sender.line)
-      = λ t. elim t [
+      × ((if t then suc i else sender.next) ≤ length sender.line)) [
         | true ↦ λ q. omega (arith, ltb-true, leb-true, eqb-true i sender.next q)
         | false ↦ λ q. let apart : i ≡ sender.next → ⊥ = eqb-false i sender.next q in omega (arith, ltb-true, leb-true)
       ]

@@ -73,8 +73,7 @@ module _ {A : Type 0} (f : ℕ → A) (n : ℕ) (v : A) where
   -- a mark is the new one, or an old one
   pub put_cases : (i : ℕ) → ((i ≡ n) × (put f n v i ≡ v)) ⊎ ((i ≡ n → ⊥) × (put f n v i ≡ f i))
   put_cases i =
-      let go : (b : Bool) → eqb i n ≡ b → ((i ≡ n) × ((if b then v else f i) ≡ v)) ⊎ ((i ≡ n → ⊥) × ((if b then v else f i) ≡ f i))
-      = λ b. elim b [
+      let go = λ (b : Bool). elim b as (λ b. eqb i n ≡ b → ((i ≡ n) × ((if b then v else f i) ≡ v)) ⊎ ((i ≡ n → ⊥) × ((if b then v else f i) ≡ f i))) [
         | true ↦ λ e. inl (eqb-true i n e, refl)
         | false ↦ λ e. inr (eqb-false i n e, refl)
       ]
@@ -93,8 +92,7 @@ advance_up (suc n) f i =
 pub advance_stop : (n : ℕ) (f : ℕ → Bool) (i j : ℕ) → i ≤ j → f j ≡ false → advance n f i ≤ j
 advance_stop zero f i j h e = h
 advance_stop (suc n) f i j h e =
-    let go : (b : Bool) → f i ≡ b → (if b then advance n f (suc i) else i) ≤ j
-    = λ b. elim b [
+    let go = λ (b : Bool). elim b as (λ b. f i ≡ b → (if b then advance n f (suc i) else i) ≤ j) [
       | true ↦ λ q. let apart : i ≡ j → ⊥ = λ x. yes_no q (ap f x ∙ e) in advance_stop n f (suc i) j (omega arith) e
       | false ↦ λ q. h
     ]
@@ -103,8 +101,7 @@ advance_stop (suc n) f i j h e =
 pub first_unit_le : (l : List Segment) → first_unit l ≤ length l
 first_unit_le [] = zero-le
 first_unit_le (s ∷ l) =
-    let longer : (m : ℕ) → m ≤ length l → one_more m ≤ suc (length l)
-    = λ m. elim m [ zero ↦ λ h. zero-le | suc m ↦ λ h. suc-le-suc h ]
+    let longer = λ (m : ℕ). elim m as (λ m. m ≤ length l → one_more m ≤ suc (length l)) [ zero ↦ λ h. zero-le | suc m ↦ λ h. suc-le-suc h ]
     in
     elim s.last as (λ t. (if t then 1 else one_more (first_unit l)) ≤ suc (length l)) [
       | true ↦ omega arith

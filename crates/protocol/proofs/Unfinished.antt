@@ -34,8 +34,7 @@ on_way_append n (g ∷ p) q =
 on_way_all : (n : ℕ) (q : List Segment) → endings q ≡ 0 → on_way n q ≡ n + length q
 on_way_all n [] e = omega arith
 on_way_all n (g ∷ q) e =
-    let go : (t : Bool) → (if t then suc (endings q) else endings q) ≡ 0 → (if t then on_way 0 q else on_way (suc n) q) ≡ n + suc (length q)
-    = λ t. elim t [
+    let go = λ (t : Bool). elim t as (λ t. (if t then suc (endings q) else endings q) ≡ 0 → (if t then on_way 0 q else on_way (suc n) q) ≡ n + suc (length q)) [
       | true ↦ λ p. absurd (omega arith)
       | false ↦ λ p. omega (arith, on_way_all (suc n) q p)
     ]
@@ -51,8 +50,7 @@ module _ (c : Limits) (some-segments : 1 ≤ c.segments) where
       let second : (g.last || ltb (suc n) c.segments) ≡ true
       = (both (if eqb n 0 then g.first else not g.first) (g.last || ltb (suc n) c.segments) e).1
       in
-      let go : (t : Bool) → (t || ltb (suc n) c.segments) ≡ true → (if t then 0 else suc n) < c.segments
-      = λ t. elim t [
+      let go = λ (t : Bool). elim t as (λ t. (t || ltb (suc n) c.segments) ≡ true → (if t then 0 else suc n) < c.segments) [
         | true ↦ λ p. omega arith
         | false ↦ λ p. ltb-true (suc n) c.segments p
       ]
@@ -63,15 +61,14 @@ module _ (c : Limits) (some-segments : 1 ≤ c.segments) where
   moved_short : (n : ℕ) (f : ℕ → Option Segment) (l : List Segment) → Short l → Short (moved c n f l).0
   moved_short zero f l h = h
   moved_short (suc n) f l h =
-      let fit : (g : Segment) (b : Bool) → fitting c.segments (on_way 0 l) g ≡ b
-      → Short (if b then moved c n f (l ++ (g ∷ [])) else (l, false)).0
-      = λ g b. elim b [
+      let fit = λ (g : Segment) (b : Bool). elim b as
+      (λ b. fitting c.segments (on_way 0 l) g ≡ b → Short (if b then moved c n f (l ++ (g ∷ [])) else (l, false)).0) [
         | true ↦ λ e. moved_short n f (l ++ (g ∷ [])) (one_more_lem l g e)
         | false ↦ λ e. h
       ]
       in
-      let go : (o : Option Segment) → Short (moved_past c o (λ g. moved c n f (l ++ (g ∷ []))) l).0
-      = λ o. elim o [ none ↦ h | some g ↦ fit g (fitting c.segments (on_way 0 l) g) refl ]
+      let go = λ (o : Option Segment). elim o as
+      (λ o. Short (moved_past c o (λ g. moved c n f (l ++ (g ∷ []))) l).0) [ none ↦ h | some g ↦ fit g (fitting c.segments (on_way 0 l) g) refl ]
       in go (f (length l))
 
   module _ (r : Receiver) (h : Short r.passed) where

@@ -18,7 +18,7 @@ pub record Sender : Type 0 where
 abbrev pub fresh_sender : Sender
 fresh_sender = record { phase = fresh; line = []; oldest = 0; start = 0; next = 0; acked = λ i. false }
 
--- Calls at this end. `control p`: directives, Control packets, ticks, as far as they change the phase. `handOut i`: the call for a packet
+-- Calls at this end. `control p`: directives, Control packets, ticks, as far as they change the phase. `hand_out i`: the call for a packet
 -- hands out the segment i; which one is any rule's choice. `ack i q`: a Data Ack numbered q arrives. It is a copy of one that answered the
 -- segment i, of which the end sees nothing. `noise`: what changes nothing here, as a damaged packet or a call for another channel.
 pub data SenderCall : Type 0 where

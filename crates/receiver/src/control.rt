@@ -9,6 +9,7 @@ use channel::step::{done, enabled, refused};
 use channel::{Channel, Lone, Refusal, Stepped, pulse};
 
 // An Open directive. Units that are not yet taken would be lost: they refuse it.
+#[tactic(auto, unfolding(crate::specs::Receiving::open_step))]
 pub fn open_step(c: Channel) -> Stepped
     ensures { result ≡ open_step c }
 {
@@ -37,6 +38,7 @@ pub fn close_step(c: Channel) -> Stepped
 }
 
 // An Open arrives. After Data was accepted it is no repeat: the other end has begun anew.
+#[tactic(auto, unfolding(crate::specs::Receiving::open_arrives))]
 fn open_arrives(c: Channel) -> Stepped
     requires { Ringed c.limits c.window }
     ensures { result ≡ open_arrives c }
@@ -58,6 +60,7 @@ fn open_arrives(c: Channel) -> Stepped
 }
 
 // A Close arrives.
+#[tactic(auto, unfolding(crate::specs::Receiving::close_arrives))]
 fn close_arrives(c: Channel) -> Stepped
     requires { Ringed c.limits c.window }
     ensures { result ≡ close_arrives c }
@@ -73,6 +76,7 @@ fn close_arrives(c: Channel) -> Stepped
 }
 
 // An Open or a Close arrives, with its number.
+#[tactic(auto, unfolding(crate::specs::Receiving::control_step))]
 pub fn control_step(c: Channel, opens: bool, number: u8) -> Stepped
     requires { Ringed c.limits c.window }
     ensures { result ≡ control_step c opens number }

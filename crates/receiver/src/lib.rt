@@ -1,6 +1,7 @@
 // A receive end: its directives, the Control packets that arrive, its acks, what leaving OPEN keeps, and ticks (document 01, Receiving). Each step
 // takes the channel by value and gives it back with an answer. Data is in `receiver_data`.
 #![tactic(auto)]
+
 pub mod acks;
 pub mod control;
 pub mod leaving;

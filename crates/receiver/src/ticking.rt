@@ -66,6 +66,7 @@ fn flow_tick(c: Channel) -> Ticked
     beat_tick(d)
 }
 
+#[tactic(auto, unfolding(crate::specs::Receiving::tick_step))]
 pub fn tick_step(c: Channel) -> Ticked
     requires { Ringed c.limits c.window }
     ensures { result ≡ tick_step c }

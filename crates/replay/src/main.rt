@@ -1,5 +1,6 @@
 // Replays a trace from standard input (document 01, Replay program): a line for each record, then `end ok`, or `end short` where a record is cut.
 #![tactic(auto)]
+
 ghost use Rattle.std.specs.Prelude.{◌≡◌, ◌≤◌, true, length};
 
 use channel::answer::number;
@@ -7,7 +8,8 @@ use channel::{Channel, Node};
 use engine::reading::{Fed, feed, is_cut, room};
 use engine::records::step;
 use engine::tables::table_of;
-use libc::{STDIN_FILENO, STDOUT_FILENO};
+use std::io;
+use std::io::Read;
 
 // The replay's own address and protocol ID, the other end's address, and the numbers of the two channels.
 const OWN: u8 = 64;
@@ -28,29 +30,40 @@ struct Run {
     held: usize,
 }
 
-fn main() {
+// The octets that are read at once.
+const PIECE: usize = 65536;
+
+fn main(rt: HostRuntime) -> io::Result<()> {
     let mut mem = [0u8; 256];
     let mut lens = [0u16; 16];
     let mut lines = [0u8; 51];
-    let mut piece = io::large_buffer();
+    let mut piece = [0u8; PIECE];
     let mut buffer = room();
-    io::write_all(STDOUT_FILENO, b"rec answer\n");
-    if replay(&mut mem, &mut lens, &mut lines, &mut piece, &mut buffer) {
-        io::write_all(STDOUT_FILENO, b"end ok\n");
+    println!(rt; "rec answer")?;
+    if replay(
+        &rt,
+        &mut mem,
+        &mut lens,
+        &mut lines,
+        &mut piece,
+        &mut buffer,
+    )? {
+        println!(rt; "end ok")
     } else {
-        io::write_all(STDOUT_FILENO, b"end short\n");
+        println!(rt; "end short")
     }
 }
 
 // One piece after another; true if the trace ended between two records. A read that fails is no end. A proved loop has to end, and nothing says
 // that a trace does: no trace has as many pieces as the loop would count.
 fn replay(
+    rt: &HostRuntime,
     mem: &mut [u8],
     lens: &mut [u16],
     lines: &mut [u8],
     piece: &mut [u8],
     buffer: &mut [u8],
-) -> bool
+) -> io::Result<bool>
     requires { 65539 ≤ length buffer.old }
 {
     let table = table_of(REMOTE, FIRST, SECOND);
@@ -61,51 +74,51 @@ fn replay(
     };
     let mut turn: u64 = 0;
     while turn < u64::MAX {
-        let got = libc::read(STDIN_FILENO, piece);
-        if got < 0 {
-            return false;
-        }
-        let n = io::count(got, piece);
+        let Ok(n) = rt.stdin().read(piece) else {
+            return Ok(false);
+        };
         if n == 0 {
-            return !is_cut(run.held, buffer);
+            return Ok(!is_cut(run.held, buffer));
         }
-        let after = do_piece(run, &piece[..n], mem, lens, lines, buffer);
+        let after = do_piece(rt, run, &piece[..n], mem, lens, lines, buffer)?;
         run = after;
         turn += 1;
     }
-    false
+    Ok(false)
 }
 
 // The records that become whole with a piece.
 fn do_piece(
+    rt: &HostRuntime,
     run: Run,
     piece: &[u8],
     mem: &mut [u8],
     lens: &mut [u16],
     lines: &mut [u8],
     buffer: &mut [u8],
-) -> Run
+) -> io::Result<Run>
     requires { 65539 ≤ length buffer.old }
 {
     let mut r = run;
     let mut at: usize = 0;
     while at < piece.len() {
         let fed = feed(r.held, piece, at, buffer);
-        let after = do_fed(r, fed, mem, lens, lines, buffer);
+        let after = do_fed(rt, r, fed, mem, lens, lines, buffer)?;
         r = after;
         at = fed.next;
     }
-    r
+    Ok(r)
 }
 
 fn do_fed(
+    rt: &HostRuntime,
     run: Run,
     fed: Fed,
     mem: &mut [u8],
     lens: &mut [u16],
     lines: &mut [u8],
     buffer: &[u8],
-) -> Run
+) -> io::Result<Run>
     requires { fed.whole ≡ true → (4 ≤ fed.held) × (fed.held ≤ length buffer.now) }
 {
     let held = fed.held;
@@ -116,36 +129,35 @@ fn do_fed(
         held,
     };
     if fed.whole {
-        return do_record(r, fed.kind, &buffer[4..held], mem, lens, lines);
+        return do_record(rt, r, fed.kind, &buffer[4..held], mem, lens, lines);
     }
-    r
+    Ok(r)
 }
 
 // A record is done, and its line is said: its place in the trace, from 1, and the answer's number.
 fn do_record(
+    rt: &HostRuntime,
     run: Run,
     kind: u16,
     body: &[u8],
     mem: &mut [u8],
     lens: &mut [u16],
     lines: &mut [u8],
-) -> Run {
+) -> io::Result<Run> {
     let mut out = [0u8; 64];
     let table = run.table;
     let kept = step(table, mem, lens, lines, own(), kind, body, &mut out);
     let told = kept.told;
     let answer = told.answer;
     let after = kept.table;
-    let place = std::num::wrapping_add_u64(run.place, 1);
-    io::print_decimal(STDOUT_FILENO, place);
-    io::write_all(STDOUT_FILENO, b" ");
-    io::print_decimal(STDOUT_FILENO, wide(number(answer)));
-    io::write_all(STDOUT_FILENO, b"\n");
-    Run {
+    let place = run.place.wrapping_add(1);
+    let said = number(answer);
+    println!(rt; "{place} {said}")?;
+    Ok(Run {
         table: after,
         place,
         held: run.held,
-    }
+    })
 }
 
 fn own() -> Node {
@@ -153,8 +165,4 @@ fn own() -> Node {
         address: OWN,
         protocol: PROTOCOL,
     }
-}
-
-fn wide(x: u32) -> u64 {
-    x as u64
 }

@@ -2,7 +2,7 @@
 -- Assumes nothing.
 use mathlib.Core.Path.{◌≡◌, refl, sym, ap, ap₂, ◌∙◌, subst}
 use mathlib.Core.Bool.{Bool, true, false, true≢false, ◌&&◌}
-use mathlib.Core.List.{List, ◌∷◌}
+use mathlib.Core.List.{List, ◌∷◌, ◌++◌}
 use mathlib.Core.Logic.{◌⊎◌, ⊎_elim}
 use Prim.Native.Nat.{ℕ, suc, ◌+◌, ◌%◌, ◌≤◌, ◌<◌}
 use native.Mathlib.Omega.{arith}
@@ -167,7 +167,7 @@ module _ (h s : End) (x z : Sender) (y : Receiver) (call : SenderCall) (stepped 
       cut_here = cut_at (Tells h s) (Told s copy r.octets) queue later known.older top known.place known.chain copy_of
 
       to_top : cut_here.to ≤ top
-      to_top = chain_rises (Tells h s) _ top cut_here.to later cut_here.rest
+      to_top = chain_rises (Tells h s) (copy_of.source ∷ (copy_of.before ++ known.older)) top cut_here.to later cut_here.rest
 
       heard : (w : Heeds h r own c) → Next
       heard w =
@@ -176,7 +176,7 @@ module _ (h s : End) (x z : Sender) (y : Receiver) (call : SenderCall) (stepped 
           let grows : known.place ≤ p = omega (arith, cut_here.after, cut_here.rises) in
           let said : stated_of r.octets ≡ p % 256 = (cut_here.link copy r.octets copy_of.wrote came.1).0 w.heard in
           let next : z.next ≡ x.next = ⊎_elim (λ q. q) (λ q. absurd (w.follows (one_more_lem at q))) goes.1 in
-          in_open _ p cut_here.rest
+          in_open (copy_of.source ∷ (copy_of.before ++ known.older)) p cut_here.rest
           (w.recorded ∙ ap₂ (recorded_by own.limits own.window) (recorded at) said
           ∙ recorded_place own.limits own.window x.next known.place (omega (arith, small, window_is)) (sent at) p
           (highest_is own x.start x.next (window at).number (window at).flight) grows (omega (arith, to_top, top_near, window_is)))

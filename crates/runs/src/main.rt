@@ -1,46 +1,35 @@
 // Runs of 0, 1, 63, 64, 65, 127 and 128 marks at every offset on the ring (document 02, A3), counted by `slots::ring::run` as it is compiled: on the
 // longest ring, and on shorter ones where the runs fit. What it counts is proved; this program shows that the machine code counts so.
 #![tactic(auto)]
+
 ghost use Rattle.std.specs.Prelude.{◌≤◌, ◌<◌};
 
-use libc::STDOUT_FILENO;
 use slots::ring;
+use std::io;
 
-fn main() {
-    say_runs(128);
-    say_run(128, 127);
-    say_run(128, 128);
-    say_runs(100);
-    say_runs(65);
+fn main(rt: HostRuntime) -> io::Result<()> {
+    say_runs(&rt, 128)?;
+    say_run(&rt, 128, 127)?;
+    say_run(&rt, 128, 128)?;
+    say_runs(&rt, 100)?;
+    say_runs(&rt, 65)
 }
 
-fn say_runs(slots: usize)
+fn say_runs(rt: &HostRuntime, slots: usize) -> io::Result<()>
     requires { (65 ≤ slots) × (slots ≤ 128) }
 {
-    say_run(slots, 0);
-    say_run(slots, 1);
-    say_run(slots, 63);
-    say_run(slots, 64);
-    say_run(slots, 65);
+    say_run(rt, slots, 0)?;
+    say_run(rt, slots, 1)?;
+    say_run(rt, slots, 63)?;
+    say_run(rt, slots, 64)?;
+    say_run(rt, slots, 65)
 }
 
-fn say_run(slots: usize, n: usize)
+fn say_run(rt: &HostRuntime, slots: usize, n: usize) -> io::Result<()>
     requires { (n ≤ slots) × (slots ≤ 128) }
 {
-    say_number(slots);
-    say(b" slots, a run of ");
-    say_number(n);
-    say(b": right at ");
-    say_number(right_offsets(slots, n));
-    say(b" offsets\n");
-}
-
-fn say(text: &[u8]) {
-    io::write_all(STDOUT_FILENO, text);
-}
-
-fn say_number(n: usize) {
-    io::print_decimal(STDOUT_FILENO, n as u64);
+    let right = right_offsets(slots, n);
+    println!(rt; "{slots} slots, a run of {n}: right at {right} offsets")
 }
 
 // At how many of the ring's offsets, from 0 on, a run of n marks is counted as n before it is not.

@@ -45,6 +45,7 @@ fn awaits_control(state: u8) -> bool
 }
 
 // A Control Ack. Before the packet was handed out none can be for it.
+#[tactic(auto, unfolding(crate::specs::Acks::control_ack_step))]
 pub fn control_ack_step(c: Channel, number: u8) -> Stepped
     requires { Ringed c.limits c.window }
     ensures { result ≡ control_ack_step c number }

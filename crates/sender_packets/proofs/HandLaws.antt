@@ -3,7 +3,7 @@
 use Rattle.std.proofs.Common.{◌≡◌, ℕ, zero, suc, ◌+◌, ◌-◌, ◌<◌, ◌≤◌, Bool, true, false, ◌&&◌, ◌||◌, eqb, ltb, List, [], ◌∷◌, length, get_or, take, sym, refl, ap, ◌∙◌, subst, add-one, arith, length-take-le, ltb-true, le-ltb, lt-ltb, eq-eqb, ne_eqb, eqb-true, le-leb}
 use mathlib.Core.Bool.{false≢true}
 use Rattle.laws.specs.Choice.{if◌then◌else◌}
-use Rattle.laws.proofs.Choice.{chosen, passed_by, not_first, both, either, either_way}
+use Rattle.laws.proofs.Choice.{chosen, passed_by, both, either, either_way}
 use Rattle.slots.specs.Ring.{round_of}
 use Rattle.slots.specs.Slots.{segment_in}
 use Rattle.channel.specs.Places.{slot_of}
@@ -17,7 +17,6 @@ use Rattle.packet.specs.Writing.{after_write}
 use Rattle.channel.specs.declared.record.Node.{Node}
 use Rattle.channel.specs.declared.record.Addresses.{Addresses}
 use Rattle.channel.specs.declared.record.Channel.{Channel}
-use Rattle.channel.specs.declared.answer.Answer.TheVariants.{Done}
 use Rattle.channel.specs.declared.answer.Refusal.TheVariants as refusal
 use Rattle.channel.specs.Record.{enabled, opened, closing}
 use Rattle.channel.specs.Prefixes.{prefix_of, fit_prefix}

@@ -1,6 +1,7 @@
 // Units at a transmit end: filed by a transfer, and reclaimed in CLOSED (document 01, Sending). The lent memory is written by a transfer, and by
 // nothing else.
 #![tactic(auto)]
+
 pub mod reclaiming;
 pub mod transfer;
 

@@ -2,14 +2,14 @@
 -- Assumes nothing.
 use mathlib.Core.Path.{◌≡◌, refl, sym, ap, ap₂, ◌∙◌, subst}
 use mathlib.Core.Logic.{◌⊎◌, inl, inr, ⊎_elim}
-use mathlib.Core.List.{List, [], ◌∷◌, ◌++◌, append-nil, append_assoc}
+use mathlib.Core.List.{List, [], ◌∷◌, ◌++◌, append_assoc}
 use Prim.Native.Nat.{ℕ, ◌+◌, ◌-◌, ◌*◌, ◌≤◌, ◌<◌}
-use native.Mathlib.Nat.{add-zero, le_of_eq, mul-le-mul_right, suc-mul}
+use native.Mathlib.Nat.{add-zero, mul-le-mul_right, suc-mul}
 use native.Mathlib.Numerals.{add-one}
 use native.Mathlib.Omega.{arith}
-use lib.ListN.{length, get_or, set, take, drop, length-append, length-drop, length-set, drop_of_length-le, take-append-drop}
-use lib.Seq.{length-take-le, take-length, take_at, drop_at, drop-drop, drop-append-add, take-append-le, take-take, get_or-set_same, get_or-set_other, set_split}
-use Rattle.laws.proofs.Lists.{tail_part, take_drop}
+use lib.ListN.{length, get_or, set, take, drop, length-append, length-drop, length-set, take-append-drop}
+use lib.Seq.{length-take-le, take_at, drop_at, drop-drop, drop-append-add, take-append-le, take-take, get_or-set_same, get_or-set_other, set_split}
+use Rattle.laws.proofs.Lists.{take_drop}
 use Rattle.laws.proofs.Numbers.{either_side}
 use Rattle.slots.specs.Slots.{Sized, laid, segment_in}
 
@@ -83,18 +83,12 @@ laid_one m at x h = set_split m at x h ∙ ap (λ (k : ℕ). take at m ++ (x ∷
 pub laid_led : (m : List ℕ) (at x : ℕ) (p : List ℕ) → at < length m → laid (set m at x) (at + 1) p ≡ laid m at (x ∷ p)
 laid_led m at x p h = ap (λ (l : List ℕ). laid l (at + 1) p) (laid_one m at x h) ∙ laid_on m at (x ∷ []) (omega arith) p
 
--- a part copied to the front of what is lent from the place `at` on, to the memory's end, is laid there
-pub placed : (m : List ℕ) (at : ℕ) (p q : List ℕ)
-    → q ≡ take (length p) p ++ drop (length p) (take (length m - at) (drop at m))
-    → take at m ++ (q ++ drop (length m - at) (drop at m)) ≡ laid m at p
+-- a part copied to the n places from the place `at` on, which are as many as it has, is laid there
+pub placed : (m : List ℕ) (at n : ℕ) (p q : List ℕ) → q ≡ p → n ≡ length p → take at m ++ (q ++ drop n (drop at m)) ≡ laid m at p
 unfolding laid
-placed m at p q e =
-    let none : drop (length m - at) (drop at m) ≡ [] = drop_of_length-le (drop at m) (le_of_eq (length-drop at m)) in
-    let all : q ≡ p ++ drop (at + length p) m =
-    e
-    ∙ ap₂ (λ (a b : List ℕ). a ++ drop (length p) b) (take-length p) (tail_part at m)
-    ∙ ap (λ (l : List ℕ). p ++ l) (drop-drop (length p) at m) in
-    ap (λ (l : List ℕ). take at m ++ (q ++ l)) none ∙ ap (λ (l : List ℕ). take at m ++ l) (append-nil q ∙ all)
+placed m at n p q e k =
+    ap₂ (λ (a : List ℕ) (b : ℕ). take at m ++ (a ++ drop b (drop at m))) e k
+    ∙ ap (λ (l : List ℕ). take at m ++ (p ++ l)) (drop-drop (length p) at m)
 
 -- ---- slots lie one after the other
 

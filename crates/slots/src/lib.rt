@@ -1,5 +1,6 @@
 // The ring of slots, segments in the slots of a lent memory, and how a unit is cut into them (document 01, A channel's record and memory, Sending).
 #![tactic(auto)]
+
 pub mod cutting;
 pub mod filing;
 mod packed;

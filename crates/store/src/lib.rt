@@ -1,5 +1,6 @@
 // Units on the ring of slots: where they end, their octets, and a unit filed (document 01, A channel's record and memory, Sending, Receiving).
 #![tactic(auto)]
+
 pub mod filing;
 pub mod gathering;
 pub mod units;

@@ -5,16 +5,17 @@ use crate::asking::{
 };
 use crate::show::{say, say_answer, say_number};
 use channel::Channel;
+use std::io;
 
-pub fn say_exchanges() {
-    say(b"000, Appendix B, no error:\n");
-    exchange(0, 0);
-    say(b"000, Appendix B, a Data packet is lost:\n");
-    exchange(2, 0);
-    say(b"000, Appendix B, an Ack is lost:\n");
-    exchange(0, 2);
-    say(b"000, Appendix B, Flow Control, with four slots:\n");
-    flow_exchange();
+pub fn say_exchanges(rt: &HostRuntime) -> io::Result<()> {
+    say(rt, b"000, Appendix B, no error:\n")?;
+    exchange(rt, 0, 0)?;
+    say(rt, b"000, Appendix B, a Data packet is lost:\n")?;
+    exchange(rt, 2, 0)?;
+    say(rt, b"000, Appendix B, an Ack is lost:\n")?;
+    exchange(rt, 0, 2)?;
+    say(rt, b"000, Appendix B, Flow Control, with four slots:\n")?;
+    flow_exchange(rt)
 }
 
 // Both ends, and what the link loses: the Data packet and the Ack with these numbers, once; 0 for none.
@@ -25,7 +26,7 @@ struct Link {
     unheard: u8,
 }
 
-fn exchange(lost: u8, unheard: u8) {
+fn exchange(rt: &HostRuntime, lost: u8, unheard: u8) -> io::Result<()> {
     let mut mem = [0u8; 256];
     let mut lens = [0u16; 16];
     let mut lines = [0u8; 51];
@@ -35,23 +36,30 @@ fn exchange(lost: u8, unheard: u8) {
         lost,
         unheard,
     };
-    play(link, &mut mem, &mut lens, &mut lines);
+    play(rt, link, &mut mem, &mut lens, &mut lines)
 }
 
 // The channel is opened, and three units are given and go over; in as many ticks as the timeout, what is not acknowledged is ready again,
 // and goes over; the units are taken, and the channel is closed.
-fn play(link: Link, mem: &mut [u8], lens: &mut [u16], lines: &mut [u8]) {
+fn play(
+    rt: &HostRuntime,
+    link: Link,
+    mem: &mut [u8],
+    lens: &mut [u16],
+    lines: &mut [u8],
+) -> io::Result<()> {
     let mut l = link;
     let mut turn: u8 = 0;
     while turn < 18 {
-        let after = act(l, turn, mem, lens, lines);
+        let after = act(rt, l, turn, mem, lens, lines)?;
         l = after;
         turn += 1;
     }
+    Ok(())
 }
 
 // Five units are given, and four fill the slots: the fifth waits until one is taken and Flow Control has told it.
-fn flow_exchange() {
+fn flow_exchange(rt: &HostRuntime) -> io::Result<()> {
     let mut mem = [0u8; 128];
     let mut lens = [0u16; 8];
     let mut lines = [0u8; 51];
@@ -61,43 +69,64 @@ fn flow_exchange() {
         lost: 0,
         unheard: 0,
     };
-    play_flow(link, &mut mem, &mut lens, &mut lines);
+    play_flow(rt, link, &mut mem, &mut lens, &mut lines)
 }
 
-fn play_flow(link: Link, mem: &mut [u8], lens: &mut [u16], lines: &mut [u8]) {
+fn play_flow(
+    rt: &HostRuntime,
+    link: Link,
+    mem: &mut [u8],
+    lens: &mut [u16],
+    lines: &mut [u8],
+) -> io::Result<()> {
     let mut l = link;
     let mut turn: u8 = 0;
     while turn < 22 {
-        let after = act_flow(l, turn, mem, lens, lines);
+        let after = act_flow(rt, l, turn, mem, lens, lines)?;
         l = after;
         turn += 1;
     }
+    Ok(())
 }
 
 // The sender's room is four slots too, so that the fifth unit is given once Acks have come.
-fn act_flow(link: Link, turn: u8, mem: &mut [u8], lens: &mut [u16], lines: &mut [u8]) -> Link {
+fn act_flow(
+    rt: &HostRuntime,
+    link: Link,
+    turn: u8,
+    mem: &mut [u8],
+    lens: &mut [u16],
+    lines: &mut [u8],
+) -> io::Result<Link> {
     let table = link.table;
-    match turn {
+    Ok(match turn {
         0 => with_table(link, opened(table, mem, lens, lines)),
         2..=5 => with_table(link, given(table, turn, mem, lens, lines)),
         10 => with_table(link, given(table, 6, mem, lens, lines)),
-        12 => with_table(link, take_one(table, mem, lens, lines)),
-        15..=18 => with_table(link, take_one(table, mem, lens, lines)),
+        12 => with_table(link, take_one(rt, table, mem, lens, lines)?),
+        15..=18 => with_table(link, take_one(rt, table, mem, lens, lines)?),
         20 => with_table(link, does(table, CLOSE, b"\0", mem, lens, lines)),
-        _ => round(link, mem, lens, lines),
-    }
+        _ => round(rt, link, mem, lens, lines)?,
+    })
 }
 
-fn act(link: Link, turn: u8, mem: &mut [u8], lens: &mut [u16], lines: &mut [u8]) -> Link {
+fn act(
+    rt: &HostRuntime,
+    link: Link,
+    turn: u8,
+    mem: &mut [u8],
+    lens: &mut [u16],
+    lines: &mut [u8],
+) -> io::Result<Link> {
     let table = link.table;
-    match turn {
+    Ok(match turn {
         0 => with_table(link, opened(table, mem, lens, lines)),
         2..=4 => with_table(link, given(table, turn, mem, lens, lines)),
         8..=11 => with_table(link, does(table, TICK, b"", mem, lens, lines)),
-        13..=15 => with_table(link, take_one(table, mem, lens, lines)),
+        13..=15 => with_table(link, take_one(rt, table, mem, lens, lines)?),
         16 => with_table(link, does(table, CLOSE, b"\0", mem, lens, lines)),
-        _ => round(link, mem, lens, lines),
-    }
+        _ => round(rt, link, mem, lens, lines)?,
+    })
 }
 
 fn with_table(link: Link, table: [Channel; 2]) -> Link {
@@ -126,29 +155,37 @@ fn given(
 }
 
 fn take_one(
+    rt: &HostRuntime,
     table: [Channel; 2],
     mem: &mut [u8],
     lens: &mut [u16],
     lines: &mut [u8],
-) -> [Channel; 2] {
+) -> io::Result<[Channel; 2]> {
     let mut out = [0u8; 64];
     let kept = ask(table, TAKE, b"\x01", mem, lens, lines, &mut out);
     let told = kept.told;
     let answer = told.answer;
-    say(b"  taken: ");
-    say_first(&out, channel::answer::length(answer));
-    say(b"\n");
-    kept.table
+    say(rt, b"  taken: ")?;
+    say_first(rt, &out, channel::answer::length(answer))?;
+    say(rt, b"\n")?;
+    Ok(kept.table)
 }
 
-fn say_first(octets: &[u8], n: usize) {
+fn say_first(rt: &HostRuntime, octets: &[u8], n: usize) -> io::Result<()> {
     if n <= octets.len() {
-        say(&octets[..n]);
+        say(rt, &octets[..n])?;
     }
+    Ok(())
 }
 
 // A packet of the sender, with its reply.
-fn round(link: Link, mem: &mut [u8], lens: &mut [u16], lines: &mut [u8]) -> Link {
+fn round(
+    rt: &HostRuntime,
+    link: Link,
+    mem: &mut [u8],
+    lens: &mut [u16],
+    lines: &mut [u8],
+) -> io::Result<Link> {
     let mut out = [0u8; 64];
     let table = link.table;
     let kept = ask(table, NEXT, b"", mem, lens, lines, &mut out);
@@ -157,6 +194,7 @@ fn round(link: Link, mem: &mut [u8], lens: &mut [u16], lines: &mut [u8]) -> Link
     let sent = kept.table;
     let after = with_table(link, sent);
     over(
+        rt,
         after,
         &out,
         channel::answer::length(answer),
@@ -168,43 +206,52 @@ fn round(link: Link, mem: &mut [u8], lens: &mut [u16], lines: &mut [u8]) -> Link
 
 // The packet, of n octets where there is one, goes over, unless the link loses it.
 fn over(
+    rt: &HostRuntime,
     link: Link,
     out: &[u8],
     n: usize,
     mem: &mut [u8],
     lens: &mut [u16],
     lines: &mut [u8],
-) -> Link {
+) -> io::Result<Link> {
     if n == 0 {
-        return link;
+        return Ok(link);
     }
-    say_packet(b"  -> ", out);
+    say_packet(rt, b"  -> ", out)?;
     if is_number(out, link.lost) {
-        say(b" lost\n");
+        say(rt, b" lost\n")?;
         let table = link.table;
-        return Link {
+        return Ok(Link {
             table,
             lost: 0,
             unheard: link.unheard,
-        };
+        });
     }
     if out.len() < n {
-        return link;
+        return Ok(link);
     }
-    arrives(link, &out[..n], mem, lens, lines)
+    arrives(rt, link, &out[..n], mem, lens, lines)
 }
 
-fn arrives(link: Link, octets: &[u8], mem: &mut [u8], lens: &mut [u16], lines: &mut [u8]) -> Link {
+fn arrives(
+    rt: &HostRuntime,
+    link: Link,
+    octets: &[u8],
+    mem: &mut [u8],
+    lens: &mut [u16],
+    lines: &mut [u8],
+) -> io::Result<Link> {
     let mut reply = [0u8; 13];
     let table = link.table;
     let kept = ask(table, ARRIVAL, octets, mem, lens, lines, &mut reply);
     let told = kept.told;
     let answer = told.answer;
     let arrived = kept.table;
-    say(b" answered ");
-    say_answer(answer);
+    say(rt, b" answered ")?;
+    say_answer(rt, answer)?;
     let after = with_table(link, arrived);
     reply_of(
+        rt,
         after,
         &reply,
         channel::answer::length(answer),
@@ -216,51 +263,60 @@ fn arrives(link: Link, octets: &[u8], mem: &mut [u8], lens: &mut [u16], lines: &
 
 // The first n octets are the reply.
 fn reply_of(
+    rt: &HostRuntime,
     link: Link,
     reply: &[u8],
     n: usize,
     mem: &mut [u8],
     lens: &mut [u16],
     lines: &mut [u8],
-) -> Link {
+) -> io::Result<Link> {
     if reply.len() < n {
-        return link;
+        return Ok(link);
     }
-    back(link, &reply[..n], mem, lens, lines)
+    back(rt, link, &reply[..n], mem, lens, lines)
 }
 
 // The reply comes back, unless the link loses it.
-fn back(link: Link, reply: &[u8], mem: &mut [u8], lens: &mut [u16], lines: &mut [u8]) -> Link {
-    say_packet(b", <- ", reply);
+fn back(
+    rt: &HostRuntime,
+    link: Link,
+    reply: &[u8],
+    mem: &mut [u8],
+    lens: &mut [u16],
+    lines: &mut [u8],
+) -> io::Result<Link> {
+    say_packet(rt, b", <- ", reply)?;
     let table = link.table;
     if is_number(reply, link.unheard) {
-        say(b" lost\n");
-        return Link {
+        say(rt, b" lost\n")?;
+        return Ok(Link {
             table,
             lost: link.lost,
             unheard: 0,
-        };
+        });
     }
-    with_table(link, heard(table, reply, mem, lens, lines))
+    Ok(with_table(link, heard(rt, table, reply, mem, lens, lines)?))
 }
 
 fn heard(
+    rt: &HostRuntime,
     table: [Channel; 2],
     reply: &[u8],
     mem: &mut [u8],
     lens: &mut [u16],
     lines: &mut [u8],
-) -> [Channel; 2] {
+) -> io::Result<[Channel; 2]> {
     let mut out = [0u8; 12];
     let kept = ask(table, ARRIVAL, reply, mem, lens, lines, &mut out);
     let told = kept.told;
     let answer = told.answer;
-    say(b" answered ");
-    say_answer(answer);
-    say(b", confirms ");
-    say_number(channel::answer::confirmed(answer) as u64);
-    say(b"\n");
-    kept.table
+    say(rt, b" answered ")?;
+    say_answer(rt, answer)?;
+    say(rt, b", confirms ")?;
+    say_number(rt, channel::answer::confirmed(answer) as u64)?;
+    say(rt, b"\n")?;
+    Ok(kept.table)
 }
 
 fn is_number(octets: &[u8], number: u8) -> bool {
@@ -274,47 +330,51 @@ fn is_number(octets: &[u8], number: u8) -> bool {
 }
 
 // The packet's type and its number, and of the receiver's the number that it states, if it does.
-fn say_packet(way: &[u8], octets: &[u8]) {
-    say(way);
+fn say_packet(rt: &HostRuntime, way: &[u8], octets: &[u8]) -> io::Result<()> {
+    say(rt, way)?;
     if 11 <= octets.len() {
-        say_kind(octets[2] % 8, octets[4]);
-        say(b" (");
-        say_number(wide(octets[7]));
-        say_stated(octets[2] % 8, octets[4], octets[10]);
-        say(b")");
+        say_kind(rt, octets[2] % 8, octets[4])?;
+        say(rt, b" (")?;
+        say_number(rt, wide(octets[7]))?;
+        say_stated(rt, octets[2] % 8, octets[4], octets[10])?;
+        say(rt, b")")?;
     }
+    Ok(())
 }
 
-fn say_stated(kind: u8, count: u8, stated: u8) {
+fn say_stated(rt: &HostRuntime, kind: u8, count: u8, stated: u8) -> io::Result<()> {
     if kind == 0 {
-        return;
+        return Ok(());
     }
     if count == 1 {
-        say(b", ");
-        say_number(wide(stated));
+        say(rt, b", ")?;
+        say_number(rt, wide(stated))?;
     }
+    Ok(())
 }
 
 fn wide(x: u8) -> u64 {
     x as u64
 }
 
-fn say_kind(kind: u8, count: u8) {
+fn say_kind(rt: &HostRuntime, kind: u8, count: u8) -> io::Result<()> {
     match kind {
-        6 => say_six(count),
-        0 => say(b"Data"),
-        1 => say(b"Data Ack"),
-        2 => say(b"Open"),
-        3 => say(b"Close"),
-        _ => say(b"Control Ack"),
+        6 => say_six(rt, count)?,
+        0 => say(rt, b"Data")?,
+        1 => say(rt, b"Data Ack")?,
+        2 => say(rt, b"Open")?,
+        3 => say(rt, b"Close")?,
+        _ => say(rt, b"Control Ack")?,
     }
+    Ok(())
 }
 
 // Type 6 is Flow Control with an octet, its Ack without.
-fn say_six(count: u8) {
+fn say_six(rt: &HostRuntime, count: u8) -> io::Result<()> {
     if count == 1 {
-        say(b"Flow Control");
+        say(rt, b"Flow Control")?;
     } else {
-        say(b"Flow Control Ack");
+        say(rt, b"Flow Control Ack")?;
     }
+    Ok(())
 }

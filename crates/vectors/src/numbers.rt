@@ -3,6 +3,7 @@ use crate::asking::{ARRIVAL, NEXT, OPEN, OWN, TAKE, TRANSFER, ask, does, facing}
 use crate::show::{say, say_answer};
 use channel::Channel;
 use packet::Fields;
+use std::io;
 
 // Types of packets (000, 4.2.3.4).
 const DATA: u8 = 0;
@@ -11,26 +12,32 @@ const OPENS: u8 = 2;
 
 const CONTROL_ACK: u8 = 7;
 
-pub fn say_numbers() {
+pub fn say_numbers(rt: &HostRuntime) -> io::Result<()> {
     let short = [0u8; 65];
     let long = [0u8; 66];
-    say(b"\nP 16, M 4: a unit of 64 octets is answered ");
-    say_transfer(&short);
-    say(b", of 65 ");
-    say_transfer(&long);
-    say(b"\nk 64, segment 1 repeated: at start 193 it is answered ");
-    say_repeated(64, 193);
-    say(b", at 194 ");
-    say_repeated(64, 194);
-    say(b"\nk 128, segment 1 repeated: at start 129 it is answered ");
-    say_repeated(128, 129);
-    say(b", at 130 ");
-    say_repeated(128, 130);
-    say(b"\n");
+    say(rt, b"\nP 16, M 4: a unit of 64 octets is answered ")?;
+    say_transfer(rt, &short)?;
+    say(rt, b", of 65 ")?;
+    say_transfer(rt, &long)?;
+    say(
+        rt,
+        b"\nk 64, segment 1 repeated: at start 193 it is answered ",
+    )?;
+    say_repeated(rt, 64, 193)?;
+    say(rt, b", at 194 ")?;
+    say_repeated(rt, 64, 194)?;
+    say(
+        rt,
+        b"\nk 128, segment 1 repeated: at start 129 it is answered ",
+    )?;
+    say_repeated(rt, 128, 129)?;
+    say(rt, b", at 130 ")?;
+    say_repeated(rt, 128, 130)?;
+    say(rt, b"\n")
 }
 
 // What a transfer is answered by a sender that was opened: channel 0, and then the unit.
-fn say_transfer(body: &[u8]) {
+fn say_transfer(rt: &HostRuntime, body: &[u8]) -> io::Result<()> {
     let mut mem = [0u8; 256];
     let mut lens = [0u16; 16];
     let mut lines = [0u8; 51];
@@ -44,11 +51,11 @@ fn say_transfer(body: &[u8]) {
     );
     let told = kept.told;
     let answer = told.answer;
-    say_answer(answer);
+    say_answer(rt, answer)
 }
 
 // What the first segment is answered where it comes again, the window having moved on to a start.
-fn say_repeated(window: usize, start: u8) {
+fn say_repeated(rt: &HostRuntime, window: usize, start: u8) -> io::Result<()> {
     let mut mem = [0u8; 4096];
     let mut lens = [0u16; 256];
     let mut lines = [0u8; 51];
@@ -60,7 +67,7 @@ fn say_repeated(window: usize, start: u8) {
     );
     let told = kept.told;
     let answer = told.answer;
-    say_answer(answer);
+    say_answer(rt, answer)
 }
 
 // A receiver that was sent units of one empty segment, and has given each away.

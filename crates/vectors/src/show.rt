@@ -1,25 +1,26 @@
 // Words, numbers, answers and octets on standard output.
 use channel::Answer;
 use channel::answer::number;
-use libc::STDOUT_FILENO;
+use std::io;
+use std::io::Write;
 
-pub fn say(text: &[u8]) {
-    io::write_all(STDOUT_FILENO, text);
+pub fn say(rt: &HostRuntime, text: &[u8]) -> io::Result<()> {
+    io::writer(rt).write_all(text)
 }
 
-pub fn say_number(n: u64) {
-    io::print_decimal(STDOUT_FILENO, n);
+pub fn say_number(rt: &HostRuntime, n: u64) -> io::Result<()> {
+    print!(rt; "{n}")
 }
 
 // Document 01's number of an answer.
-pub fn say_answer(answer: Answer) {
-    say_number(number(answer) as u64);
+pub fn say_answer(rt: &HostRuntime, answer: Answer) -> io::Result<()> {
+    say_number(rt, number(answer) as u64)
 }
 
 // Two digits in capitals, as the papers write them.
-pub fn say_octet(octet: u8) {
+pub fn say_octet(rt: &HostRuntime, octet: u8) -> io::Result<()> {
     let text = [digit(octet / 16), digit(octet)];
-    io::write_all(STDOUT_FILENO, &text);
+    say(rt, &text)
 }
 
 fn digit(n: u8) -> u8 {
@@ -30,11 +31,12 @@ fn digit(n: u8) -> u8 {
     b'A' - 10 + low
 }
 
-pub fn say_octets(octets: &[u8]) {
+pub fn say_octets(rt: &HostRuntime, octets: &[u8]) -> io::Result<()> {
     let mut i = 0;
     while i < octets.len() {
-        say(b" ");
-        say_octet(octets[i]);
+        say(rt, b" ")?;
+        say_octet(rt, octets[i])?;
         i += 1;
     }
+    Ok(())
 }

@@ -7,7 +7,7 @@
 --     calls_by      its call: the arguments are plain data of their kinds (`Lie`), and what is asked holds; the result is plain data of its kind,
 --                   and what is ensured holds. The operands are found behind the item that stands for what is passed, whatever that is
 -- Assumes nothing: `Logic`, the laws of a model, is an argument.
-use Rattle.walks.proofs.Walk.{Bool, false, List, [], ◌∷◌, Ura, Val, ent, emp, Env, Item, runs, ‵, raw, ◌$◌, ◌∵◌, !, qed, use0, move, drop, join, frame, done, Is, owns, plain, nothing, heard, triple_of, Contract, Triple, yes, Name, Body, seq, call, fact, RattleType, Clauses, Ended, closing}
+use Rattle.walks.proofs.Walk.{Bool, false, List, [], ◌∷◌, Ura, Val, ent, emp, Env, Item, runs, ‵, raw, ◌$◌, ◌∵◌, !, qed, use0, move, drop, join, frame, done, Is, owns, plain, nothing, heard, triple_of, Contract, Triple, yes, Callee, Body, seq, call, fact, RattleType, Clauses, Ended, closing}
 use types.Logic.{Logic}
 use types.Kit.{lands, Post, Seq}
 use types.Run.{Opds}
@@ -84,7 +84,7 @@ module _ {M : Type 1} {𝓤 : Ura M} (𝓛 : Logic 𝓤) where
     asks lie ask = qed 𝓛 [] ∵ use0 𝓛 (raw (need 𝓤 B.asked (B.Asks a))) (needed 𝓤 B.asked (B.Asks a) ask) $ use0 𝓛 (‵ (owns (rows B.takes) a (spelled B.takes a))) (owns_make 𝓛 (rows B.takes) (Ises (rows B.takes)) (makes B.takes) a (spelled B.takes a) lie) $ nothing ! $ join ! $ frame ! $ done !
 
 -- ---- the call
-module _ {M : Type 1} {𝓤 : Ura M} {𝓛 : Logic 𝓤} {J : Type 0} {Γ : List (Item 𝓤)} {E : Env 𝓤 𝓛.H} {C : Calls 𝓤 𝓛.H} {Λ : Loops 𝓤 𝓛.H} {f : Name} {xs : List Operand} {d : Place} {rest : Body} {p : Post 𝓤 𝓛.H} where
+module _ {M : Type 1} {𝓤 : Ura M} {𝓛 : Logic 𝓤} {J : Type 0} {Γ : List (Item 𝓤)} {E : Env 𝓤 𝓛.H} {C : Calls 𝓤 𝓛.H} {Λ : Loops 𝓤 𝓛.H} {f : Callee} {xs : List Operand} {d : Place} {rest : Body} {p : Post 𝓤 𝓛.H} where
   open 𝓛 use {H}
 
   pub calls_by : J → FmC 𝓤 H 𝓛.laws C → (B : ByValue) → Triple 𝓤 (C f) (Takes B 𝓤 𝓛) → (a : Values B.takes) → Lie B.takes a → B.Asks a → ((x : Item 𝓤) → Opds J 𝓛 (x ∷ Γ) E xs (passed B.takes a))

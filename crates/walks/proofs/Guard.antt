@@ -1,4 +1,4 @@
--- A test that a branch took, as an equation; and of a call that is done only where a test holds (`doneBy`).
+-- A test that a branch took, as an equation; and of a call that is done only where a test holds (`done_by`).
 -- Assumes nothing.
 use mathlib.Core.Path.{◌≡◌, refl, sym, ap}
 use mathlib.Core.Bool.{Bool, true, false, not}

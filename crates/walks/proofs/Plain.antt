@@ -3,9 +3,9 @@
 --     Letters      of a kind, its type and what the steps ask of it: a walk opens them under letters of its own
 --     uint, truth  the kinds of an unsigned number and of a bool
 --     Has K L      values of K are MIR structs, and one of their fields is an L: which field, and what it holds
---     has-at       an operand: that field of the local at entry n of the context
+--     has_at       an operand: that field of the local that the code names
 -- Assumes nothing: `Logic`, the laws of a model, is an argument.
-use mathlib.Core.Path.{◌≡◌, refl, ap, subst, ◌∙◌}
+use mathlib.Core.Path.{◌≡◌, ap, subst, ◌∙◌}
 use mathlib.Core.Option.{some as someᴼ}
 use mathlib.Core.List.{List, [], ◌∷◌}
 use Prim.Native.Nat.{ℕ}
@@ -14,10 +14,11 @@ use mir.Syntax.{Sym, Width, Ty, Tys, ty_int, ty_bool, ty_struct, field, place as
 use mir.Fields.{get_v}
 use mir.Val.{Val, Vals, vstruct}
 use prog.Memory.{field_at}
-use prog.Wp.{Env, Spot, spot_of}
+use prog.Wp.{Env, spot_of}
 use base.Fml.{Share, fat}
 use types.Logic.{Logic}
-use types.Kit.{Item, ‵, nth}
+use types.Kit.{Item, ‵}
+use types.ByLocal.{at}
 use types.Run.{Opd}
 use denote.RattleType.{RattleType}
 use denote.Laws.{Is}
@@ -61,8 +62,8 @@ pub record Has (K L : Kind) : Type 2 where
 module _ {M : Type 1} {𝓤 : Ura M} {𝓛 : Logic 𝓤} {J : Type 0} {Γ : List (Item 𝓤)} {E : Env 𝓤 𝓛.H} where
   open 𝓛 use {H}
 
-  pub has_at : J → (n : ℕ) {K L : Kind} (F : Has K L) (y : K.row.Denot) {i : ℕ} {s : Share} {b o : ℕ} → nth 𝓛 n Γ ≡ ‵ (fat s K.ty b o (K.elem.val y)) → spot_of 𝓤 H E i ≡ (K.ty, b, o)
+  pub has_at : J → {K L : Kind} (F : Has K L) (y : K.row.Denot) {i : ℕ} {s : Share} {b o : ℕ} → at 𝓛 i Γ ≡ ‵ (fat s K.ty b o (K.elem.val y)) → spot_of 𝓤 H E i ≡ (K.ty, b, o)
       → Opd J 𝓛 Γ E (copy (place' i (field F.index ∷ []))) (L.elem.val (F.part y))
-  has_at t n {K} {L} F y {i} {s} {b} {o} e₁ e₂ = subst (λ (v : Val). Opd J 𝓛 Γ E (copy (place' i (field F.index ∷ []))) v) (F.get_is y)
-      (fld_at t n F.index (e₁ ∙ ap (λ (τ : Ty). ‵ (fat s τ b o (K.elem.val y))) F.ty_is ∙ ap (λ (v : Val). ‵ (fat s (ty_struct F.symbol F.types) b o v)) (F.val_is y))
+  has_at t {K} {L} F y {i} {s} {b} {o} e₁ e₂ = subst (λ (v : Val). Opd J 𝓛 Γ E (copy (place' i (field F.index ∷ []))) v) (F.get_is y)
+      (fld_at t F.index (e₁ ∙ ap (λ (τ : Ty). ‵ (fat s τ b o (K.elem.val y))) F.ty_is ∙ ap (λ (v : Val). ‵ (fat s (ty_struct F.symbol F.types) b o v)) (F.val_is y))
       (e₂ ∙ ap (λ (τ : Ty). (τ, b, o)) F.ty_is) F.lies)

@@ -9,7 +9,7 @@ use seplogic.Ra.Ura.{Ura}
 use base.Logic.{SProp, ent, emp, sep, id⊢, via, fst∗}
 use contract.Monad.{fact, fact_i}
 use denote.Triple.Walked.{needs}
-use Prim.Native.Nat.{ℕ, ◌^◌}
+use Prim.Native.Nat.{◌^◌}
 use lib.Dec.{T, ltb}
 use mir.Syntax.{w64}
 use denote.Memory.{mem}

@@ -4,8 +4,8 @@
 --     true Asks may                what the step requires, and that it may be called; where it has no `requires`,
 --                                  `false (λ c d n m l li x o. Unit {0}) (λ ys m l li n x o h. tt)`
 -- Assumes nothing.
-use mathlib.Core.Path.{◌≡◌, refl, sym, ap, subst, ◌∙◌}
-use mathlib.Core.Bool.{Bool, true, false}
+use mathlib.Core.Path.{◌≡◌, sym, ap, subst, ◌∙◌}
+use mathlib.Core.Bool.{Bool, true}
 use mathlib.Core.List.{List}
 use Prim.Native.Nat.{ℕ, ◌<◌, ◌≤◌}
 use lib.Dec.{ltb}

@@ -1,25 +1,25 @@
 -- Steps of the logic's calculus (`Types/Kit.antt`) for a walk over a lent slice of plain records, `&[T]` and `&mut [T]`.
---     Elem R               what the steps ask of the element type: plain data of one machine value. A declared struct has it (`struct-elem`)
+--     Elem R               what the steps ask of the element type: plain data of one machine value, which can be copied. A declared struct has it (`struct_elem`)
 --     plainly              the type of plain data R with its one MIR type named, and with no last value
---     xs-at                the reference ((b, o), γ) at the list ys
+--     xs_at, xs_in         the reference ((b, o), γ) at the list ys, a `&mut [T]`; and the reference (b, o), a `&[T]`
 --     shr_at, mut_at       what it owns as a `&κ [T]` and as a `&κ mut [T]`
---     loc, fld-at          an operand: the local at entry n of the context, and field k of it
---     sets, resets         an assignment to a local that was never written, and to one that was
+--     gave_at              what is left of a `&κ mut [T]` that is given up: what says its last list, and the borrow
+--     fld_at               an operand: field k of the local that the code names (the local itself is `Types/ByLocal.antt`'s `get`)
+--     ptr_at               the address that the slice in the local that the code names points to, `&*s`
 --     Looked, Opened       what is kept of a slice while an element is out
---     elem-ptr             the address of an element: the slice's pointer, and the index times the size
---     in-room              the place of an element is a number of the machine's
---     peeks-at, shuts-at   element i of a `&κ [T]` is taken out to be read, and put back
+--     elem_ptr             the address of an element: the slice's pointer, and the index times the size
+--     in_room              the place of an element is a number of the machine's
+--     peeks_at, shuts_at   element i of a `&κ [T]` is taken out to be read, and put back
 --     opens_at             element i of a `&κ mut [T]` is taken out, to be read or stored to
---     backs-at, closes_at  it is put back as it was; or at a new value y, and the slice is then at `set ys i y`
---     gives_up             a `&κ mut [T]` that is done with: what says its last list (for `gave_slice`)
---     frees1, frees0       at a function's end the local at entry n is freed, which is written, or was never
---     assigns-out, skips-out   the last statement of an arm: the code after the branch runs
+--     backs_at, closes_at  it is put back as it was; or at a new value y, and the slice is then at `set ys i y`
+--     gives_up             a `&κ mut [T]` that is done with: what says its last list, and the borrow (for `gave_slice`)
+--     gave_up              the same of one that a callee was passed, from what says its last list
+--     assigns_out, skips_out   the last statement of an arm: the code after the branch runs
 --     tests                the test of a `while`: the turn goes on, or the loop is left
---     left-of, left-wf     the order by which a loop that counts up to n ends
---     calls-out, calls-plain   a call, with its `post` taken apart; and where the result is plain data, at its machine value
---     meets-by             from a walk to the contract: `Walked.antt`'s `walked` and `walk_Meets` in one
+--     left_of_lem, left_wf     the order by which a loop that counts up to n ends
+--     calls_out, calls_plain   a call, with its `post` taken apart; and where the result is plain data, at its machine value
+--     meets_by             from a walk to the contract: `Walked.antt`'s `walked` and `walk_Meets` in one
 -- Assumes nothing: `Logic`, the laws of a model, is an argument.
-use denote.Ref.{shr_at, mut_at}
 use mathlib.Core.Path.{◌≡◌, refl, sym, ap, subst}
 use mathlib.Core.Option.{some as someᴼ}
 use Prim.Native.Nat.{ℕ, ◌+◌, ◌*◌, ◌^◌, ◌<◌, ◌≤◌, ◌-◌}
@@ -28,30 +28,32 @@ use native.Mathlib.Nat.{mul-le-mul_right}
 use mathlib.Core.List.{List, [], ◌∷◌}
 use lib.ListN.{length, get_or, set, length-set}
 use seplogic.Ra.Ura.{Ura}
-use seplogic.Ra.TreeShare.{full_share}
-use mir.Syntax.{named, Sym, Width, w64, Ty, Tys, ty_struct, Fn, Name, field, Place, place as place', Opd as Operand, copy, op2, offset, Rv as RValue, Body, seq, assign, skip, cond, exit, call}
+use base.Fraction.{full_share}
+use mir.Syntax.{named, Sym, Width, w64, Lifetime, Mutability, Ty, Tys, ty_ref, ty_struct, Fn, Callee, field, deref, addr_of, Place, place as place', Opd as Operand, copy, op2, offset, Rv as RValue, Body, seq, assign, skip, cond, exit, call}
 use mir.Fields.{get_v, set_v}
 use prog.Memory.{field_at}
-use mir.Val.{Val, Vals, vint, vbool, vptr, vstruct, has_ty, WT}
+use mir.Val.{Val, Vals, vint, vbool, vptr, vstruct, vcons, vnil}
 use mathlib.Core.Bool.{Bool, not}
 use lib.Dec.{T}
 use lib.WfN.{lt-wf_rel}
 use mathlib.Core.WellFounded.InvImage
 use mathlib.Core.WellFounded.{WellFounded}
-use base.Fml.{Lft, GName, Share, Fml, fat, froom, fdies, fsep, flft, fobs, fres, fauth, fbor, fobor, fshr_bor}
-use prog.Wp.{Env, Spot, spot_of, Calls, Loops, Wp, exits, after_seq, at_return, WpFn, Tables, release}
+use base.Fml.{Lft, GName, Share, Fml, fat, fsep, flft, fobs, fres, fauth, fbor, fobor, feq, fhide}
+use prog.Wp.{Env, Spot, spot_of, Calls, Loops, Wp, exits, after_seq, at_return, WpFn, Tables}
 use sound.WpLaws.{FmC, WpFn-mono}
 use types.Logic.{Logic}
-use base.Logic.{SProp, ent, sep, id⊢, via, mono_l, mono_r, assoc'}
-use types.Kit.{Goal, prop, post, runs, lands, any_q, at_ret, Post, frees, Soaks, Item, ‵, raw, some, later, ◌⊛◌, mean, ⋆, nth, put, del, pull, Seq, Step, step, ◌$◌, move, drop, split, pick, await, use1, regoal, fsplit, fjoin}
-use types.Run.{Opds, Rv, Finds, Writes, Walks, Opd, look, store, init, load, stop, fld, from, bin, assigns, assigns_last, skips, jumps, first, branches}
-use types.Part.{Part, whole, sub, look_in}
-use types.Share.{arr_parts}
-use denote.RattleType.{RattleType, flat}
+use base.Logic.{SProp, ent, sep, id⊢}
+use types.Kit.{Goal, prop, post, runs, lands, any_q, at_ret, Post, Soaks, Item, ‵, raw, some, later, ◌⊛◌, Seq, Step, step, ◌$◌, move, drop, split, join, pick, await, use1, regoal, fsplit, fjoin, feq_l}
+use types.Run.{Opds, Rv, Finds, Writes, Walks, Opd, load, addr, stop, hop, fld, from, bin, assigns_last, skips, jumps, first, branches}
+use types.Part.{Part, whole, sub}
+use types.ByLocal.{at, look_in_at}
+use denote.RattleType.{RattleType, RowLaws, flat}
 use denote.Exit.{unchanged}
 use denote.Shadow.{shadow, pure_l, pure_i}
 use contract.Lifetimes.{Lfts, Shares, AllOutlive}
-use denote.Laws.{Is, Ises, Are, Spells, valss, Tellss, Typed, Tells, Copy, Makes, shows}
+use denote.Laws.{Is, Ises, Are, Spells, valss, Tellss, Typed, Tells, Makes, shows}
+use denote.Copied.{Copied, uint_Copied, bool_Copied}
+use denote.Opens.{Shut}
 use denote.Signature.{type_at, types_at}
 use denote.Triple.Entry.{Args, Res, alive, on_entry}
 use denote.Triple.Clauses.{Clauses, Ended, Lasts, at_exit, lasts, closing}
@@ -60,36 +62,40 @@ use denote.Triple.Statement.{Triple}
 use denote.Triple.Call.{calls_at}
 use denote.Triple.Walked.{Stays, AllGo, walk_of, walked, walk_Meets}
 use denote.Memory.{cell_at, mem, shares}
-use denote.Ref.{MutBor}
-use denote.Slice.{slice_val, MutSlice, ShrSlice, Room, heres, coded_holeys, shr_slice_at, mut_slice_at, finally, res-finally}
+use denote.Bor.{Bor}
+use denote.MutBor.{MutBor}
+use denote.Slice.{slice_val, slice_ty, MutSlice, ShrSlice, Room, heres, coded_holeys, shr_slice_at, mut_slice_at, elements_shared, finally, res-finally}
 use denote.Lend.{Held}
-use denote.Index.{place, place_is, others, elem_out, elem_put, elem_back, opens_slice, closes_slice, looks_slice, shuts_slice}
+use denote.Index.{place, place_is, others, row as cells_row, elem_out, elem_put, elem_back, opens_slice, closes_slice, looks_slice, shuts_slice}
 use denote.Steps.{only, owned, facts}
-use denote.Plain.{UInt, uint_Tells, uint_Lawful, uint_copy, uint_Makes, Boolean, bool_Tells, bool_Lawful, bool-copy, bool_Makes}
-use denote.Struct.Declared.{Declared, row, fields}
-use denote.Struct.Struct.{Plains}
+use denote.Plain.{UInt, uint_Tells, uint_Lawful, uint_Makes, Boolean, bool_Tells, bool_Lawful, bool_Makes, uint_row_laws, bool-row_laws}
+use denote.Struct.Declared.{Declared, row, shape, fields}
+use denote.Struct.Recorded.{Recorded-row_laws}
+use denote.Struct.Struct.{Plains, Struct, Struct-row_laws}
 use denote.Struct.Laws as LL
 use denote.Enum.Declared as ED
-use denote.Enum.Enum.{Plainss, Few}
+use denote.Enum.Enum.{Plainss, Few, Enum, Enum-row_laws}
 use denote.Enum.Laws as EL
 
 abbrev pub plainly : RattleType → Ty → RattleType
-plainly R τ = record { Denot = R.Denot; mir = τ ∷ []; written = R.written; reaches = R.reaches; own_val = R.own; exit = λ k. unchanged; coded = R.coded }
+plainly R τ = record { Denot = R.Denot; mir = τ ∷ []; written = R.written; reaches = R.reaches; lives = R.lives; own_val = R.own_val; exit = λ k. unchanged; coded = R.coded; shr_at = R.shr_at }
 
 pub record Elem (R : RattleType) : Type 2 where
   pub val : R.Denot → Val
   pub tells : Tells R (Is R) (λ y. val y ∷ [])
   pub typed : {M : Type 1} {𝓤 : Ura M} (𝓛 : Logic 𝓤) (y : R.Denot) → Is R y (val y ∷ []) → Typed R.mir (val y ∷ [])
-  pub copies : {M : Type 1} {𝓤 : Ura M} (𝓛 : Logic 𝓤) → Copy 𝓛 R
+  pub copied : {M : Type 1} {𝓤 : Ura M} (𝓛 : Logic 𝓤) → Copied 𝓛 R
   pub makes : {M : Type 1} {𝓤 : Ura M} (𝓛 : Logic 𝓤) → Makes 𝓛 R (Is R)
+  pub row_laws : RowLaws R
 
 abbrev pub struct_elem : (T : Declared) (L : LL.Laws T) → LL.Copyables T.parts → Plains (fields T) → Elem (row T)
 struct_elem T L cp pl = record {
   val = LL.val T L;
   tells = LL.tells T L;
   typed = λ 𝓛 y p. (LL.lawful T L 𝓛).typed y (LL.val T L y ∷ []) p;
-  copies = λ 𝓛. LL.copy T cp 𝓛;
+  copied = λ 𝓛. LL.copied T cp 𝓛;
   makes = λ 𝓛. LL.makes T pl 𝓛;
+  row_laws = Recorded-row_laws (Struct (shape T)) T.D T.to T.to_one (Struct-row_laws (shape T) (LL.copy_row_laws T.parts cp));
 }
 
 abbrev pub enum_elem : (T : ED.Declared) (L : EL.Laws T) → EL.Copyabless T.parts → Plainss (ED.variants T) → Few (ED.shape T) → Elem (ED.row T)
@@ -97,8 +103,9 @@ enum_elem T L cp pl few = record {
   val = EL.val T L;
   tells = EL.tells T L;
   typed = λ 𝓛 y p. (EL.lawful T L 𝓛 few).typed y (EL.val T L y ∷ []) p;
-  copies = λ 𝓛. EL.copy T cp 𝓛;
+  copied = λ 𝓛. EL.copied T cp 𝓛;
   makes = λ 𝓛. EL.makes T pl 𝓛;
+  row_laws = Recorded-row_laws (Enum (ED.shape T)) T.D T.to T.to_one (Enum-row_laws (ED.shape T) (EL.copy_row_lawss T.parts cp));
 }
 
 abbrev pub uint_elem : (w : Width) → Elem (UInt w)
@@ -106,8 +113,9 @@ uint_elem w = record {
   val = vint w;
   tells = uint_Tells w;
   typed = λ 𝓛 y p. (uint_Lawful 𝓛 w).typed y (vint w y ∷ []) p;
-  copies = λ 𝓛. uint_copy 𝓛 w;
+  copied = λ 𝓛. uint_Copied 𝓛 w;
   makes = λ 𝓛. uint_Makes 𝓛 w;
+  row_laws = uint_row_laws w;
 }
 
 abbrev pub bool_elem : Elem Boolean
@@ -115,51 +123,60 @@ bool_elem = record {
   val = vbool;
   tells = bool_Tells;
   typed = λ 𝓛 y p. (bool_Lawful 𝓛).typed y (vbool y ∷ []) p;
-  copies = λ 𝓛. bool-copy 𝓛;
+  copied = λ 𝓛. bool_Copied 𝓛;
   makes = λ 𝓛. bool_Makes 𝓛;
+  row_laws = bool-row_laws;
 }
+
+module _ (R : RattleType) (b o : ℕ) where
+  abbrev pub xs_in : List R.Denot → Bor (List R.Denot)
+  xs_in ys = record { ref_ptr = (b, o); now = ys }
+
+  -- what is kept of a `&κ [T]` while the share q' of element i, at the machine values vs, is out
+  module _ {M : Type 1} {𝓤 : Ura M} (𝓛 : Logic 𝓤) (κ : Lft) (q : Share) (ys : List R.Denot) (i : ℕ) where
+    abbrev pub Looked : Share → R.Denot → List Val → Item 𝓤
+    Looked q' d vs = ‵ (R.own_val (get_or ys i d) vs) ⊛ (‵ (others (shares R) q' ys i b o) ⊛ (Shut 𝓛 κ q (cells_row R q' ys b o) ⊛ ‵ (fhide (elements_shared R ys b o κ))))
 
 module _ (R : RattleType) (b o : ℕ) (γ : GName) where
   abbrev pub xs_at : List R.Denot → MutBor (List R.Denot)
   xs_at ys = record { ref_ptr = (b, o); ghost_name = γ; now = ys }
 
   module _ (κ : Lft) (q : Share) (ys : List R.Denot) (i : ℕ) where
-    -- what is kept of a `&κ [T]` while the share q' of element i, at the machine values vs, is out
-    abbrev pub Looked : Share → R.Denot → List Val → Fml
-    Looked q' d vs = fsep (R.own (get_or ys i d) vs) (fsep (others (shares R) q' ys i b o) (fsep (fobor κ q ((arr_parts (shares R) (length ys)).part q' ys b o))
-        (fsep (fshr_bor κ (λ s. (arr_parts (shares R) (length ys)).part s ys b o)) (fres γ ((coded_holeys R).code (heres R ys))))))
-
     -- what is kept of a `&κ mut [T]` while element i is out
     abbrev pub Opened : Fml
     Opened = fsep (others (shares R) full_share ys i b o) (fsep (fobor κ q (Held R (length ys) b o γ)) (fsep (fobs γ ((coded_holeys R).code (heres R ys))) (fauth γ ((coded_holeys R).code (heres R ys)))))
 
-module _ (R : RattleType) (κ : Lft) (b o : ℕ) (γ : GName) (ys : List R.Denot) where
-  abbrev pub shr_at : Fml
-  shr_at = (ShrSlice (named 0) κ R).own_val (xs_at R b o γ ys) (slice_val (b, o) (length ys) ∷ [])
+module _ (R : RattleType) (κ : Lft) (b o : ℕ) where
+  abbrev pub shr_at : List R.Denot → Fml
+  shr_at ys = (ShrSlice (named 0) κ R).own_val (xs_in R b o ys) (slice_val (b, o) (length ys) ∷ [])
 
-  abbrev pub mut_at : Fml
-  mut_at = (MutSlice (named 0) κ R).own_val (xs_at R b o γ ys) (slice_val (b, o) (length ys) ∷ [])
+  module _ (γ : GName) where
+    abbrev pub mut_at : List R.Denot → Fml
+    mut_at ys = (MutSlice (named 0) κ R).own_val (xs_at R b o γ ys) (slice_val (b, o) (length ys) ∷ [])
+
+    -- the slice of n elements is given up at the list zs
+    abbrev pub gave_at : ℕ → List R.Denot → Fml
+    gave_at n zs = fsep (finally R γ zs) (fbor κ (Held R n b o γ))
 
 module _ {M : Type 1} {𝓤 : Ura M} {𝓛 : Logic 𝓤} {K : Type 0} {Γ : List (Item 𝓤)} {G : Goal 𝓤 𝓛.H} where
-  pub peeks_at : K → Soaks G → {R : RattleType} (E : Elem R) {κ : Lft} {q : Share} (b o : ℕ) {γ : GName} (ys : List R.Denot) {vs : List Val} (i : ℕ) (d : R.Denot) → i < length ys
-      → ((q' : Share) → shadow (shr_slice_at R (xs_at R b o γ ys) vs) → Is R (get_or ys i d) (E.val (get_or ys i d) ∷ [])
-      → Seq K 𝓛 (‵ (cell_at q' R.mir (E.val (get_or ys i d) ∷ []) b (place (mem R).size o i)) ∷ ‵ (Looked R b o γ κ q ys i q' d (E.val (get_or ys i d) ∷ [])) ∷ Γ) G)
-      → Seq K 𝓛 (‵ ((ShrSlice (named 0) κ R).own_val (xs_at R b o γ ys) vs) ∷ ‵ (flft κ q) ∷ Γ) G
-  peeks_at t z {R} E b o {γ} ys {vs} i d l k =
-      fsplit t $ pure_l t (shr_slice_at R (xs_at R b o γ ys) vs) (λ p. fsplit t $ move t (1 ∷ 2 ∷ 0 ∷ []) $
-      looks_slice t z R (Is R) (shows 𝓛 R) (λ y. E.val y ∷ []) E.tells (E.copies 𝓛) ys b o (λ q'.
+  pub peeks_at : K → Soaks G → {R : RattleType} (E : Elem R) {κ : Lft} {q : Share} (b o : ℕ) (ys : List R.Denot) {vs : List Val} (i : ℕ) (d : R.Denot) → i < length ys
+      → ((q' : Share) → shadow (shr_slice_at R (xs_in R b o ys) vs) → Is R (get_or ys i d) (E.val (get_or ys i d) ∷ [])
+      → Seq K 𝓛 (‵ (cell_at q' R.mir (E.val (get_or ys i d) ∷ []) b (place (mem R).size o i)) ∷ Looked R b o 𝓛 κ q ys i q' d (E.val (get_or ys i d) ∷ []) ∷ Γ) G)
+      → Seq K 𝓛 (‵ ((ShrSlice (named 0) κ R).own_val (xs_in R b o ys) vs) ∷ ‵ (flft κ q) ∷ Γ) G
+  peeks_at t z {R} E b o ys {vs} i d l k =
+      fsplit t $ pure_l t (shr_slice_at R (xs_in R b o ys) vs) (λ p. looks_slice t z R (E.copied 𝓛) ys b o (λ q'.
       elem_out t R (Is R) (shows 𝓛 R) (λ y. E.val y ∷ []) E.tells q' ys i d b o l (λ is.
-      -- [the element; what it owns; the others; what shuts; the fractured borrow; res]
-      move t (4 ∷ 5 ∷ []) $ fjoin t $ move t (4 ∷ 0 ∷ []) $ fjoin t $ move t (3 ∷ 0 ∷ []) $ fjoin t $ move t (2 ∷ 0 ∷ []) $ fjoin t $ move t (1 ∷ 0 ∷ []) $ k q' p is)))
+      -- [the element; what it owns; the others; what shuts; what the slice owns]
+      move t (3 ∷ 4 ∷ []) $ join t $ move t (3 ∷ 0 ∷ []) $ join t $ move t (2 ∷ 0 ∷ []) $ join t $ move t (1 ∷ []) $ k q' p is)))
 
-  pub shuts_at : K → Soaks G → {R : RattleType} (E : Elem R) {κ : Lft} {q : Share} (b o : ℕ) {γ : GName} (ys : List R.Denot) (vs : List Val) (q' : Share) (i : ℕ) (d : R.Denot) → i < length ys
-      → shadow (shr_slice_at R (xs_at R b o γ ys) vs)
-      → Step K 𝓛 (‵ ((ShrSlice (named 0) κ R).own_val (xs_at R b o γ ys) vs) ∷ ‵ (flft κ q) ∷ Γ) G (‵ (cell_at q' R.mir (E.val (get_or ys i d) ∷ []) b (place (mem R).size o i)) ∷ ‵ (Looked R b o γ κ q ys i q' d (E.val (get_or ys i d) ∷ [])) ∷ Γ) G
-  shuts_at t z {R} E b o {γ} ys vs q' i d l p = step (λ s.
-      move t (1 ∷ []) $ fsplit t $ move t (1 ∷ []) $ fsplit t $ move t (1 ∷ []) $ fsplit t $ move t (1 ∷ []) $ fsplit t $
-      -- [the fractured borrow; res; what shuts; the others; what the element owns; the element]
-      move t (5 ∷ 4 ∷ 3 ∷ 2 ∷ []) $ elem_back t R q' ys i d (E.val (get_or ys i d) ∷ []) b o l $ shuts_slice t z R q' ys b o $
-      move t (2 ∷ 1 ∷ []) $ fjoin t $ pure_i t (shr_slice_at R (xs_at R b o γ ys) vs) (tt, (tt, tt)) p $ fjoin t $ s)
+  pub shuts_at : K → Soaks G → {R : RattleType} (E : Elem R) {κ : Lft} {q : Share} (b o : ℕ) (ys : List R.Denot) (vs : List Val) (q' : Share) (i : ℕ) (d : R.Denot) → i < length ys
+      → shadow (shr_slice_at R (xs_in R b o ys) vs)
+      → Step K 𝓛 (‵ ((ShrSlice (named 0) κ R).own_val (xs_in R b o ys) vs) ∷ ‵ (flft κ q) ∷ Γ) G (‵ (cell_at q' R.mir (E.val (get_or ys i d) ∷ []) b (place (mem R).size o i)) ∷ Looked R b o 𝓛 κ q ys i q' d (E.val (get_or ys i d) ∷ []) ∷ Γ) G
+  shuts_at t z {R} E b o ys vs q' i d l p = step (λ s.
+      move t (1 ∷ []) $ split t $ move t (1 ∷ []) $ split t $ move t (1 ∷ []) $ split t $
+      -- [what shuts; what the slice owns; the others; what the element owns; the element]
+      move t (4 ∷ 3 ∷ 2 ∷ []) $ elem_back t R q' ys i d (E.val (get_or ys i d) ∷ []) b o l $ shuts_slice t z R q' ys b o $
+      move t (1 ∷ []) $ pure_i t (shr_slice_at R (xs_in R b o ys) vs) (tt, (tt, tt)) p $ fjoin t $ s)
 
   pub opens_at : K → Soaks G → {R : RattleType} (E : Elem R) {κ : Lft} {q : Share} (b o : ℕ) {γ : GName} (ys : List R.Denot) {vs : List Val} (i : ℕ) (d : R.Denot) → i < length ys
       → (shadow (mut_slice_at R (xs_at R b o γ ys) vs) → Is R (get_or ys i d) (E.val (get_or ys i d) ∷ [])
@@ -191,61 +208,31 @@ module _ {M : Type 1} {𝓤 : Ura M} {𝓛 : Logic 𝓤} {K : Type 0} {Γ : List
       pure_i t (mut_slice_at R (xs_at R b o γ (set ys i y)) vs) (tt, (tt, tt)) (subst (λ (n : ℕ). (vs ≡ slice_val (b, o) n ∷ []) × Room R n) (sym (length-set ys i y)) p) $ fjoin t $ s)
 
   -- it is given up, at its last list
-  pub gives_up : K → (R : RattleType) {κ : Lft} (b o : ℕ) {γ : GName} (ys : List R.Denot) {vs : List Val} → Step K 𝓛 (‵ (finally R γ ys) ∷ Γ) G (‵ ((MutSlice (named 0) κ R).own_val (xs_at R b o γ ys) vs) ∷ Γ) G
+  pub gives_up : K → (R : RattleType) {κ : Lft} (b o : ℕ) {γ : GName} (ys : List R.Denot) {vs : List Val} → Step K 𝓛 (‵ (gave_at R κ b o γ (length ys) ys) ∷ Γ) G (‵ ((MutSlice (named 0) κ R).own_val (xs_at R b o γ ys) vs) ∷ Γ) G
   gives_up t R {κ} b o {γ} ys = step (λ s. fsplit t $ drop t $ fsplit t $ use1 𝓛 (‵ (fres γ ((coded_holeys R).code (heres R ys)))) (𝓛.names.obs-res γ ((coded_holeys R).code (heres R ys))) $
-      use1 𝓛 (‵ (finally R γ ys)) (res-finally 𝓛 (named 0) κ R γ ys) $ move t (1 ∷ []) $ drop t $ s)
+      use1 𝓛 (‵ (finally R γ ys)) (res-finally 𝓛 (named 0) κ R γ ys) $ fjoin t $ s)
 
--- ---- at a function's end
-module _ {M : Type 1} {𝓤 : Ura M} {𝓛 : Logic 𝓤} {K : Type 0} {Γ : List (Item 𝓤)} {E : Env 𝓤 𝓛.H} {g : Goal 𝓤 𝓛.H} where
-  -- the local at entry n was never written
-  open 𝓛 use {H}
+  -- the same, from what a callee that it was passed to says
+  pub gave_up : K → (R : RattleType) {κ : Lft} {b o n : ℕ} {γ : GName} {zs : List R.Denot} → (length zs ≡ n → Seq K 𝓛 (‵ (gave_at R κ b o γ n zs) ∷ Γ) G) → Seq K 𝓛 (‵ (fsep (fsep (finally R γ zs) (feq ℕ (length zs) n)) (fbor κ (Held R n b o γ))) ∷ Γ) G
+  gave_up t R k = fsplit t $ fsplit t $ move t (1 ∷ []) $ feq_l t (λ e. fjoin t $ k e)
 
-  pub frees0 : K → (n : ℕ) {τ : Ty} {b : ℕ} → nth 𝓛 n Γ ≡ ‵ (froom τ b 0) → nth 𝓛 n (del 𝓛 n Γ) ≡ ‵ (fdies τ b) → Step K 𝓛 (del 𝓛 n (del 𝓛 n Γ)) (frees E g) Γ (frees ((τ, b) ∷ E) g)
-  frees0 t n {τ} {b} e e' = step (λ s. record {
-    prf = via 𝓤 (sep 𝓤 (H.room τ b 0) (⋆ 𝓛 (del 𝓛 n Γ)))
-        (subst (λ (j : Item 𝓤). ent 𝓤 (⋆ 𝓛 Γ) (sep 𝓤 (mean 𝓛 j) (⋆ 𝓛 (del 𝓛 n Γ)))) e (pull 𝓛 n Γ))
-        (via 𝓤 (sep 𝓤 (H.room τ b 0) (sep 𝓤 (H.dies τ b) (⋆ 𝓛 (del 𝓛 n (del 𝓛 n Γ)))))
-        (mono_r 𝓤 (H.room τ b 0) (subst (λ (j : Item 𝓤). ent 𝓤 (⋆ 𝓛 (del 𝓛 n Γ)) (sep 𝓤 (mean 𝓛 j) (⋆ 𝓛 (del 𝓛 n (del 𝓛 n Γ))))) e' (pull 𝓛 n (del 𝓛 n Γ))))
-        (via 𝓤 (sep 𝓤 (sep 𝓤 (H.room τ b 0) (H.dies τ b)) (⋆ 𝓛 (del 𝓛 n (del 𝓛 n Γ)))) (assoc' 𝓤 (H.room τ b 0) (H.dies τ b) (⋆ 𝓛 (del 𝓛 n (del 𝓛 n Γ))))
-        (mono_r 𝓤 (sep 𝓤 (H.room τ b 0) (H.dies τ b)) s.prf)));
-  })
-
-  -- it holds something
-  pub frees1 : K → (n : ℕ) {τ : Ty} {b : ℕ} {v : Val} → nth 𝓛 n Γ ≡ ‵ (fat full_share τ b 0 v) → nth 𝓛 n (del 𝓛 n Γ) ≡ ‵ (fdies τ b) → Step K 𝓛 (del 𝓛 n (del 𝓛 n Γ)) (frees E g) Γ (frees ((τ, b) ∷ E) g)
-  frees1 t n {τ} {b} {v} e e' = step (λ s. record {
-    prf = via 𝓤 (sep 𝓤 (H.room τ b 0) (⋆ 𝓛 (del 𝓛 n Γ)))
-        (via 𝓤 (sep 𝓤 (H.at full_share τ b 0 v) (⋆ 𝓛 (del 𝓛 n Γ)))
-        (subst (λ (j : Item 𝓤). ent 𝓤 (⋆ 𝓛 Γ) (sep 𝓤 (mean 𝓛 j) (⋆ 𝓛 (del 𝓛 n Γ)))) e (pull 𝓛 n Γ)) (mono_l 𝓤 (⋆ 𝓛 (del 𝓛 n Γ)) (𝓛.laws.at_room τ b 0 v)))
-        (via 𝓤 (sep 𝓤 (H.room τ b 0) (sep 𝓤 (H.dies τ b) (⋆ 𝓛 (del 𝓛 n (del 𝓛 n Γ)))))
-        (mono_r 𝓤 (H.room τ b 0) (subst (λ (j : Item 𝓤). ent 𝓤 (⋆ 𝓛 (del 𝓛 n Γ)) (sep 𝓤 (mean 𝓛 j) (⋆ 𝓛 (del 𝓛 n (del 𝓛 n Γ))))) e' (pull 𝓛 n (del 𝓛 n Γ))))
-        (via 𝓤 (sep 𝓤 (sep 𝓤 (H.room τ b 0) (H.dies τ b)) (⋆ 𝓛 (del 𝓛 n (del 𝓛 n Γ)))) (assoc' 𝓤 (H.room τ b 0) (H.dies τ b) (⋆ 𝓛 (del 𝓛 n (del 𝓛 n Γ))))
-        (mono_r 𝓤 (sep 𝓤 (H.room τ b 0) (H.dies τ b)) s.prf)));
-  })
-
--- ---- operands, and assignments to locals
+-- ---- operands
 module _ {M : Type 1} {𝓤 : Ura M} {𝓛 : Logic 𝓤} {K : Type 0} {Γ : List (Item 𝓤)} {E : Env 𝓤 𝓛.H} where
   open 𝓛 use {H}
 
-  pub loc : K → (n : ℕ) {i : ℕ} {s : Share} {v : Val} → nth 𝓛 n Γ ≡ ‵ (fat s (spot_of 𝓤 H E i).0 (spot_of 𝓤 H E i).1 (spot_of 𝓤 H E i).2 v) → Opd K 𝓛 Γ E (copy (place' i [])) v
-  loc t n e = load t (from t (stop t)) (look t n e)
-
-  pub fld_at : K → (n k : ℕ) {i : ℕ} {s : Share} {ν : Sym} {τs : Tys} {b o : ℕ} {vs : Vals} {τ : Ty} {d : ℕ} → nth 𝓛 n Γ ≡ ‵ (fat s (ty_struct ν τs) b o (vstruct vs)) → spot_of 𝓤 H E i ≡ (ty_struct ν τs, b, o) → field_at 0 τs k ≡ someᴼ (τ, d)
+  pub fld_at : K → (k : ℕ) {i : ℕ} {s : Share} {ν : Sym} {τs : Tys} {b o : ℕ} {vs : Vals} {τ : Ty} {d : ℕ} → at 𝓛 i Γ ≡ ‵ (fat s (ty_struct ν τs) b o (vstruct vs)) → spot_of 𝓤 H E i ≡ (ty_struct ν τs, b, o) → field_at 0 τs k ≡ someᴼ (τ, d)
       → Opd K 𝓛 Γ E (copy (place' i (field k ∷ []))) (get_v vs k)
-  fld_at t n k {i} {s} {ν} {τs} {b} {o} {vs} {τ} {d} e₁ e₂ e₃ =
+  fld_at t k {i} {s} {ν} {τs} {b} {o} {vs} {τ} {d} e₁ e₂ e₃ =
       load t (from t (subst (λ (sp : Spot 𝓤 H). Walks K 𝓛 Γ E sp (field k ∷ []) (τ, b, o + d)) (sym e₂) (fld t e₃ (stop t))))
-      (look_in t n (subst (λ (j : Item 𝓤). Part K 𝓛 j s τ b (o + d) (get_v vs k) (λ u. ‵ (fat s (ty_struct ν τs) b o (vstruct (set_v vs k u))))) (sym e₁) (sub t k e₃ (whole t))))
+      (look_in_at t i (subst (λ (j : Item 𝓤). Part K 𝓛 j s τ b (o + d) (get_v vs k) (λ u. ‵ (fat s (ty_struct ν τs) b o (vstruct (set_v vs k u))))) (sym e₁) (sub t k e₃ (whole t))))
+
+  pub ptr_at : K → {i : ℕ} {s : Share} {ℓ : Lifetime} {μ : Mutability} {σ τ : Ty} {b o b' o' n : ℕ} → at 𝓛 i Γ ≡ ‵ (fat s (slice_ty (ty_ref ℓ μ σ)) b o (slice_val (b', o') n)) → spot_of 𝓤 H E i ≡ (slice_ty (ty_ref ℓ μ σ), b, o) → Rv K 𝓛 Γ E (addr_of (place' i (field 0 ∷ deref τ ∷ []))) (vptr b' o')
+  ptr_at t {i} {s} {ℓ} {μ} {σ} {τ} {b} {o} {b'} {o'} {n} e₁ e₂ =
+      addr t (from t (subst (λ (sp : Spot 𝓤 H). Walks K 𝓛 Γ E sp (field 0 ∷ deref τ ∷ []) (τ, b', o')) (sym e₂)
+      (fld t refl (hop t (look_in_at t i (subst (λ (j : Item 𝓤). Part K 𝓛 j s (ty_ref ℓ μ σ) b (o + 0) (vptr b' o') (λ u. ‵ (fat s (slice_ty (ty_ref ℓ μ σ)) b o (vstruct (set_v (vcons (vptr b' o') (vcons (vint w64 n) vnil)) 0 u))))) (sym e₁) (sub t 0 refl (whole t)))) (stop t)))))
 
   pub elem_ptr : K → (size o i : ℕ) {b : ℕ} {x z : Operand} → Opd K 𝓛 Γ E x (vptr b o) → Opd K 𝓛 Γ E z (vint w64 (i * size)) → Rv K 𝓛 Γ E (op2 offset x z) (vptr b (place size o i))
   elem_ptr t size o i {b} {x} {z} p r = subst (λ (m : ℕ). Rv K 𝓛 Γ E (op2 offset x z) (vptr b m)) (sym (place_is size o i)) (bin t p r tt)
-
-  module _ {C : Calls 𝓤 H} {Λ : Loops 𝓤 H} {q : Post 𝓤 H} {i : ℕ} {rv : RValue} {rest : Body} {v : Val} where
-    pub sets : K → (n : ℕ) → nth 𝓛 n Γ ≡ ‵ (froom (spot_of 𝓤 H E i).0 (spot_of 𝓤 H E i).1 (spot_of 𝓤 H E i).2) → Rv K 𝓛 Γ E rv v → T (has_ty (spot_of 𝓤 H E i).0 v) × WT v
-        → Step K 𝓛 (put 𝓛 n (‵ (fat full_share (spot_of 𝓤 H E i).0 (spot_of 𝓤 H E i).1 (spot_of 𝓤 H E i).2 v)) Γ) (runs C Λ E rest q) Γ (runs C Λ E (seq (assign (place' i []) rv) rest) q)
-    sets t n e r wt = assigns t r (from t (stop t)) (init t n e wt)
-
-    pub resets : K → (n : ℕ) {u : Val} → nth 𝓛 n Γ ≡ ‵ (fat full_share (spot_of 𝓤 H E i).0 (spot_of 𝓤 H E i).1 (spot_of 𝓤 H E i).2 u) → Rv K 𝓛 Γ E rv v → T (has_ty (spot_of 𝓤 H E i).0 v) × WT v
-        → Step K 𝓛 (put 𝓛 n (‵ (fat full_share (spot_of 𝓤 H E i).0 (spot_of 𝓤 H E i).1 (spot_of 𝓤 H E i).2 v)) Γ) (runs C Λ E rest q) Γ (runs C Λ E (seq (assign (place' i []) rv) rest) q)
-    resets t n e r wt = assigns t r (from t (stop t)) (store t n e wt)
 
 pub in_room : (R : RattleType) (i n : ℕ) → i < n → Room R n → i * (mem R).size < 2 ^ 64
 in_room R i n l room =
@@ -275,7 +262,7 @@ module _ {M : Type 1} {𝓤 : Ura M} {𝓛 : Logic 𝓤} {K : Type 0} {Γ : List
       → Seq K 𝓛 Γ (runs C Λ E (seq (cond c skip (exit n)) b) q)
   tests t o stay leave = first t $ branches t o (λ h. skips t $ record { prf = (stay h).prf }) (λ h. jumps t $ record { prf = (leave h).prf })
 
-  module _ {f : Name} {xs : List Operand} {d : Place} {rest : Body} {q : Post 𝓤 H} where
+  module _ {f : Callee} {xs : List Operand} {d : Place} {rest : Body} {q : Post 𝓤 H} where
     -- a call: the tokens, the result, what is said of the last values, and what the callee ensures
     pub calls_out : K → FmC 𝓤 H 𝓛.laws C → (T : Ended) (c : Clauses 𝓤 T) → Triple 𝓤 (C f) (triple_of 𝓛 T.signature (closing 𝓛 T c)) → (y : (triple_of 𝓛 T.signature (closing 𝓛 T c)).Ghost)
         → Opds K 𝓛 (raw ((triple_of 𝓛 T.signature (closing 𝓛 T c)).pre y) ∷ Γ) E xs ((triple_of 𝓛 T.signature (closing 𝓛 T c)).args y)

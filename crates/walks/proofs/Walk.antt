@@ -9,23 +9,24 @@ pub use lib.Dec.{T, ltb, ltb→lt, nltb→le, lit<}
 pub use lib.ListN.{length, get_or, set, take, length-set}
 pub use borrow.Author.Tests.{lt-ltb, le-ltb}
 pub use seplogic.Ra.Ura.{Ura}
-pub use seplogic.Ra.TreeShare.{full_share}
+pub use base.Fraction.{full_share}
 pub use mir.Syntax.{named, imm, mut, w8, w16, w32, w64, Ty, ty_ptr, ty_int, ty_bool, ty_ref}
-pub use mir.Syntax.{Fn, Name, Body, ty_array, erased, local, value_local, memory_slot, place, field, deref, copy, int, rv_opd, op2, lt, mul, add, offset, unsigned, addr_of, aggregate, seq, assign, block, loop, skip, exit, cond, call, return}
+pub use mir.Syntax.{Fn, Callee, Body, ty_array, erased, local, value_local, memory_slot, place, field, deref, copy, int, rv_opd, op2, lt, mul, add, offset, unsigned, addr_of, aggregate, seq, assign, block, loop, skip, exit, cond, call, return}
 pub use mir.Val.{Val, vunit, vint, vptr, vbool}
-pub use base.Logic.{SProp, ent, emp, sep, id⊢, via, fst∗}
+pub use base.Logic.{SProp, ent, sep, emp, id⊢, via, fst∗}
 pub use base.Fml.{Lft, GName, Share, Fml, ftrue, fat, froom, fdies, flft}
 pub use prog.Memory.{Memory}
 pub use prog.Routine.{Routine}
 pub use prog.Wp.{Heap, Env, WpFn, Wp, Tables, after_block, after_seq, at_return}
 unfoldable pub use prog.Wp.{after_turn}
-pub use ghost.Atoms.{Atoms, sem}
+pub use types.Logic.{Logic, sem}
 pub use contract.Monad.{Fun, fact}
-pub use contract.Running.{given_of, tables}
+pub use contract.Running.{tables}
 unfoldable pub use contract.Running.{tables_of}
-pub use types.Kit.{Given, Item, Sq, runs, any_q, at_ret, ‵, raw, ◌⊛◌, ⋆, ◌$◌, ◌∵◌, !, qed, by, use0, use1, use2, move, keep, drop, group, split, join, rewrite, fsplit, fjoin, feq_l, feq_i, suffices, frame, done}
+pub use types.Kit.{Item, Sq, runs, any_q, at_ret, ‵, raw, ◌⊛◌, ⋆, ◌$◌, ◌∵◌, !, qed, by, use0, use1, use2, move, keep, drop, group, split, join, rewrite, fsplit, fjoin, feq_l, feq_i, suffices, frame, done}
 pub use types.Part.{agg, whole, sub, look_in}
-pub use types.Run.{look, look_raw, store, store_raw, init, forget, stop, hop, fld, from, load, lit, true_lit, unit_lit, addr, of_opd, bin, and_then, no_more, assigns, assigns_last, first, branches, blocks, loops, again, Below, exec, land, returns, enter, alloc1, alloc0, params1, pass1, pass0, free0}
+pub use types.Run.{look, look_raw, store, store_raw, init, forget, stop, hop, fld, from, load, lit, true_lit, unit_lit, addr, of_opd, bin, and_then, no_more, assigns, assigns_last, first, branches, blocks, loops, again, Below, exec, land, returns, enter}
+pub use types.ByLocal.{env, alloc_all, pass_all, free_all, look_at, look_in_at, set_at, get, get_in, through, sets, sets_last, lands_as, holding, forget_but}
 pub use sound.WpLaws.{fm_of}
 pub use denote.RattleType.{RattleType, owns}
 pub use denote.Laws.{Is}

@@ -7,21 +7,20 @@
 --     Perform          the contract of the door.        Ask      that of `ask`, which ensures `r ≡ asked` of its arguments
 --     through          such a function, by its parameters after the first four and what it ensures, as one of `Lending.antt`
 --     asks             the call of `ask`
---     lends_none, shares-none     an array of no octets is lent as a `&mut [u8]` and as a `&[u8]`: there is nothing in it, so its local is left alone
---     comes-none       an array of no octets that was lent as a `&mut [u8]` has none at the end
+--     lends_none, shares_none     an array of no octets is lent as a `&mut [u8]` and as a `&[u8]`: there is nothing in it, so its local is left alone
+--     comes_none       an array of no octets that was lent as a `&mut [u8]` has none at the end
 --     apart            what the function is passed: the first four with their tokens, the other tokens, and what the other parameters own
 --     performs         the call of the door: what is left is what is said of the last values of t, mem, lens, lines and out, and the tokens
 --     gathers          the other way than `apart`, at the end: what the function has to leave
 -- Assumes nothing: `Logic`, the laws of a model, is an argument.
 use types.Logic.{Logic}
-use denote.Slice.{shr_slice_vals, mut_slice_vals}
-use Rattle.walks.proofs.Walk.{◌≡◌, refl, List, [], ◌∷◌, ℕ, suc, length, ltb→lt, Ura, full_share, named, ent, emp, GName, Lft, Share, Fml, ftrue, flft, Env, Tables, Item, runs, ‵, raw, ◌⊛◌, ⋆, ◌$◌, ◌∵◌, !, qed, use0, use1, move, drop, split, join, fsplit, fjoin, group, frame, done, fm_of, Is, owns, u8, u16, slice_val, slice-vals, MutSlice, ShrSlice, Room, finally, nothing, owned, heard, Contract, Triple, yes, id⊢, fact, RattleType, now}
+use Rattle.walks.proofs.Walk.{◌≡◌, refl, List, [], ◌∷◌, ℕ, suc, length, ltb→lt, Ura, full_share, named, ent, emp, GName, Lft, Share, Fml, ftrue, flft, Env, Tables, Item, runs, ‵, raw, ◌⊛◌, ⋆, ◌$◌, ◌∵◌, !, qed, use0, use1, use2, move, drop, split, join, fsplit, fjoin, group, frame, done, fm_of, Is, owns, u8, u16, slice_val, shr_slice_vals, mut_slice_vals, w8, MutSlice, ShrSlice, Room, finally, nothing, owned, heard, Contract, Triple, yes, id⊢, fact, RattleType}
 use mathlib.Core.Path.{subst}
 use lib.ListN.{drop_of_length-le}
 use native.Mathlib.Omega.{arith}
-use base.Fml.{fsep, feq, flent}
+use base.Fml.{Incl-refl, fsep, feq, fbor, flent}
 use base.Logic.{ex_i}
-use package.mir.Syntax.{Name, Place, Opd as Operand, Body, seq, call}
+use package.mir.Syntax.{Callee, Place, Opd as Operand, Body, seq, call}
 use types.Kit.{Goal, Soaks, Post, lands, some, later, mean, Seq, Step, step, await, pick, regoal, feq_i, feq_l}
 use types.Run.{Opds}
 use types.Share.{arr_parts}
@@ -29,11 +28,13 @@ use types.Tokens.{lft_new}
 use contract.Monad.{fact_i}
 use contract.Lifetimes.{Lfts, Shares, toks}
 use denote.Memory.{shares}
-use denote.Ref.{Bor, MutBor}
+use denote.Bor.{Bor}
+use denote.MutBor.{MutBor}
+use denote.Copied.{uint_Copied}
 use denote.Lend.{Held, lends_slice, lends_shr_slice}
 use denote.Triple.End.{Fins, all, lasts_of, outs}
 use denote.Triple.Clauses.{Lasts, at_exit}
-use Rattle.walks.proofs.Tab.{xs_at}
+use Rattle.walks.proofs.Tab.{xs_at, xs_in}
 use Rattle.walks.proofs.Plain.{Kind, of}
 use Rattle.walks.proofs.ByValue.{ByValue, Values, Lie, passed, always, Takes, calls_by}
 use Rattle.walks_lending.proofs.Lending.{Part, mut_slice, shr_slice, by_value, slots, rows, each, lent, Relates, Entry, Turned, Last, Perform as Performing, Passed, Had, performs as performs-on}
@@ -68,7 +69,7 @@ module _ (D : Door) where
   door = first (by_value D.request ∷ shr_slice 4 tt u8 ∷ mut_slice 5 tt u8 ∷ [])
 
   abbrev over : Relates door N
-  over κs a r e = D.says (now a.0) (now a.1.0) (now a.1.1.0) (now a.1.1.1.0) a.1.1.1.1.0 (now a.1.1.1.1.1.0) (now a.1.1.1.1.1.1.0) r (now e.0) (now e.1.0) (now e.1.1.0) (now e.1.1.1.0) (now e.1.1.1.1.1.1.0)
+  over κs a r e = D.says a.0.now a.1.0.now a.1.1.0.now a.1.1.1.0.now a.1.1.1.1.0 a.1.1.1.1.1.0.now a.1.1.1.1.1.1.0.now r e.0.now e.1.0.now e.1.1.0.now e.1.1.1.0.now e.1.1.1.1.1.1.0.now
 
   abbrev opened : Turned 6
   opened = record { parts = door; answer = D.answer; result = D.answer; turned = λ r. r; before = over; after = over; so = λ κs a r e h. h }
@@ -87,7 +88,7 @@ module _ (D : Door) where
     Ask Ks asked = Takes (asking Ks asked) 𝓤 𝓛
 
   -- ---- the call of `ask`
-  module _ {M : Type 1} {𝓤 : Ura M} {𝓛 : Logic 𝓤} {K : Type 0} {Γ : List (Item 𝓤)} {E : Env 𝓤 𝓛.H} {f : Name} {xs : List Operand} {d : Place} {rest : Body} {q : Post 𝓤 𝓛.H} where
+  module _ {M : Type 1} {𝓤 : Ura M} {𝓛 : Logic 𝓤} {K : Type 0} {Γ : List (Item 𝓤)} {E : Env 𝓤 𝓛.H} {f : Callee} {xs : List Operand} {d : Place} {rest : Body} {q : Post 𝓤 𝓛.H} where
     open 𝓛 use {H}
 
     pub asks : K → (𝓣 : Tables 𝓤 H) (Ks : List Kind) (asked : Values Ks → Q.Denot) → Triple 𝓤 (𝓣.C f) (Ask 𝓛 Ks asked) → (a : Values Ks) → Lie Ks a → ((x : Item 𝓤) → Opds K 𝓛 (x ∷ Γ) E xs (passed Ks a))
@@ -105,22 +106,22 @@ module _ {M : Type 1} {𝓤 : Ura M} {𝓛 : Logic 𝓤} {K : Type 0} {Γ : List
       use1 𝓛 (later (some (λ (γ : GName). ‵ ((MutSlice (named 0) (ν ∷ []) u8).own_val (xs_at u8 b 0 γ []) (slice_val (b, 0) 0 ∷ [])) ⊛ ‵ (flent (ν ∷ []) (Held u8 0 b 0 γ))))) (lends_slice 𝓛 u8 (named 0) (ν ∷ []) [] b 0 none_room) $
       await t z $ pick t (λ γ. split t $ move t (1 ∷ []) $ drop t $ k ν γ))
 
-  pub shares_none : K → Soaks G → (b : ℕ) → ((ν : ℕ) (γ : GName) → Seq K 𝓛 (‵ ((ShrSlice (named 0) (ν ∷ []) u8).own_val (xs_at u8 b 0 γ []) (slice_val (b, 0) 0 ∷ [])) ∷ ‵ (flft (ν ∷ []) full_share) ∷ Γ) G) → Seq K 𝓛 Γ G
-  shares_none t z b k = lft_new t z (λ ν. nothing t $ feq_i t ℕ 0 0 refl $ fjoin t $
-      use1 𝓛 (later (some (λ (γ : GName). ‵ ((ShrSlice (named 0) (ν ∷ []) u8).own_val (xs_at u8 b 0 γ []) (slice_val (b, 0) 0 ∷ [])) ⊛ ‵ (flent (ν ∷ []) ((arr_parts (shares u8) 0).part full_share [] b 0)))))
-      (lends_shr_slice 𝓛 u8 (named 0) (ν ∷ []) full_share [] b 0 none_room) $
-      await t z $ pick t (λ γ. split t $ move t (1 ∷ []) $ drop t $ k ν γ))
+  pub shares_none : K → Soaks G → (b : ℕ) → ((ν : ℕ) → Seq K 𝓛 (‵ ((ShrSlice (named 0) (ν ∷ []) u8).own_val (xs_in u8 b 0 []) (slice_val (b, 0) 0 ∷ [])) ∷ ‵ (flft (ν ∷ []) full_share) ∷ Γ) G) → Seq K 𝓛 Γ G
+  shares_none t z b k = lft_new t z (λ ν. nothing t $ feq_i t ℕ 0 0 refl $ fjoin t $ move t (0 ∷ 1 ∷ []) $
+      use2 𝓛 (later ((‵ ((ShrSlice (named 0) (ν ∷ []) u8).own_val (xs_in u8 b 0 []) (slice_val (b, 0) 0 ∷ [])) ⊛ ‵ (flent (ν ∷ []) ((arr_parts (shares u8) 0).part full_share [] b 0))) ⊛ ‵ (flft (ν ∷ []) full_share)))
+      (lends_shr_slice 𝓛 u8 (named 0) (ν ∷ []) full_share [] b 0 none_room (ν ∷ []) ((uint_Copied 𝓛 w8).shares full_share (ν ∷ [])) ((ν ∷ [], full_share) ∷ []) (Incl-refl (ν ∷ [])) (Incl-refl (ν ∷ []))) $
+      await t z $ split t $ split t $ move t (1 ∷ []) $ drop t $ k ν)
 
 -- what is said of the last list of a `&mut`
-abbrev pub last_is_lem : (R : RattleType) → MutBor (List R.Denot) → List R.Denot → Fml
-last_is_lem R x ys = fsep (finally R x.ghost_name ys) (feq ℕ (length ys) (length (now x)))
+abbrev pub last_is_lem : (R : RattleType) → Lft → MutBor (List R.Denot) → List R.Denot → Fml
+last_is_lem R κ x ys = fsep (fsep (finally R x.ghost_name ys) (feq ℕ (length ys) (length x.now))) (fbor κ (Held R (length x.now) x.ref_ptr.0 x.ref_ptr.1 x.ghost_name))
 
 no_octets : (os : List ℕ) → length os ≡ 0 → os ≡ []
 no_octets os e = drop_of_length-le os {i = 0} (omega (arith, e))
 
 module _ {M : Type 1} {𝓤 : Ura M} {𝓛 : Logic 𝓤} {K : Type 0} {Γ : List (Item 𝓤)} {G : Goal 𝓤 𝓛.H} where
-  pub comes_none : K → {γ : GName} (os : List ℕ) → (os ≡ [] → Seq K 𝓛 Γ G) → Seq K 𝓛 (‵ (fsep (finally u8 γ os) (feq ℕ (length os) 0)) ∷ Γ) G
-  comes_none t os k = fsplit t $ drop t $ feq_l t (λ e. k (no_octets os e))
+  pub comes_none : K → {κ : Lft} {b o : ℕ} {γ : GName} (os : List ℕ) → (os ≡ [] → Seq K 𝓛 Γ G) → Seq K 𝓛 (‵ (fsep (fsep (finally u8 γ os) (feq ℕ (length os) 0)) (fbor κ (Held u8 0 b o γ))) ∷ Γ) G
+  comes_none t os k = fsplit t $ fsplit t $ drop t $ move t (1 ∷ []) $ drop t $ feq_l t (λ e. k (no_octets os e))
 
 -- ---- what the function is passed, what the door is passed, and what is left
 module _ (D : Door) {k : ℕ} (ps : List (Part (suc (suc (suc (suc k)))))) {M : Type 1} {𝓤 : Ura M} (𝓛 : Logic 𝓤) (κs : Lfts (suc (suc (suc (suc k))))) (qs : Shares (suc (suc (suc (suc k))))) (a : Entry (first D ps) κs) where
@@ -133,7 +134,7 @@ module _ (D : Door) {k : ℕ} (ps : List (Part (suc (suc (suc (suc k)))))) {M : 
 
   -- their last values, with their tokens
   abbrev pub FourThen : List (of D.channel).Denot → List ℕ → List ℕ → List ℕ → List (Item 𝓤) → List (Item 𝓤)
-  FourThen zs ms ls is Γ = Firsts (‵ (last_is_lem (C D) a.0 zs) ∷ ‵ (last_is_lem u8 a.1.0 ms) ∷ ‵ (last_is_lem u16 a.1.1.0 ls) ∷ ‵ (last_is_lem u8 a.1.1.1.0 is) ∷ Γ)
+  FourThen zs ms ls is Γ = Firsts (‵ (last_is_lem (C D) κs.0 a.0 zs) ∷ ‵ (last_is_lem u8 κs.1.0 a.1.0 ms) ∷ ‵ (last_is_lem u16 κs.1.1.0 a.1.1.0 ls) ∷ ‵ (last_is_lem u8 κs.1.1.1.0 a.1.1.1.0 is) ∷ Γ)
 
   -- the other tokens, what the other parameters own, and what is said of their last values
   abbrev pub Toks : Item 𝓤
@@ -148,10 +149,10 @@ module _ (D : Door) {k : ℕ} (ps : List (Part (suc (suc (suc (suc k)))))) {M : 
   abbrev pub Ending : Ends → Item 𝓤
   Ending ws = ‵ (lasts_of κs (slots ps) (all yes (slots ps)) a.1.1.1.1 ws)
 
-  module _ (κx κo : Lft) (qx qo : Share) (n : (Q D).Denot) (x o : Bor (List ℕ)) where
+  module _ (κx κo : Lft) (qx qo : Share) (n : (Q D).Denot) (x : Bor (List ℕ)) (o : MutBor (List ℕ)) where
     -- what the door is given: x and out, each with its token, and the first four
     abbrev ToDoor : List (Item 𝓤) → List (Item 𝓤)
-    ToDoor Γ = ‵ ((ShrSlice (named 4) κx u8).own_val x (shr_slice_vals x)) ∷ ‵ (flft κx qx) ∷ ‵ ((MutSlice (named 5) κo u8).own_val o (shr_slice_vals o)) ∷ ‵ (flft κo qo) ∷ Four Γ
+    ToDoor Γ = ‵ ((ShrSlice (named 4) κx u8).own_val x (shr_slice_vals x)) ∷ ‵ (flft κx qx) ∷ ‵ ((MutSlice (named 5) κo u8).own_val o (mut_slice_vals o)) ∷ ‵ (flft κo qo) ∷ Four Γ
 
     abbrev κs' : Lfts 6
     κs' = (κs.0, (κs.1.0, (κs.1.1.0, (κs.1.1.1.0, (κx, (κo, tt))))))
@@ -186,11 +187,11 @@ module _ (D : Door) {k : ℕ} (ps : List (Part (suc (suc (suc (suc k)))))) (X : 
       use1 𝓛 (some left) (ex_i 𝓤 (λ (us : Lasts (lent (first D ps) (N D)) κs a). mean 𝓛 (left us)) (zs, (ms, (ls, (is, ws))))) $
       move t (5 ∷ 1 ∷ []) $ join t $ move t (4 ∷ 0 ∷ []) $ join t $ move t (3 ∷ 0 ∷ []) $ join t $ move t (2 ∷ 0 ∷ []) $ join t $ use1 𝓛 (raw (toks 𝓛 (suc (suc (suc (suc k)))) κs qs)) (id⊢ 𝓤 _) $ join t $ s)
 
-  module _ {E : Env 𝓤 H} {f : Name} {xs : List Operand} {d : Place} {rest : Body} {q : Post 𝓤 H} where
-    pub performs : K → (𝓣 : Tables 𝓤 H) → Triple 𝓤 (𝓣.C f) (Perform D 𝓛) → {κx κo : Lft} {qx qo : Share} (n : (Q D).Denot) → Is (Q D) n (D.request.elem.val n ∷ []) → (x o : Bor (List ℕ))
-        → ((y : Item 𝓤) → Opds K 𝓛 (y ∷ Γ) E xs (slice_val a.0.ref_ptr (length (now a.0)) ∷ slice_val a.1.0.ref_ptr (length (now a.1.0)) ∷ slice_val a.1.1.0.ref_ptr (length (now a.1.1.0)) ∷ slice_val a.1.1.1.0.ref_ptr (length (now a.1.1.1.0)) ∷ D.request.elem.val n ∷ slice_val x.ref_ptr (length (now x)) ∷ slice_val o.ref_ptr (length (now o)) ∷ []))
-        → ((r : (N D).Denot) → Is (N D) r (D.answer.elem.val r ∷ []) → (zs : List (of D.channel).Denot) (ms ls is os : List ℕ) → D.says (now a.0) (now a.1.0) (now a.1.1.0) (now a.1.1.1.0) n (now x) (now o) r zs ms ls is os
-        → Seq K 𝓛 (‵ (flft κx qx) ∷ ‵ (flft κo qo) ∷ ‵ (last_is_lem u8 o os) ∷ FourThen D ps 𝓛 κs qs a zs ms ls is Γ) (lands 𝓣.C 𝓣.Λ E d (D.answer.elem.val r) rest q))
+  module _ {E : Env 𝓤 H} {f : Callee} {xs : List Operand} {d : Place} {rest : Body} {q : Post 𝓤 H} where
+    pub performs : K → (𝓣 : Tables 𝓤 H) → Triple 𝓤 (𝓣.C f) (Perform D 𝓛) → {κx κo : Lft} {qx qo : Share} (n : (Q D).Denot) → Is (Q D) n (D.request.elem.val n ∷ []) → (x : Bor (List ℕ)) (o : MutBor (List ℕ))
+        → ((y : Item 𝓤) → Opds K 𝓛 (y ∷ Γ) E xs (slice_val a.0.ref_ptr (length a.0.now) ∷ slice_val a.1.0.ref_ptr (length a.1.0.now) ∷ slice_val a.1.1.0.ref_ptr (length a.1.1.0.now) ∷ slice_val a.1.1.1.0.ref_ptr (length a.1.1.1.0.now) ∷ D.request.elem.val n ∷ slice_val x.ref_ptr (length x.now) ∷ slice_val o.ref_ptr (length o.now) ∷ []))
+        → ((r : (N D).Denot) → Is (N D) r (D.answer.elem.val r ∷ []) → (zs : List (of D.channel).Denot) (ms ls is os : List ℕ) → D.says a.0.now a.1.0.now a.1.1.0.now a.1.1.1.0.now n x.now o.now r zs ms ls is os
+        → Seq K 𝓛 (‵ (flft κx qx) ∷ ‵ (flft κo qo) ∷ ‵ (last_is_lem u8 κo o os) ∷ FourThen D ps 𝓛 κs qs a zs ms ls is Γ) (lands 𝓣.C 𝓣.Λ E d (D.answer.elem.val r) rest q))
         → Seq K 𝓛 (ToDoor D ps 𝓛 κs qs a κx κo qx qo n x o Γ) (runs 𝓣.C 𝓣.Λ E (seq (call f xs d) rest) q)
     performs t 𝓣 known {κx} {κo} {qx} {qo} n is x o os k =
         let κs'' : Lfts 6 = κs' D ps 𝓛 κs qs a κx κo qx qo n x o in

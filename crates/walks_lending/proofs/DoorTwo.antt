@@ -9,21 +9,21 @@
 --         let r = turn(a);
 --         r
 --     }
--- where `perform` is the door, without a `requires`, `ask` ensures `r ≡ asked i j` and `turn` ensures `r ≡ turned a`. It ensures of `turned a` what
+-- where `perform` is the door, without a `requires`, `ask` ensures `result ≡ asked i j` and `turn` ensures `result ≡ turned a`. It ensures of `turned a` what
 -- follows of what the door ensures of a at that request, with no octets in x and out, before and after.
---     door-two-meets       its arguments: the door; the kinds of the plain arguments; what this function ensures (a relation); `asked`; that what the
+--     door_two_meets       its arguments: the door; the kinds of the plain arguments; what this function ensures (a relation); `asked`; that what the
 --                          door ensures gives it; the names of `ask`, `perform` and `turn`; then the model, the tables, and that each of the
 --                          three meets its contract
 -- Assumes nothing.
-use Rattle.walks.proofs.Walk.{refl, List, [], ◌∷◌, ℕ, ltb→lt, Ura, named, imm, mut, w8, w16, w64, ty_int, ty_ref, WpFn, Tables, id⊢, raw, ◌$◌, ◌∵◌, !, qed, by, use0, move, drop, fjoin, nothing, agg, whole, sub, look_in, look, init, stop, hop, fld, from, lit, addr, of_opd, and_then, no_more, land, returns, enter, alloc1, alloc0, params1, pass1, pass0, free0, pointee, u8, slice_ty, Triple}
-use package.mir.Syntax.{Fn, Name, ty_array, erased, local, value_local, memory_slot, place, field, deref, copy, int, rv_opd, addr_of, aggregate, seq, assign, call, return}
+use Rattle.walks.proofs.Walk.{refl, List, [], ◌∷◌, ℕ, ltb→lt, Ura, named, imm, mut, w8, w16, w64, ty_int, ty_ref, WpFn, Tables, id⊢, raw, ◌$◌, ◌∵◌, !, qed, by, use0, drop, fjoin, nothing, agg, stop, from, lit, addr, of_opd, and_then, no_more, returns, enter, pointee, u8, slice_ty, Triple, alloc_all, pass_all, free_all, look_at, get, sets, lands_as, Callee}
+use package.mir.Syntax.{Fn, Callee, ty_array, erased, local, value_local, memory_slot, place, field, deref, copy, int, rv_opd, addr_of, aggregate, seq, assign, call, return}
 use mathlib.Core.Path.{subst}
 use types.Logic.{Logic}
 use contract.Lifetimes.{toks}
 use denote.RattleType.{RattleType}
 use denote.Triple.Clauses.{closing}
 use denote.Triple.Spec.{Meets}
-use Rattle.walks.proofs.Tab.{xs_at, loc, fld_at, sets, frees1}
+use Rattle.walks.proofs.Tab.{xs_at, fld_at, xs_in, ptr_at}
 use Rattle.walks.proofs.Plain.{Kind, of}
 use Rattle.walks_lending.proofs.Lending.{Part, by_value, lent, Relates, values, ensuring, Turn, Passed, turns, ends, lent_meets}
 use Rattle.walks_lending.proofs.Door.{Door, first, through, Perform, Ask, asks, lends_none, shares_none, comes_none, apart, performs, gathers}
@@ -37,11 +37,13 @@ module _ (D : Door) (KP KR : Kind) where
   Wanted = List C.Denot → List ℕ → List ℕ → List ℕ → (of KP).Denot → (of KR).Denot → (of D.result).Denot → List C.Denot → List ℕ → List ℕ → List ℕ → Type 0
 
   -- ---- the MIR
-  module _ (fa fp ft : Name) where
+  module _ (fa fp ft : Callee) where
     abbrev pub function : Fn
     function = record {
       lifetimes = 4;
       outlives = [];
+      ty_params = [];
+      givens = 0;
       params = 6;
       locals = local D.result.ty value_local ∷ local (slice_ty (ty_ref (named 0) mut (pointee C.written))) value_local ∷ local (slice_ty (ty_ref (named 1) mut (ty_int w8))) value_local ∷ local (slice_ty (ty_ref (named 2) mut (ty_int w16))) value_local ∷ local (slice_ty (ty_ref (named 3) mut (ty_int w8))) value_local ∷ local KP.ty value_local ∷ local KR.ty value_local ∷ local D.request.ty value_local ∷ local (ty_array (ty_int w8) 0) memory_slot ∷ local (ty_array (ty_int w8) 0) memory_slot ∷ local D.answer.ty value_local ∷ local D.result.ty value_local ∷ local (ty_ref erased mut (pointee C.written)) value_local ∷ local (slice_ty (ty_ref erased mut (pointee C.written))) value_local ∷ local (ty_ref erased mut (ty_int w8)) value_local ∷ local (slice_ty (ty_ref erased mut (ty_int w8))) value_local ∷ local (ty_ref erased mut (ty_int w16)) value_local ∷ local (slice_ty (ty_ref erased mut (ty_int w16))) value_local ∷ local (ty_ref erased mut (ty_int w8)) value_local ∷ local (slice_ty (ty_ref erased mut (ty_int w8))) value_local ∷ local (ty_ref erased imm (ty_array (ty_int w8) 0)) value_local ∷ local (slice_ty (ty_ref erased imm (ty_int w8))) value_local ∷ local (ty_ref erased mut (ty_array (ty_int w8) 0)) value_local ∷ local (slice_ty (ty_ref erased mut (ty_int w8))) value_local ∷ [];
       body = seq (call fa ((copy (place 5 [])) ∷ (copy (place 6 [])) ∷ []) (place 7 []))
@@ -76,35 +78,32 @@ module _ (D : Door) (KP KR : Kind) where
     -- ---- the walk
     module _ (asked : (of KP).Denot → (of KR).Denot → (of D.request).Denot)
         (so : (ys : List C.Denot) (m ln li : List ℕ) (i : (of KP).Denot) (j : (of KR).Denot) (r : (of D.answer).Denot) (zs : List C.Denot) (ms ls is : List ℕ) → D.says ys m ln li (asked i j) [] [] r zs ms ls is [] → X ys m ln li i j (D.turned r) zs ms ls is)
-        (fa fp ft : Name) {M : Type 1} {𝓤 : Ura M} (𝓛 : Logic 𝓤) (𝓣 : Tables 𝓤 𝓛.H) (k-ask : Triple 𝓤 (𝓣.C fa) (Ask D 𝓛 (KP ∷ KR ∷ []) (λ v. asked v.0 v.1.0))) (k-perform : Triple 𝓤 (𝓣.C fp) (Perform D 𝓛)) (k-turn : Triple 𝓤 (𝓣.C ft) (Turn (through D ps over) 𝓤 𝓛)) where
+        (fa fp ft : Callee) {M : Type 1} {𝓤 : Ura M} (𝓛 : Logic 𝓤) (𝓣 : Tables 𝓤 𝓛.H) (k-ask : Triple 𝓤 (𝓣.C fa) (Ask D 𝓛 (KP ∷ KR ∷ []) (λ v. asked v.0 v.1.0))) (k-perform : Triple 𝓤 (𝓣.C fp) (Perform D 𝓛)) (k-turn : Triple 𝓤 (𝓣.C ft) (Turn (through D ps over) 𝓤 𝓛)) where
       open 𝓛 use {H}
 
       pub door_two_meets : Meets 𝓛 (lent (first D ps) (of D.result)).signature (WpFn 𝓤 H 𝓣.C 𝓣.Λ (function fa fp ft)) (closing 𝓛 (lent (first D ps) (of D.result)) (ensuring (first D ps) 𝓤 (of D.result) over))
       door_two_meets = lent_meets (through D ps over) 𝓛 𝓣 (function fa fp ft) (λ κs qs a are.
           qed 𝓛 (Passed (through D ps over) 𝓤 𝓛 κs qs a ∷ []) ∵ enter ! 𝓣.C 𝓣.Λ (function fa fp ft) (values (first D ps) κs a) _ $
-          alloc1 ! (λ l₀. alloc1 ! (λ l₁. alloc1 ! (λ l₂. alloc1 ! (λ l₃. alloc1 ! (λ l₄. alloc1 ! (λ l₅. alloc1 ! (λ l₆. alloc1 ! (λ l₇. alloc1 ! (λ l₈. alloc1 ! (λ l₉. alloc1 ! (λ l₁₀. alloc1 ! (λ l₁₁. alloc1 ! (λ l₁₂. alloc1 ! (λ l₁₃. alloc1 ! (λ l₁₄. alloc1 ! (λ l₁₅. alloc1 ! (λ l₁₆. alloc1 ! (λ l₁₇. alloc1 ! (λ l₁₈. alloc1 ! (λ l₁₉. alloc1 ! (λ l₂₀. alloc1 ! (λ l₂₁. alloc1 ! (λ l₂₂. alloc1 ! (λ l₂₃. alloc0 ! $ params1 ! $
-          pass1 ! (init ! 44 refl (tt, (tt, (record { fits = are.0.0.1.0 }, tt)))) $ pass1 ! (init ! 42 refl (tt, (tt, (record { fits = are.1.0.0.1.0 }, tt)))) $ pass1 ! (init ! 40 refl (tt, (tt, (record { fits = are.1.1.0.0.1.0 }, tt)))) $ pass1 ! (init ! 38 refl (tt, (tt, (record { fits = are.1.1.1.0.0.1.0 }, tt)))) $ pass1 ! (init ! 36 refl (KP.elem.typed 𝓛 a.1.1.1.1.0 are.1.1.1.1.0).0) $ pass1 ! (init ! 34 refl (KR.elem.typed 𝓛 a.1.1.1.1.1.0 are.1.1.1.1.1.0).0) $ pass0 ! $
-          -- [what is passed; then the locals, the last first]
-          move ! (48 ∷ []) $
-          asks D ! 𝓣 (KP ∷ KR ∷ []) (λ v. asked v.0 v.1.0) k-ask (a.1.1.1.1.0, (a.1.1.1.1.1.0, tt)) (are.1.1.1.1.0, (are.1.1.1.1.1.0, tt)) (λ y. (and_then ! (loc ! 38 refl) (and_then ! (loc ! 36 refl) (no_more !)))) (λ iq. land ! (from ! (stop !)) (init ! 33 refl (D.request.elem.typed 𝓛 _ iq).0) $
-          sets ! 31 refl (agg ! (no_more !)) (tt, tt) $
-          sets ! 29 refl (agg ! (no_more !)) (tt, tt) $
-          sets ! 23 refl (addr ! (from ! (fld ! refl (hop ! (look_in ! 45 (sub ! 0 refl (whole !))) (stop !))))) (tt, tt) $
-          sets ! 21 refl (agg ! (and_then ! (loc ! 23 refl) (and_then ! (fld_at ! 45 1 refl refl refl) (no_more !)))) (tt, (tt, (record { fits = are.0.0.1.0 }, tt))) $
-          sets ! 19 refl (addr ! (from ! (fld ! refl (hop ! (look_in ! 43 (sub ! 0 refl (whole !))) (stop !))))) (tt, tt) $
-          sets ! 17 refl (agg ! (and_then ! (loc ! 19 refl) (and_then ! (fld_at ! 43 1 refl refl refl) (no_more !)))) (tt, (tt, (record { fits = are.1.0.0.1.0 }, tt))) $
-          sets ! 15 refl (addr ! (from ! (fld ! refl (hop ! (look_in ! 41 (sub ! 0 refl (whole !))) (stop !))))) (tt, tt) $
-          sets ! 13 refl (agg ! (and_then ! (loc ! 15 refl) (and_then ! (fld_at ! 41 1 refl refl refl) (no_more !)))) (tt, (tt, (record { fits = are.1.1.0.0.1.0 }, tt))) $
-          sets ! 11 refl (addr ! (from ! (fld ! refl (hop ! (look_in ! 39 (sub ! 0 refl (whole !))) (stop !))))) (tt, tt) $
-          sets ! 9 refl (agg ! (and_then ! (loc ! 11 refl) (and_then ! (fld_at ! 39 1 refl refl refl) (no_more !)))) (tt, (tt, (record { fits = are.1.1.1.0.0.1.0 }, tt))) $
-          sets ! 7 refl (addr ! (from ! (stop !))) (tt, tt) $ sets ! 5 refl (agg ! (and_then ! (loc ! 7 refl) (and_then ! (lit ! tt) (no_more !)))) (tt, (tt, (record { fits = ltb→lt _ _ tt }, tt))) $
-          sets ! 3 refl (addr ! (from ! (stop !))) (tt, tt) $ sets ! 1 refl (agg ! (and_then ! (loc ! 3 refl) (and_then ! (lit ! tt) (no_more !)))) (tt, (tt, (record { fits = ltb→lt _ _ tt }, tt))) $
-          apart D ps over κs qs a ! $ drop ! $ drop ! $ lends_none ! tt l₉ (λ μ δ. shares_none ! tt l₈ (λ ν γ.
-          performs D ps over κs qs a ! 𝓣 k-perform (asked a.1.1.1.1.0 a.1.1.1.1.1.0) iq (xs_at u8 l₈ 0 γ []) (xs_at u8 l₉ 0 δ []) (λ y. (and_then ! (loc ! 21 refl) (and_then ! (loc ! 17 refl) (and_then ! (loc ! 13 refl) (and_then ! (loc ! 9 refl) (and_then ! (loc ! 33 refl) (and_then ! (loc ! 5 refl) (and_then ! (loc ! 1 refl) (no_more !))))))))) (λ r ir zs ms ls is os h.
+          alloc_all ! (λ l. pass_all ! refl ((tt, (tt, (record { fits = are.0.0.1.0 }, tt))), ((tt, (tt, (record { fits = are.1.0.0.1.0 }, tt))), ((tt, (tt, (record { fits = are.1.1.0.0.1.0 }, tt))), ((tt, (tt, (record { fits = are.1.1.1.0.0.1.0 }, tt))), ((KP.elem.typed 𝓛 a.1.1.1.1.0 are.1.1.1.1.0).0, ((KR.elem.typed 𝓛 a.1.1.1.1.1.0 are.1.1.1.1.1.0).0, tt)))))) $
+          asks D ! 𝓣 (KP ∷ KR ∷ []) (λ v. asked v.0 v.1.0) k-ask (a.1.1.1.1.0, (a.1.1.1.1.1.0, tt)) (are.1.1.1.1.0, (are.1.1.1.1.1.0, tt)) (λ y. (and_then ! (get ! refl) (and_then ! (get ! refl) (no_more !)))) (λ iq. lands_as ! refl refl (D.request.elem.typed 𝓛 _ iq).0 $
+          sets ! (agg ! (no_more !)) refl (tt, tt) $
+          sets ! (agg ! (no_more !)) refl (tt, tt) $
+          sets ! (ptr_at ! refl refl) refl (tt, tt) $
+          sets ! (agg ! (and_then ! (get ! refl) (and_then ! (fld_at ! 1 refl refl refl) (no_more !)))) refl (tt, (tt, (record { fits = are.0.0.1.0 }, tt))) $
+          sets ! (ptr_at ! refl refl) refl (tt, tt) $
+          sets ! (agg ! (and_then ! (get ! refl) (and_then ! (fld_at ! 1 refl refl refl) (no_more !)))) refl (tt, (tt, (record { fits = are.1.0.0.1.0 }, tt))) $
+          sets ! (ptr_at ! refl refl) refl (tt, tt) $
+          sets ! (agg ! (and_then ! (get ! refl) (and_then ! (fld_at ! 1 refl refl refl) (no_more !)))) refl (tt, (tt, (record { fits = are.1.1.0.0.1.0 }, tt))) $
+          sets ! (ptr_at ! refl refl) refl (tt, tt) $
+          sets ! (agg ! (and_then ! (get ! refl) (and_then ! (fld_at ! 1 refl refl refl) (no_more !)))) refl (tt, (tt, (record { fits = are.1.1.1.0.0.1.0 }, tt))) $
+          sets ! (addr ! (from ! (stop !))) refl (tt, tt) $ sets ! (agg ! (and_then ! (get ! refl) (and_then ! (lit ! tt) (no_more !)))) refl (tt, (tt, (record { fits = ltb→lt _ _ tt }, tt))) $
+          sets ! (addr ! (from ! (stop !))) refl (tt, tt) $ sets ! (agg ! (and_then ! (get ! refl) (and_then ! (lit ! tt) (no_more !)))) refl (tt, (tt, (record { fits = ltb→lt _ _ tt }, tt))) $
+          apart D ps over κs qs a ! $ drop ! $ drop ! $ lends_none ! tt (l 9) (λ μ δ. shares_none ! tt (l 8) (λ ν.
+          performs D ps over κs qs a ! 𝓣 k-perform (asked a.1.1.1.1.0 a.1.1.1.1.1.0) iq (xs_in u8 (l 8) 0 []) (xs_at u8 (l 9) 0 δ []) (λ y. (and_then ! (get ! refl) (and_then ! (get ! refl) (and_then ! (get ! refl) (and_then ! (get ! refl) (and_then ! (get ! refl) (and_then ! (get ! refl) (and_then ! (get ! refl) (no_more !))))))))) (λ r ir zs ms ls is os h.
           drop ! $ drop ! $ comes_none ! os (λ e. nothing ! $ nothing ! $ fjoin ! $ nothing ! $ fjoin ! $ use0 𝓛 (raw (toks 𝓛 0 tt tt)) (id⊢ 𝓤 _) $
           gathers D ps over κs qs a ! r zs ms ls is (tt, (tt, tt)) (so a.0.now a.1.0.now a.1.1.0.now a.1.1.1.0.now a.1.1.1.1.0 a.1.1.1.1.1.0 r zs ms ls is (subst (λ (u : List ℕ). D.says a.0.now a.1.0.now a.1.1.0.now a.1.1.1.0.now (asked a.1.1.1.1.0 a.1.1.1.1.1.0) [] [] r zs ms ls is u) e h)) $
-          land ! (from ! (stop !)) (init ! 27 refl (D.answer.elem.typed 𝓛 r ir).0) $
-          turns (through D ps over) ! 𝓣 k-turn r ir (and_then ! (loc ! 28 refl) (no_more !)) (λ ib. land ! (from ! (stop !)) (init ! 25 refl (D.result.elem.typed 𝓛 (D.turned r) ib).0) $
-          sets ! 47 refl (of_opd ! (loc ! 25 refl)) (D.result.elem.typed 𝓛 (D.turned r) ib).0 $
-          returns ! (look ! 47 refl) $ frees1 ! 47 refl refl $ frees1 ! 45 refl refl $ frees1 ! 43 refl refl $ frees1 ! 41 refl refl $ frees1 ! 39 refl refl $ frees1 ! 37 refl refl $ frees1 ! 35 refl refl $ frees1 ! 33 refl refl $ frees1 ! 31 refl refl $ frees1 ! 29 refl refl $ frees1 ! 27 refl refl $ frees1 ! 25 refl refl $ frees1 ! 23 refl refl $ frees1 ! 21 refl refl $ frees1 ! 19 refl refl $ frees1 ! 17 refl refl $ frees1 ! 15 refl refl $ frees1 ! 13 refl refl $ frees1 ! 11 refl refl $ frees1 ! 9 refl refl $ frees1 ! 7 refl refl $ frees1 ! 5 refl refl $ frees1 ! 3 refl refl $ frees1 ! 1 refl refl $ free0 ! $
-          by ! (ends (through D ps over) 𝓛 κs qs a r ib))))))))))))))))))))))))))))))))
+          lands_as ! refl refl (D.answer.elem.typed 𝓛 r ir).0 $
+          turns (through D ps over) ! 𝓣 k-turn r ir (and_then ! (get ! refl) (no_more !)) (λ ib. lands_as ! refl refl (D.result.elem.typed 𝓛 (D.turned r) ib).0 $
+          sets ! (of_opd ! (get ! refl)) refl (D.result.elem.typed 𝓛 (D.turned r) ib).0 $
+          returns ! (look_at ! 0 refl) $ free_all ! refl $
+          by ! (ends (through D ps over) 𝓛 κs qs a r ib)))))))))

@@ -3,9 +3,9 @@
 --     Held             their plain types: a record of the table, how many there are, the answer, and the struct of an answer and a table, in this
 --                      order of its fields, that is given back
 --     C, N, T, ET, B   a record of the table, the answer, the table (with what the steps ask of it), and what is given back, as types
---     pairs-up         an aggregate of an answer and a table, as that struct
---     vals-through     of a table in a struct that a crate declares: the machine values of its records are those of the records alone
---     lies-through     and such a table is one, as a field of the struct, where it is one by itself
+--     pairs_up         an aggregate of an answer and a table, as that struct
+--     vals_through     of a table in a struct that a crate declares: the machine values of its records are those of the records alone
+--     lies_through     and such a table is one, as a field of the struct, where it is one by itself
 -- Assumes nothing.
 use mathlib.Core.Path.{◌≡◌, refl, ap, subst, sym}
 use mathlib.Core.List.{List, [], ◌∷◌, map}
@@ -60,7 +60,7 @@ module _ (K : Held) where
   T = Array C K.count
 
   abbrev pub ET : Elem T
-  ET = array_elem C K.channel.elem K.count
+  ET = array_elem C K.channel.elem tt K.count
 
   abbrev pub B : RattleType
   B = of K.kept
@@ -79,7 +79,7 @@ module _ (X : Declared) (L : LL.Laws X) where
   lengths [] = refl
   lengths (x ∷ xs) = ap suc (lengths xs)
 
-  each_through : (xs : List X.D) (us : List Val) → shadow (each X.D (row X).own xs us) → shadow (each (Struct (shape X)).Denot (Struct (shape X)).own_val (map X.to xs) us)
+  each_through : (xs : List X.D) (us : List Val) → shadow (each X.D (row X).own_val xs us) → shadow (each (Struct (shape X)).Denot (Struct (shape X)).own_val (map X.to xs) us)
   each_through [] [] h = h
   each_through [] (u ∷ us) h = h
   each_through (x ∷ xs) [] h = h

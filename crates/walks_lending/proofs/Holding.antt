@@ -8,13 +8,13 @@
 --     ended, clauses   this function's contract.        Perform      that of `perform`. Neither has a `requires`
 --     Passed, Due      what this function is passed beside the table, and what it has to leave.        Had      what `perform` leaves, at its answer
 --     performs         the table is lent for the call, and comes back, as one step.        ends     the end of a walk
---     held-meets       from a walk to the contract
+--     held_meets       from a walk to the contract
 -- Assumes nothing: `Logic`, the laws of a model, is an argument.
 use Rattle.walks.proofs.Walk.{◌≡◌, refl, List, [], ◌∷◌, ℕ, suc, ltb→lt, length, Ura, full_share, Val, SProp, ent, emp, via, fst∗, GName, Fml, flft, fat, Env, WpFn, Tables, Item, runs, ‵, raw, ◌⊛◌, ⋆, ◌$◌, ◌∵◌, !, qed, use0, use1, move, drop, split, join, rewrite, fsplit, fjoin, frame, done, fm_of, owns, Is, slice_val, Room, plain, nothing, owned, heard, on_entry, triple_of, Contract, Triple, Lasts, lasts, says, yes}
 use mathlib.Core.Path.{subst}
 use base.Fml.{flent}
 use base.Logic.{sep, id⊢, ex_i}
-use package.mir.Syntax.{Fn, Name, Place, Opd as Operand, Body, seq, call, ty_array}
+use package.mir.Syntax.{Fn, Callee, Place, Opd as Operand, Body, seq, call, ty_array}
 use types.Logic.{Logic, sem}
 use types.Kit.{Post, lands, some, mean, Seq, pick, show, updating, now as at_once}
 use types.Run.{Opds}
@@ -132,7 +132,7 @@ module _ {K : Held} {n : ℕ} (L : Holding K n) where
   Table 𝓤 b ys = ‵ (fat full_share (ty_array K.channel.ty K.count) b 0 ((ET K).val ys))
 
   -- ---- the call
-  module _ {M : Type 1} {𝓤 : Ura M} {𝓛 : Logic 𝓤} {J : Type 0} {Γ : List (Item 𝓤)} {E : Env 𝓤 𝓛.H} {f : Name} {xs : List Operand} {d : Place} {rest : Body} {q : Post 𝓤 𝓛.H} where
+  module _ {M : Type 1} {𝓤 : Ura M} {𝓛 : Logic 𝓤} {J : Type 0} {Γ : List (Item 𝓤)} {E : Env 𝓤 𝓛.H} {f : Callee} {xs : List Operand} {d : Place} {rest : Body} {q : Post 𝓤 𝓛.H} where
     open 𝓛 use {H}
 
     pub performs : J → (𝓣 : Tables 𝓤 H) → Triple 𝓤 (𝓣.C f) (Perform 𝓤 𝓛) → (κs : Lfts n) (qs : Shares n) (a : Entry L.here κs) (ys : (T K).Denot) → Is (T K) ys ((ET K).val ys ∷ []) → (b : ℕ)
@@ -154,7 +154,7 @@ module _ {K : Held} {n : ℕ} (L : Holding K n) where
         let us : Ends L.here κs a = L.back κs' a ws.1 in
         move t (2 ∷ []) $ heard t (L.before κs' ys (L.to κs' a) r zs (seen L.there κs' (L.to κs' a) ws.1)) (λ e.
         -- the lifetime is ended, and the table comes back at the last list
-        use1 𝓛 (‵ (flft (ν ∷ []) full_share) ⊛ raw (toks 𝓛 n κs qs)) (id⊢ 𝓤 _) $ split t $ lft_end t tt $ move t (2 ∷ []) $ fsplit t $ fsplit t $ move t (3 ∷ 5 ∷ 0 ∷ []) $
+        use1 𝓛 (‵ (flft (ν ∷ []) full_share) ⊛ raw (toks 𝓛 n κs qs)) (id⊢ 𝓤 _) $ split t $ lft_end t tt $ move t (2 ∷ []) $ fsplit t $ fsplit t $ fsplit t $ move t (2 ∷ []) $ drop t $ move t (3 ∷ 5 ∷ 0 ∷ []) $
         array_back t tt K.channel.elem K.count (ν ∷ []) b ys zs all_there (λ iz.
         -- [the table; its length; the other last values; the tokens]
         move t (1 ∷ []) $ drop t $ move t (1 ∷ []) $ rewrite t 0 ‵ (L.ending_is κs' a ws.1) refl $ use0 𝓛 (raw (fact 𝓤 (L.after κs ys a r zs (seen L.here κs a us)))) (fact_i 𝓤 _ (emp 𝓤) (L.so κs' ys a r zs ws.1 e)) $

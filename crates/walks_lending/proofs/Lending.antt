@@ -2,7 +2,7 @@
 -- such a function passes them all, whole, to a call `perform` that has the same, and the answer to a covered function `turn`, and gives back what
 -- `turn` gives. So what it is passed is what `perform` asks, and what `perform` leaves of it is what it has to leave: neither is taken apart.
 --     Part             a parameter: its slot in a signature, its machine values, and that what it owns tells them
---     mut_slice, shr-slice, by_value     a `&mut [R]` and a `&[R]` at the lifetime numbered j, and a plain value
+--     mut_slice, shr_slice, by_value     a `&mut [R]` and a `&[R]` at the lifetime numbered j, and a plain value
 --     slots, rows, each    of a list of parameters: their slots, their types, and their machine values, one list for each
 --     lent ps R        the signature with the parameters ps and a result of the type R, and each last value kept
 --     Relates ps R     what may be ensured: a relation of the parameters on entry, the result, and the parameters at exit
@@ -11,13 +11,12 @@
 --     Perform, Turn    the contracts of `perform` and of `turn`, which ensures `r ≡ turned a`. Neither has a `requires`
 --     Passed, Due      what this function is passed, and what it has to leave.        Had      what `perform` leaves, at its answer: the tokens, and `Last`
 --     performs, turns  the two calls, as steps.        ends     the end of a walk
---     lent-meets       from a walk to the contract
+--     lent_meets       from a walk to the contract
 -- Assumes nothing: `Logic`, the laws of a model, is an argument.
-use denote.Slice.{shr_slice_vals, mut_slice_vals}
-use Rattle.walks.proofs.Walk.{◌≡◌, refl, List, [], ◌∷◌, ℕ, Ura, named, Val, SProp, ent, emp, via, fst∗, Env, WpFn, Tables, Item, runs, ‵, raw, ◌⊛◌, ⋆, ◌$◌, ◌∵◌, !, qed, use0, use1, move, drop, split, join, fjoin, frame, done, fm_of, Is, slice-vals, mut_slice_Tells, shr_slice_Tells, plain, shr_slice_of, nothing, owned, heard, on_entry, triple_of, Contract, Triple, Lasts, lasts, says, yes}
+use Rattle.walks.proofs.Walk.{◌≡◌, refl, List, [], ◌∷◌, ℕ, Ura, named, Val, SProp, ent, emp, via, fst∗, Env, WpFn, Tables, Item, runs, ‵, raw, ◌⊛◌, ⋆, ◌$◌, ◌∵◌, !, qed, use0, use1, move, drop, split, join, fjoin, frame, done, fm_of, Is, shr_slice_vals, mut_slice_vals, mut_slice_Tells, shr_slice_Tells, plain, shr_slice_of, nothing, owned, heard, on_entry, triple_of, Contract, Triple, Lasts, lasts, says, yes}
 use mathlib.Core.Path.{subst}
 use base.Logic.{sep, comm∗, emp∗, ex_i}
-use package.mir.Syntax.{Fn, Name, Place, Opd as Operand, Body, seq, call}
+use package.mir.Syntax.{Fn, Callee, Place, Opd as Operand, Body, seq, call}
 use types.Logic.{Logic, sem}
 use types.Kit.{Post, lands, some, mean, Seq, pick, regoal, show, updating, now as at_once}
 use types.Run.{Opds}
@@ -163,7 +162,7 @@ module _ {n : ℕ} (L : Turned n) where
         Had r = raw (alive 𝓛 (lent L.parts N).signature κs qs) ⊛ some (Last r)
 
   -- ---- the calls
-  module _ {M : Type 1} {𝓤 : Ura M} {𝓛 : Logic 𝓤} {K : Type 0} {Γ : List (Item 𝓤)} {E : Env 𝓤 𝓛.H} {f : Name} {xs : List Operand} {d : Place} {rest : Body} {q : Post 𝓤 𝓛.H} where
+  module _ {M : Type 1} {𝓤 : Ura M} {𝓛 : Logic 𝓤} {K : Type 0} {Γ : List (Item 𝓤)} {E : Env 𝓤 𝓛.H} {f : Callee} {xs : List Operand} {d : Place} {rest : Body} {q : Post 𝓤 𝓛.H} where
     open 𝓛 use {H}
 
     pub performs : K → (𝓣 : Tables 𝓤 H) → Triple 𝓤 (𝓣.C f) (Perform 𝓤 𝓛) → (κs : Lfts n) (qs : Shares n) (a : Entry L.parts κs) → Opds K 𝓛 (Passed 𝓤 𝓛 κs qs a ∷ Γ) E xs (values L.parts κs a)

@@ -6,19 +6,19 @@
 --         let r = turn(a);
 --         r
 --     }
--- where `perform` has the parameters of `Sweeping.antt`'s form, and no `requires`, and `turn` ensures `r ≡ turned a`. It ensures of
+-- where `perform` has the parameters of `Sweeping.antt`'s form, and no `requires`, and `turn` ensures `result ≡ turned a`. It ensures of
 -- `turned a` what follows of what `perform` ensures of a.
---     lent-sweeping-meets     its arguments: the kinds of the records, of the answer, of what is given; `turned`; what `perform` ensures (a
+--     lent_sweeping_meets     its arguments: the kinds of the records, of the answer, of what is given; `turned`; what `perform` ensures (a
 --                             relation), what this function ensures (a relation), and that the one gives the other; the names of `perform` and
 --                             `turn`; then the model, the tables, and that each of the two meets its contract
 -- Assumes nothing.
-use Rattle.walks.proofs.Walk.{refl, List, [], ◌∷◌, ℕ, Ura, named, imm, mut, w8, w16, ty_int, ty_ref, WpFn, Tables, ◌$◌, ◌∵◌, !, qed, by, move, agg, whole, sub, look_in, look, init, stop, hop, fld, from, addr, of_opd, and_then, no_more, land, returns, enter, alloc1, alloc0, params1, pass1, pass0, free0, pointee, u8, u16, slice_ty, Triple}
-use package.mir.Syntax.{Fn, Name, erased, local, value_local, place, field, deref, copy, rv_opd, addr_of, aggregate, seq, assign, call, return}
+use Rattle.walks.proofs.Walk.{refl, List, [], ◌∷◌, ℕ, Ura, named, imm, mut, w8, w16, ty_int, ty_ref, WpFn, Tables, ◌$◌, ◌∵◌, !, qed, by, agg, of_opd, and_then, no_more, returns, enter, pointee, u8, u16, slice_ty, Triple, alloc_all, pass_all, free_all, look_at, get, sets, lands_as, Callee}
+use package.mir.Syntax.{Fn, Callee, erased, local, value_local, place, field, deref, copy, rv_opd, addr_of, aggregate, seq, assign, call, return}
 use types.Logic.{Logic}
 use denote.RattleType.{RattleType}
 use denote.Triple.Clauses.{closing}
 use denote.Triple.Spec.{Meets}
-use Rattle.walks.proofs.Tab.{loc, fld_at, sets, frees1}
+use Rattle.walks.proofs.Tab.{fld_at, ptr_at}
 use Rattle.walks.proofs.Plain.{Kind, of}
 use Rattle.walks_lending.proofs.Lending.{Part, mut_slice, shr_slice, lent, Relates, values, ensuring, Turned, Perform, Turn, Passed, performs, turns, ends, lent_meets}
 
@@ -31,11 +31,13 @@ module _ (KC KN KB : Kind) where
   Ensured R = List C.Denot → List ℕ → List ℕ → List ℕ → R.Denot → List C.Denot → List ℕ → Type 0
 
   -- ---- the MIR
-  module _ (fp ft : Name) where
+  module _ (fp ft : Callee) where
     abbrev pub function : Fn
     function = record {
       lifetimes = 4;
       outlives = [];
+      ty_params = [];
+      givens = 0;
       params = 4;
       locals = local KB.ty value_local ∷ local (slice_ty (ty_ref (named 0) mut (pointee C.written))) value_local ∷ local (slice_ty (ty_ref (named 1) imm (ty_int w8))) value_local ∷ local (slice_ty (ty_ref (named 2) imm (ty_int w16))) value_local ∷ local (slice_ty (ty_ref (named 3) mut (ty_int w8))) value_local ∷ local KN.ty value_local ∷ local KB.ty value_local ∷ local (ty_ref erased mut (pointee C.written)) value_local ∷ local (slice_ty (ty_ref erased mut (pointee C.written))) value_local ∷ local (ty_ref erased mut (ty_int w8)) value_local ∷ local (slice_ty (ty_ref erased mut (ty_int w8))) value_local ∷ [];
       body = seq (assign (place 7 []) (addr_of (place 1 (field 0 ∷ deref KC.ty ∷ []))))
@@ -61,22 +63,19 @@ module _ (KC KN KB : Kind) where
     how = record { parts = parts; answer = KN; result = KB; turned = turned; before = over (of KN) Z; after = over (of KB) X; so = λ κs a r e. so a.0.now a.1.0.now a.1.1.0.now a.1.1.1.0.now r e.0.now e.1.1.1.0.now }
 
     -- ---- the walk
-    module _ (fp ft : Name) {M : Type 1} {𝓤 : Ura M} (𝓛 : Logic 𝓤) (𝓣 : Tables 𝓤 𝓛.H) (k-perform : Triple 𝓤 (𝓣.C fp) (Perform how 𝓤 𝓛)) (k-turn : Triple 𝓤 (𝓣.C ft) (Turn how 𝓤 𝓛)) where
+    module _ (fp ft : Callee) {M : Type 1} {𝓤 : Ura M} (𝓛 : Logic 𝓤) (𝓣 : Tables 𝓤 𝓛.H) (k-perform : Triple 𝓤 (𝓣.C fp) (Perform how 𝓤 𝓛)) (k-turn : Triple 𝓤 (𝓣.C ft) (Turn how 𝓤 𝓛)) where
       open 𝓛 use {H}
 
       pub lent_sweeping_meets : Meets 𝓛 (lent parts (of KB)).signature (WpFn 𝓤 H 𝓣.C 𝓣.Λ (function fp ft)) (closing 𝓛 (lent parts (of KB)) (ensuring parts 𝓤 (of KB) (over (of KB) X)))
       lent_sweeping_meets = lent_meets how 𝓛 𝓣 (function fp ft) (λ κs qs a are.
           qed 𝓛 (Passed how 𝓤 𝓛 κs qs a ∷ []) ∵ enter ! 𝓣.C 𝓣.Λ (function fp ft) (values parts κs a) _ $
-          alloc1 ! (λ l₀. alloc1 ! (λ l₁. alloc1 ! (λ l₂. alloc1 ! (λ l₃. alloc1 ! (λ l₄. alloc1 ! (λ l₅. alloc1 ! (λ l₆. alloc1 ! (λ l₇. alloc1 ! (λ l₈. alloc1 ! (λ l₉. alloc1 ! (λ l₁₀. alloc0 ! $ params1 ! $
-          pass1 ! (init ! 18 refl (tt, (tt, (record { fits = are.0.0.1.0 }, tt)))) $ pass1 ! (init ! 16 refl (tt, (tt, (record { fits = are.1.0.0.1.0 }, tt)))) $ pass1 ! (init ! 14 refl (tt, (tt, (record { fits = are.1.1.0.0.1.0 }, tt)))) $ pass1 ! (init ! 12 refl (tt, (tt, (record { fits = are.1.1.1.0.0.1.0 }, tt)))) $ pass0 ! $
-          -- [what is passed; then the locals, the last first]
-          move ! (22 ∷ []) $
-          sets ! 7 refl (addr ! (from ! (fld ! refl (hop ! (look_in ! 19 (sub ! 0 refl (whole !))) (stop !))))) (tt, tt) $
-          sets ! 5 refl (agg ! (and_then ! (loc ! 7 refl) (and_then ! (fld_at ! 19 1 refl refl refl) (no_more !)))) (tt, (tt, (record { fits = are.0.0.1.0 }, tt))) $
-          sets ! 3 refl (addr ! (from ! (fld ! refl (hop ! (look_in ! 13 (sub ! 0 refl (whole !))) (stop !))))) (tt, tt) $
-          sets ! 1 refl (agg ! (and_then ! (loc ! 3 refl) (and_then ! (fld_at ! 13 1 refl refl refl) (no_more !)))) (tt, (tt, (record { fits = are.1.1.1.0.0.1.0 }, tt))) $
-          performs how ! 𝓣 k-perform κs qs a (and_then ! (loc ! 5 refl) (and_then ! (loc ! 17 refl) (and_then ! (loc ! 15 refl) (and_then ! (loc ! 1 refl) (no_more !))))) (λ r ir. land ! (from ! (stop !)) (init ! 11 refl (KN.elem.typed 𝓛 r ir).0) $
-          turns how ! 𝓣 k-turn r ir (and_then ! (loc ! 12 refl) (no_more !)) (λ ib. land ! (from ! (stop !)) (init ! 9 refl (KB.elem.typed 𝓛 (turned r) ib).0) $
-          sets ! 21 refl (of_opd ! (loc ! 9 refl)) (KB.elem.typed 𝓛 (turned r) ib).0 $
-          returns ! (look ! 21 refl) $ frees1 ! 21 refl refl $ frees1 ! 19 refl refl $ frees1 ! 17 refl refl $ frees1 ! 15 refl refl $ frees1 ! 13 refl refl $ frees1 ! 11 refl refl $ frees1 ! 9 refl refl $ frees1 ! 7 refl refl $ frees1 ! 5 refl refl $ frees1 ! 3 refl refl $ frees1 ! 1 refl refl $ free0 ! $
-          by ! (ends how 𝓛 κs qs a r ib)))))))))))))))
+          alloc_all ! (λ l. pass_all ! refl ((tt, (tt, (record { fits = are.0.0.1.0 }, tt))), ((tt, (tt, (record { fits = are.1.0.0.1.0 }, tt))), ((tt, (tt, (record { fits = are.1.1.0.0.1.0 }, tt))), ((tt, (tt, (record { fits = are.1.1.1.0.0.1.0 }, tt))), tt)))) $
+          sets ! (ptr_at ! refl refl) refl (tt, tt) $
+          sets ! (agg ! (and_then ! (get ! refl) (and_then ! (fld_at ! 1 refl refl refl) (no_more !)))) refl (tt, (tt, (record { fits = are.0.0.1.0 }, tt))) $
+          sets ! (ptr_at ! refl refl) refl (tt, tt) $
+          sets ! (agg ! (and_then ! (get ! refl) (and_then ! (fld_at ! 1 refl refl refl) (no_more !)))) refl (tt, (tt, (record { fits = are.1.1.1.0.0.1.0 }, tt))) $
+          performs how ! 𝓣 k-perform κs qs a (and_then ! (get ! refl) (and_then ! (get ! refl) (and_then ! (get ! refl) (and_then ! (get ! refl) (no_more !))))) (λ r ir. lands_as ! refl refl (KN.elem.typed 𝓛 r ir).0 $
+          turns how ! 𝓣 k-turn r ir (and_then ! (get ! refl) (no_more !)) (λ ib. lands_as ! refl refl (KB.elem.typed 𝓛 (turned r) ib).0 $
+          sets ! (of_opd ! (get ! refl)) refl (KB.elem.typed 𝓛 (turned r) ib).0 $
+          returns ! (look_at ! 0 refl) $ free_all ! refl $
+          by ! (ends how 𝓛 κs qs a r ib)))))

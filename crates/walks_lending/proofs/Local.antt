@@ -1,18 +1,18 @@
 -- A local array of plain records that is lent as a `&mut [T]` for one call, and comes back.
 --     array_elem       an array of what has `Tab.antt`'s `Elem` has it
---     lends-array      the local's cell becomes a `&κ mut [T]` at the list xs, under a new name, beside the lender's part
+--     lends_array      the local's cell becomes a `&κ mut [T]` at the list xs, under a new name, beside the lender's part
 --     array_back       once κ is dead, the lender's part and what says the last list give the cell back, at that list
 -- Assumes nothing: `Logic`, the laws of a model, is an argument.
 use mathlib.Core.Path.{◌≡◌, refl, sym, subst, ◌∙◌}
 use Prim.Native.Nat.{ℕ}
 use mathlib.Core.List.{List, [], ◌∷◌, map}
 use lib.ListN.{length}
-use seplogic.Ra.TreeShare.{full_share}
+use base.Fraction.{full_share}
 use seplogic.Ra.Ura.{Ura}
 use mir.Syntax.{named, ty_array}
 use mir.Raw.{raw as raw_ty}
 use mir.Val.{Val}
-use base.Fml.{Lft, GName, Fml, fsep, fat, fdead, flent}
+use base.Fml.{Lft, GName, fsep, fat, fdead, flent}
 use types.Logic.{Logic}
 use types.Kit.{Goal, Soaks, Item, ‵, ◌⊛◌, some, later, Seq, ◌$◌, move, drop, split, pick, await, use1, use3, rewrite, fsplit, fjoin, fpick, fpack, feq_l, feq_i}
 use types.SemTy.{cells, Arr}
@@ -20,7 +20,8 @@ use types.Share.{arr_parts}
 use denote.RattleType.{RattleType}
 use denote.Laws.{Is, Typed, shows}
 use denote.Memory.{cell_at, lone, part_at, mem, shares, part_of}
-use denote.Array.{Array, array_val, Array-Tells, Array-Typed, array_copy, Array-Makes}
+use denote.Array.{Array, array_val, Array-Tells, Array-Typed, Array-row_laws, Array-Makes}
+use denote.Copied.{Array-Copied}
 use denote.ArrayMemory.{Single, Array-apart, Array-whole}
 use denote.Slice.{slice_val, MutSlice, Room, finally}
 use denote.Lend.{Held, lends_slice, slice_back}
@@ -28,13 +29,14 @@ use denote.Index.{row, whole_in, whole_out}
 use denote.Steps.{owned, facts}
 use Rattle.walks.proofs.Tab.{Elem, xs_at}
 
-abbrev pub array_elem : (R : RattleType) → Elem R → (n : ℕ) → Elem (Array R n)
-array_elem R E n = record {
+abbrev pub array_elem : (R : RattleType) → Elem R → Single R.mir → (n : ℕ) → Elem (Array R n)
+array_elem R E one n = record {
   val = λ xs. array_val (map E.val xs);
   tells = Array-Tells R (λ y. E.val y ∷ []) E.tells n;
   typed = λ 𝓛 xs p. Array-Typed R (λ x vs s. subst (Typed R.mir) (sym (E.tells x vs s)) (E.typed 𝓛 x (subst (Is R x) (E.tells x vs s) s))) n xs (array_val (map E.val xs) ∷ []) p;
-  copies = λ 𝓛. array_copy 𝓛 R (E.copies 𝓛) n;
+  copied = λ 𝓛. Array-Copied 𝓛 R (E.copied 𝓛) one n;
   makes = λ 𝓛. Array-Makes 𝓛 R (E.makes 𝓛) n;
+  row_laws = Array-row_laws R E.row_laws n;
 }
 
 module _ {M : Type 1} {𝓤 : Ura M} {𝓛 : Logic 𝓤} {K : Type 0} {Γ : List (Item 𝓤)} {G : Goal 𝓤 𝓛.H} where

@@ -1,7 +1,7 @@
 -- ONE WALK FOR EVERY TABLE THAT IS MADE FRESH FROM ANOTHER. A function of this form, whatever the function `f` is, and the plain types R and X:
 --     pub fn fill(t: &mut [R], s: &[X]) -> usize
---         requires { ⌜ length (now t) ≡ length (now s) ⌝ }
---         ensures { λ r. ⌜ (r ≡ length (now s.entry)) × (now t.exit ≡ map F (now s.entry)) ⌝ }
+--         requires { length t.old ≡ length s.now }
+--         ensures { (result ≡ length s.now) × (t.new ≡ map F s.now) }
 --     {
 --         let mut j = 0;
 --         while j < t.len() {
@@ -11,25 +11,24 @@
 --         }
 --         t.len()
 --     }
--- where `f(x: X) -> R` has no `requires` and ensures `r ≡ F x`.
+-- where `f(x: X) -> R` has no `requires` and ensures `result ≡ F x`.
 --     fill_meets   its arguments: the kind of R, any value of R, `tt`, the kind of X, any value of X, `tt`, F, and f's name; then the model, the
 --                  tables, and that f meets its contract
 -- The invariant: after i turns the first i of t are fresh (`tab i`).
 -- Assumes nothing.
 use types.Logic.{Logic}
-use denote.Slice.{shr_slice_vals, mut_slice_vals}
-use Rattle.walks.proofs.Walk.{◌≡◌, refl, sym, ap, ◌∙◌, List, [], ◌∷◌, ℕ, zero, suc, ◌+◌, ◌*◌, ◌^◌, ◌<◌, ◌≤◌, arith, T, ltb, ltb→lt, nltb→le, lit<, length, get_or, set, Ura, full_share, named, imm, mut, w64, Ty, ty_ptr, ty_int, ty_bool, ty_ref, Val, vint, SProp, ent, Lft, GName, Share, Fml, ftrue, fat, froom, fdies, flft, Env, WpFn, Wp, Tables, after_block, after_seq, after_turn, at_return, Item, Sq, runs, any_q, at_ret, ‵, ◌⊛◌, ⋆, ◌$◌, ◌∵◌, !, qed, by, move, keep, drop, split, join, rewrite, fsplit, fjoin, suffices, frame, done, look, look_raw, store, store_raw, init, forget, stop, hop, from, load, lit, of_opd, bin, and_then, no_more, assigns, assigns_last, first, blocks, loops, again, Below, exec, land, returns, enter, alloc1, alloc0, params1, pass1, pass0, free0, fm_of, owns, Is, pointee, uint_Makes, usize, slice_val, slice_ty, MutSlice, ShrSlice, Room, slice-vals, mut_slice_Tells, shr_slice_Tells, finally, plain, shr_slice_of, nothing, owned, on_entry, Triple, says, needs, Stays, stay_dropped, gave_slice, walk_of, Goes-dropped, Goes-gave_slice, ends_at, yes, Fn, Name, Body, local, value_local, place, field, deref, copy, int, rv_opd, op2, lt, mul, add, offset, unsigned, seq, assign, block, loop, skip, exit, cond, call, return, fact, RattleType, mem, now, mut_slice_of, Clauses, Ended, closing, Meets}
+use Rattle.walks.proofs.Walk.{◌≡◌, refl, sym, ap, ◌∙◌, List, [], ◌∷◌, ℕ, zero, suc, ◌+◌, ◌*◌, ◌^◌, ◌<◌, ◌≤◌, arith, T, ltb, ltb→lt, nltb→le, lit<, length, get_or, set, Ura, named, imm, mut, w64, Ty, ty_ptr, ty_int, ty_bool, ty_ref, Val, vint, SProp, ent, Lft, GName, Share, Fml, ftrue, flft, Env, WpFn, Wp, Tables, after_block, after_seq, after_turn, at_return, Item, Sq, runs, any_q, at_ret, ‵, ◌⊛◌, ⋆, ◌$◌, ◌∵◌, !, qed, by, move, keep, drop, split, join, rewrite, fsplit, fjoin, suffices, frame, done, look_raw, store_raw, stop, load, lit, of_opd, bin, and_then, no_more, assigns, first, blocks, loops, again, Below, exec, returns, enter, fm_of, owns, Is, pointee, uint_Makes, usize, slice_val, slice_ty, MutSlice, ShrSlice, Room, mut_slice_Tells, shr_slice_Tells, plain, shr_slice_of, nothing, owned, on_entry, Triple, says, needs, Stays, stay_dropped, gave_slice, walk_of, Goes-dropped, Goes-gave_slice, ends_at, yes, Fn, Body, local, value_local, place, field, deref, copy, int, rv_opd, op2, lt, mul, add, offset, unsigned, seq, assign, block, loop, skip, exit, cond, call, return, fact, RattleType, mem, mut_slice_of, Clauses, Ended, closing, Meets, shr_slice_vals, mut_slice_vals, alloc_all, pass_all, free_all, look_at, get, through, sets, lands_as, env, holding, forget_but, sets_last, Callee}
 use mathlib.Core.Path.{subst}
 use mathlib.Core.List.{map}
 use native.Mathlib.Nat.{not-suc-le-zero, le_of_suc-le-suc}
 use native.Mathlib.Numerals.{add-one}
 use types.Kit as Kit
 use Rattle.walks.proofs.Plain.{Kind, of, letters}
-use Rattle.walks.proofs.Tab.{plainly, xs_at, loc, fld_at, sets, resets, elem_ptr, peeks_at, shuts_at, opens_at, closes_at, gives_up, frees0, frees1, tests, left_of_lem, left_wf, meets_by, in_room}
+use Rattle.walks.proofs.Tab.{plainly, xs_at, fld_at, elem_ptr, peeks_at, shuts_at, opens_at, closes_at, gives_up, tests, left_of_lem, left_wf, meets_by, in_room, xs_in, gave_at}
 use Rattle.walks.proofs.ByValue.{ByValue, always, Takes, calls_by}
 
 -- ---- the MIR
-module _ (R X : RattleType) (τr τx : Ty) (f : Name) where
+module _ (R X : RattleType) (τr τx : Ty) (f : Callee) where
   abbrev slice : Ty
   slice = slice_ty (ty_ref (named 0) mut (pointee R.written))
 
@@ -56,6 +55,8 @@ module _ (R X : RattleType) (τr τx : Ty) (f : Name) where
   function = record {
     lifetimes = 2;
     outlives = [];
+    ty_params = [];
+    givens = 0;
     params = 2;
     locals = local (ty_int w64) value_local ∷ local slice value_local ∷ local slice₁ value_local ∷ local (ty_int w64) value_local ∷ local τr value_local ∷ local (ty_int w64) value_local ∷ local ty_bool value_local ∷ local ty_ptr value_local ∷ local τx value_local ∷ local ty_ptr value_local ∷ [];
     body = seq (assign (place 3 []) (rv_opd (int w64 0))) (seq (block (loop turn)) rest);
@@ -71,7 +72,7 @@ module _ (R X : RattleType) where
 
   module _ (F : X.Denot → R.Denot) {M : Type 1} (𝓤 : Ura M) where
     abbrev pub clauses : Clauses 𝓤 ended
-    clauses κs a = record { ghost = Unit {0}; requires = λ _. fact 𝓤 (length (now a.0) ≡ length (now a.1.0)); ensures = λ _ r e. fact 𝓤 ((r ≡ length (now a.1.0)) × (now e.0 ≡ map F (now a.1.0))) }
+    clauses κs a = record { ghost = Unit {0}; requires = λ _. fact 𝓤 (length a.0.now ≡ length a.1.0.now); ensures = λ _ r e. fact 𝓤 ((r ≡ length a.1.0.now) × (e.0.now ≡ map F a.1.0.now)) }
 
 -- f takes plain data alone
 module _ (KR KX : Kind) (F : KX.row.Denot → KR.row.Denot) where
@@ -115,13 +116,13 @@ module _ {R X : Type 0} (F : X → R) where
   all_tab (suc i) (y ∷ ys) (x ∷ xs) l e = ap (λ (zs : List R). F x ∷ zs) (all_tab i ys xs (le_of_suc-le-suc l) (cc))
 
 -- ---- the walk
-module _ (KR : Kind) (dr : KR.row.Denot) (fits-r : T (ltb (mem (of KR)).size (2 ^ 64))) (KX : Kind) (dx : KX.row.Denot) (fits-x : T (ltb (mem (of KX)).size (2 ^ 64))) (F : KX.row.Denot → KR.row.Denot) (f : Name)
+module _ (KR : Kind) (dr : KR.row.Denot) (fits-r : T (ltb (mem (of KR)).size (2 ^ 64))) (KX : Kind) (dx : KX.row.Denot) (fits-x : T (ltb (mem (of KX)).size (2 ^ 64))) (F : KX.row.Denot → KR.row.Denot) (f : Callee)
     {M : Type 1} {𝓤 : Ura M} (𝓛 : Logic 𝓤) (𝓣 : Tables 𝓤 𝓛.H) (known : Triple 𝓤 (𝓣.C f) (Takes (callee KR KX F) 𝓤 𝓛)) where
   open 𝓛 use {H}
   open letters KR use {type as R, elem as ER}
   open letters KX use {type as X, elem as EX}
 
-  module _ (κ κ₁ : Lft) (q q₁ : Share) (b o b₁ o₁ : ℕ) (γ γ₁ : GName) (ys : List R.Denot) (xs : List X.Denot) (room : Room R (length ys)) (room₁ : Room X (length xs)) where
+  module _ (κ κ₁ : Lft) (q q₁ : Share) (b o b₁ o₁ : ℕ) (γ : GName) (ys : List R.Denot) (xs : List X.Denot) (room : Room R (length ys)) (room₁ : Room X (length xs)) where
     abbrev s : List Val
     s = slice_val (b, o) (length ys) ∷ []
 
@@ -129,31 +130,29 @@ module _ (KR : Kind) (dr : KR.row.Denot) (fits-r : T (ltb (mem (of KR)).size (2 
     s₁ = slice_val (b₁, o₁) (length xs) ∷ []
 
     abbrev y : (walk_of 𝓛 (ended R X) (stayed R X) (clauses R X F 𝓤)).Ghost
-    y = (((κ, (κ₁, tt)), (q, (q₁, tt)), tt, (xs_at R b o γ ys, (xs_at X b₁ o₁ γ₁ xs, tt)), (s, (s₁, tt))), tt)
+    y = (((κ, (κ₁, tt)), (q, (q₁, tt)), tt, (xs_at R b o γ ys, (xs_in X b₁ o₁ xs, tt)), (s, (s₁, tt))), tt)
 
     abbrev Post : Val → SProp 𝓤
     Post = (walk_of 𝓛 (ended R X) (stayed R X) (clauses R X F 𝓤)).post y
 
     abbrev Own₁ : Fml
-    Own₁ = (ShrSlice (named 1) κ₁ X).own_val (xs_at X b₁ o₁ γ₁ xs) s₁
+    Own₁ = (ShrSlice (named 1) κ₁ X).own_val (xs_in X b₁ o₁ xs) s₁
 
-    exits : (r : ℕ) (zs : List R.Denot) → (r ≡ length xs) × (zs ≡ map F xs) → length zs ≡ length ys → r < 2 ^ 64 → ent 𝓤 (⋆ 𝓛 (‵ (finally R γ zs) ∷ ‵ (flft κ q) ∷ ‵ (flft κ₁ q₁) ∷ [])) (Post (vint w64 r))
+    exits : (r : ℕ) (zs : List R.Denot) → (r ≡ length xs) × (zs ≡ map F xs) → length zs ≡ length ys → r < 2 ^ 64 → ent 𝓤 (⋆ 𝓛 (‵ (gave_at R κ b o γ (length ys) zs) ∷ ‵ (flft κ q) ∷ ‵ (flft κ₁ q₁) ∷ [])) (Post (vint w64 r))
     exits r zs e l fits =
-        qed 𝓛 (‵ (finally R γ zs) ∷ ‵ (flft κ q) ∷ ‵ (flft κ₁ q₁) ∷ []) ∵
+        qed 𝓛 (‵ (gave_at R κ b o γ (length ys) zs) ∷ ‵ (flft κ q) ∷ ‵ (flft κ₁ q₁) ∷ []) ∵
         suffices ! _ (ends_at 𝓛 (ended R X) (stayed R X) (clauses R X F 𝓤) y (vint w64 r) r (zs, (tt, tt)) (l, (tt, tt))) $ says ! e $
         nothing ! $ move ! (3 ∷ 0 ∷ []) $ join ! $ move ! (2 ∷ 0 ∷ []) $ join ! $ frame ! $ nothing ! $ nothing ! $ fjoin ! $ move ! (1 ∷ 0 ∷ []) $ fjoin ! $ frame ! $ owned ! usize (Is usize) (uint_Makes 𝓛 w64) r _ (refl, fits) $ done !
 
     module _ (same : length ys ≡ length xs) where
-      module _ (l₀ l₁ l₂ l₃ l₄ l₅ l₆ l₇ l₈ l₉ : ℕ) where
+      module _ (l : ℕ → ℕ) where
         abbrev E : Env 𝓤 H
-        E = (ty_int w64, l₀) ∷ (slice R X KR.ty KX.ty f, l₁) ∷ (slice₁ R X KR.ty KX.ty f, l₂) ∷ (ty_int w64, l₃) ∷ (KR.ty, l₄) ∷ (ty_int w64, l₅) ∷ (ty_bool, l₆) ∷ (ty_ptr, l₇) ∷ (KX.ty, l₈) ∷ (ty_ptr, l₉) ∷ []
+        E = env (function R X KR.ty KX.ty f).locals l
 
-        -- the invariant: the slices and the tokens; then the locals, the last first
+        -- the invariant: the slices and the tokens; then the locals
         abbrev Inv : ℕ → List (Item 𝓤)
         Inv i = ‵ ((MutSlice (named 0) κ R).own_val (xs_at R b o γ (tab F i ys xs)) s) ∷ ‵ (flft κ q) ∷ ‵ Own₁ ∷ ‵ (flft κ₁ q₁)
-            ∷ ‵ (froom ty_ptr l₉ 0) ∷ ‵ (fdies ty_ptr l₉) ∷ ‵ (froom KX.ty l₈ 0) ∷ ‵ (fdies KX.ty l₈) ∷ ‵ (froom ty_ptr l₇ 0) ∷ ‵ (fdies ty_ptr l₇) ∷ ‵ (froom ty_bool l₆ 0) ∷ ‵ (fdies ty_bool l₆)
-            ∷ ‵ (froom (ty_int w64) l₅ 0) ∷ ‵ (fdies (ty_int w64) l₅) ∷ ‵ (froom KR.ty l₄ 0) ∷ ‵ (fdies KR.ty l₄) ∷ ‵ (fat full_share (ty_int w64) l₃ 0 (vint w64 i)) ∷ ‵ (fdies (ty_int w64) l₃)
-            ∷ ‵ (fat full_share (slice₁ R X KR.ty KX.ty f) l₂ 0 (slice_val (b₁, o₁) (length xs))) ∷ ‵ (fdies (slice₁ R X KR.ty KX.ty f) l₂) ∷ ‵ (fat full_share (slice R X KR.ty KX.ty f) l₁ 0 (slice_val (b, o) (length ys))) ∷ ‵ (fdies (slice R X KR.ty KX.ty f) l₁) ∷ ‵ (froom (ty_int w64) l₀ 0) ∷ ‵ (fdies (ty_int w64) l₀) ∷ []
+            ∷ holding 𝓛 E ((1, slice_val (b, o) (length ys)) ∷ (2, slice_val (b₁, o₁) (length xs)) ∷ (3, vint w64 i) ∷ [])
 
         -- where the loop is left, the rest of the body runs
         abbrev Left : Kit.Post 𝓤 H
@@ -164,10 +163,10 @@ module _ (KR : Kind) (dr : KR.row.Denot) (fits-r : T (ltb (mem (of KR)).size (2 
         turns i =
             let zs : List R.Denot = tab F i ys xs in
             let x : X.Denot = get_or xs i dx in
-            -- [what t owns; its token; what s owns; its token; _9 at 4; …; _0 at 22]
-            sets ! 12 refl (of_opd ! (fld_at ! 20 1 refl refl refl)) (tt, record { fits = room.0 }) $
-            sets ! 10 refl (bin ! (loc ! 16 refl) (loc ! 12 refl) tt) (tt, tt) $
-            tests ! (loc ! 10 refl)
+            -- [what t owns; its token; what s owns; its token; the locals]
+            sets ! (of_opd ! (fld_at ! 1 refl refl refl)) refl (tt, record { fits = room.0 }) $
+            sets ! (bin ! (get ! refl) (get ! refl) tt) refl (tt, tt) $
+            tests ! (get ! refl)
             (λ h.
             let l : i < length ys = ltb→lt i (length ys) h in
             let l₁' : i < length xs = subst (λ (m : ℕ). i < m) same l in
@@ -175,42 +174,42 @@ module _ (KR : Kind) (dr : KR.row.Denot) (fits-r : T (ltb (mem (of KR)).size (2 
             let small : i * (mem R).size < 2 ^ 64 = in_room R i (length ys) l room in
             let small₁ : i * (mem X).size < 2 ^ 64 = in_room X i (length xs) l₁' room₁ in
             let next : i + 1 < 2 ^ 64 = omega (arith, room.0) in
-            resets ! 12 refl (bin ! (loc ! 16 refl) (lit ! fits-x) (record { fits = small₁ })) (tt, record { fits = small₁ }) $
-            sets ! 8 refl (elem_ptr ! (mem X).size o₁ i (fld_at ! 18 0 refl refl refl) (loc ! 12 refl)) (tt, tt) $
+            sets ! (bin ! (get ! refl) (lit ! fits-x) (record { fits = small₁ })) refl (tt, record { fits = small₁ }) $
+            sets ! (elem_ptr ! (mem X).size o₁ i (fld_at ! 0 refl refl refl) (get ! refl)) refl (tt, tt) $
             move ! (2 ∷ 3 ∷ []) $ peeks_at ! tt EX b₁ o₁ xs i dx l₁' (λ q' p ix.
-            sets ! 6 refl (of_opd ! (load ! (from ! (hop ! (look ! 8 refl) (stop !))) (look_raw ! 0 refl))) (EX.typed 𝓛 x ix).0 $
+            sets ! (of_opd ! (load ! (through ! refl (stop !)) (look_raw ! 0 refl))) refl (EX.typed 𝓛 x ix).0 $
             shuts_at ! tt EX b₁ o₁ xs s₁ q' i dx l₁' p $ move ! (2 ∷ 3 ∷ []) $
-            calls_by ! (fm_of 𝓤 H 𝓛.laws 𝓣) (callee KR KX F) known (x, tt) (ix, tt) tt (λ _. and_then ! (loc ! 7 refl) (no_more !)) (λ r ir e.
+            calls_by ! (fm_of 𝓤 H 𝓛.laws 𝓣) (callee KR KX F) known (x, tt) (ix, tt) tt (λ _. and_then ! (get ! refl) (no_more !)) (λ r ir e.
             let to_tab : set zs i r ≡ tab F (i + 1) ys xs = ap (λ (d : R.Denot). set zs i d) e ∙ next_tab F dx i ys xs l l₁' ∙ ap (λ (m : ℕ). tab F m ys xs) (sym (add-one i)) in
-            land ! (from ! (stop !)) (init ! 14 refl (ER.typed 𝓛 r ir).0) $
-            resets ! 12 refl (bin ! (loc ! 16 refl) (lit ! fits-r) (record { fits = small })) (tt, record { fits = small }) $
-            sets ! 4 refl (elem_ptr ! (mem R).size o i (fld_at ! 20 0 refl refl refl) (loc ! 12 refl)) (tt, tt) $
+            lands_as ! refl refl (ER.typed 𝓛 r ir).0 $
+            sets ! (bin ! (get ! refl) (lit ! fits-r) (record { fits = small })) refl (tt, record { fits = small }) $
+            sets ! (elem_ptr ! (mem R).size o i (fld_at ! 0 refl refl refl) (get ! refl)) refl (tt, tt) $
             opens_at ! tt ER b o zs i dr l' (λ p' _.
-            assigns ! (of_opd ! (loc ! 14 refl)) (from ! (hop ! (look ! 4 refl) (stop !))) (store_raw ! 0 refl (ER.typed 𝓛 r ir).0) $
+            assigns ! (of_opd ! (get ! refl)) (through ! refl (stop !)) (store_raw ! 0 refl (ER.typed 𝓛 r ir).0) $
             closes_at ! tt ER b o zs s i r l' p' ir $
-            assigns_last ! (bin ! (loc ! 16 refl) (lit ! tt) (record { fits = next })) (from ! (stop !)) (store ! 16 refl (tt, record { fits = next })) $
+            sets_last ! (bin ! (get ! refl) (lit ! tt) (record { fits = next })) refl (tt, record { fits = next }) $
             rewrite ! 0 (λ (ws' : List R.Denot). ‵ ((MutSlice (named 0) κ R).own_val (xs_at R b o γ ws') s)) to_tab refl $
-            forget ! 4 refl $ forget ! 6 refl $ forget ! 8 refl $ forget ! 10 refl $ forget ! 12 refl $ forget ! 14 refl $ again ! (left_of_lem (length ys)) Inv i (i + 1) (omega (arith, l))))))
+            forget_but ! E (1 ∷ 2 ∷ 3 ∷ []) refl $ again ! (left_of_lem (length ys)) Inv i (i + 1) (omega (arith, l))))))
             (λ h.
             let k : length ys ≤ i = nltb→le i (length ys) h in
             exec ! 𝓣.C 𝓣.Λ E (rest R X KR.ty KX.ty f) (at_ret E Post) $
-            sets ! 22 refl (of_opd ! (fld_at ! 20 1 refl refl refl)) (tt, record { fits = room.0 }) $ gives_up ! R b o zs $
-            returns ! (look ! 22 refl) $ frees1 ! 22 refl refl $ frees1 ! 20 refl refl $ frees1 ! 18 refl refl $ frees1 ! 16 refl refl $ frees0 ! 14 refl refl $ frees1 ! 12 refl refl $ frees1 ! 10 refl refl $ frees0 ! 8 refl refl $ frees0 ! 6 refl refl $ frees0 ! 4 refl refl $ free0 ! $
+            sets ! (of_opd ! (fld_at ! 1 refl refl refl)) refl (tt, record { fits = room.0 }) $ gives_up ! R b o zs $ rewrite ! 0 (λ (m : ℕ). ‵ (gave_at R κ b o γ m zs)) (as_long F i ys xs) refl $
+            returns ! (look_at ! 0 refl) $ free_all ! refl $
             keep ! (0 ∷ 1 ∷ 3 ∷ []) $ by ! (exits (length ys) zs (same, all_tab F i ys xs k same) (as_long F i ys xs) room.0))
 
       walk : ent 𝓤 (on_entry 𝓛 (ended R X).signature y.0.0 y.0.1 y.0.3 y.0.4) (WpFn 𝓤 H 𝓣.C 𝓣.Λ (function R X KR.ty KX.ty f) (slice_val (b, o) (length ys) ∷ slice_val (b₁, o₁) (length xs) ∷ []) Post)
       walk =
-          qed 𝓛 ((‵ (flft κ q) ⊛ ‵ (flft κ₁ q₁) ⊛ ‵ ftrue) ∷ ‵ (owns (MutSlice (named 0) κ R ∷ ShrSlice (named 1) κ₁ X ∷ []) y.0.3 y.0.4) ∷ []) ∵ enter ! 𝓣.C 𝓣.Λ (function R X KR.ty KX.ty f) (slice_val (b, o) (length ys) ∷ slice_val (b₁, o₁) (length xs) ∷ []) _ $
-          alloc1 ! (λ l₀. alloc1 ! (λ l₁. alloc1 ! (λ l₂. alloc1 ! (λ l₃. alloc1 ! (λ l₄. alloc1 ! (λ l₅. alloc1 ! (λ l₆. alloc1 ! (λ l₇. alloc1 ! (λ l₈. alloc1 ! (λ l₉. alloc0 ! $ params1 ! $
-          pass1 ! (init ! 16 refl (tt, (tt, (record { fits = room.0 }, tt)))) $ pass1 ! (init ! 14 refl (tt, (tt, (record { fits = room₁.0 }, tt)))) $ pass0 ! $
-          move ! (21 ∷ []) $ fsplit ! $ move ! (1 ∷ []) $ fsplit ! $ move ! (1 ∷ []) $ drop ! $
-          move ! (22 ∷ []) $ split ! $ move ! (1 ∷ []) $ split ! $ move ! (1 ∷ []) $ drop ! $ move ! (3 ∷ 1 ∷ 2 ∷ 0 ∷ []) $
-          sets ! 16 refl (of_opd ! (lit ! tt)) (tt, record { fits = lit< tt }) $
+          qed 𝓛 ((‵ (flft κ q) ⊛ ‵ (flft κ₁ q₁) ⊛ ‵ ftrue) ∷ ‵ (owns (MutSlice (named 0) κ R ∷ ShrSlice (named 1) κ₁ X ∷ []) y.0.3 y.0.4) ∷ []) ∵
+          move ! (1 ∷ []) $ fsplit ! $ move ! (1 ∷ []) $ fsplit ! $ move ! (1 ∷ []) $ drop ! $
+          move ! (2 ∷ []) $ split ! $ move ! (1 ∷ []) $ split ! $ move ! (1 ∷ []) $ drop ! $ move ! (3 ∷ 1 ∷ 2 ∷ 0 ∷ []) $
+          enter ! 𝓣.C 𝓣.Λ (function R X KR.ty KX.ty f) (slice_val (b, o) (length ys) ∷ slice_val (b₁, o₁) (length xs) ∷ []) _ $
+          alloc_all ! (λ l. pass_all ! refl ((tt, (tt, (record { fits = room.0 }, tt))), ((tt, (tt, (record { fits = room₁.0 }, tt))), tt)) $
+          sets ! (of_opd ! (lit ! tt)) refl (tt, record { fits = lit< tt }) $
           rewrite ! 0 (λ (zs : List R.Denot). ‵ ((MutSlice (named 0) κ R).own_val (xs_at R b o γ zs) s)) (no_turn F ys xs) refl $
-          first ! $ blocks ! $ loops ! 𝓣 (left_of_lem (length ys)) (left_wf (length ys)) (Inv l₀ l₁ l₂ l₃ l₄ l₅ l₆ l₇ l₈ l₉) (turns l₀ l₁ l₂ l₃ l₄ l₅ l₆ l₇ l₈ l₉) 0))))))))))
+          first ! $ blocks ! $ loops ! 𝓣 (left_of_lem (length ys)) (left_wf (length ys)) (Inv l) (turns l) 0)
 
   pub fill_meets : Meets 𝓛 (ended R X).signature (WpFn 𝓤 H 𝓣.C 𝓣.Λ (function R X KR.ty KX.ty f)) (closing 𝓛 (ended R X) (clauses R X F 𝓤))
   fill_meets =
       meets_by 𝓛 (ended R X) (stayed R X) (Goes-gave_slice 𝓛 2 0 tt (plain (λ _. R)), (Goes-dropped 𝓛 2 (shr_slice_of (1 ∷ []) tt (plain (λ _. X))) yes (λ κs z f. refl), tt)) (clauses R X F 𝓤) (function R X KR.ty KX.ty f) 𝓣
       (λ κs. (mut_slice_vals, (shr_slice_vals, tt))) (λ κs. (mut_slice_Tells (named 0) κs.0 R, (shr_slice_Tells (named 1) κs.1.0 X, tt)))
-      (λ κs qs bounds a g are. needs 𝓤 _ _ (walk κs.0 κs.1.0 qs.0 qs.1.0 a.0.ref_ptr.0 a.0.ref_ptr.1 a.1.0.ref_ptr.0 a.1.0.ref_ptr.1 a.0.ghost_name a.1.0.ghost_name a.0.now a.1.0.now are.0.0.1 are.1.0.0.1))
+      (λ κs qs bounds a g are. needs 𝓤 _ _ (walk κs.0 κs.1.0 qs.0 qs.1.0 a.0.ref_ptr.0 a.0.ref_ptr.1 a.1.0.ref_ptr.0 a.1.0.ref_ptr.1 a.0.ghost_name a.0.now a.1.0.now are.0.0.1 are.1.0.0.1))

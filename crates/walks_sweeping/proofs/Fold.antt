@@ -1,7 +1,7 @@
 -- ONE WALK FOR EVERY FOLD OVER THE FIRST RECORDS OF A LENT TABLE. A function of this form, whatever the functions `most` and `f` are, the plain
 -- type R of the records, the type B of the elements of the slice that is lent along, and the plain type Y of what is carried:
 --     pub fn f_all(t: &[R], along: &[B], start: Y) -> Y
---         ensures { λ r. ⌜ r ≡ F (now t.entry) (now along.entry) start ⌝ }
+--         ensures { result ≡ F t.now along.now start }
 --     {
 --         let n = most(t.len());
 --         let mut a = start;
@@ -14,28 +14,29 @@
 --         a
 --     }
 -- where `most(k: usize) -> usize` is covered, and `f(a: Y, c: R, along: &[B], j: usize) -> Y` has no `requires` and ensures
--- `r ≡ S a c (now along.entry) j`. The fold of S over the first n records is what F says (`foldFrom S along 0 start (take n t) ≡ F t along start`),
+-- `result ≡ S a c along.now j`. The fold of S over the first n records is what F says (`fold_from S along 0 start (take n t) ≡ F t along start`),
 -- as where nothing that comes behind them counts.
---     fold-meets   its arguments: the kind of R, any value of R, `tt`, B, the kind of Y, S, F; what `most` ensures of its argument and result (a
+--     fold_meets   its arguments: the kind of R, any value of R, `tt`, B and its laws, the kind of Y, S, F; what `most` ensures of its argument and result (a
 --                  relation), that the result is then at most the argument, and that the fold over so many is what F says; the names of most
 --                  and f; then the model, the tables, and that each of the two meets its contract
 -- The invariant: after i turns what is carried is `acc i`, over the first n.
 -- Assumes nothing.
 use types.Logic.{Logic, sem}
-use denote.Slice.{shr_slice_vals}
-use Rattle.walks.proofs.Walk.{◌≡◌, refl, sym, ap, ◌∙◌, List, [], ◌∷◌, ℕ, zero, suc, ◌+◌, ◌*◌, ◌^◌, ◌<◌, ◌≤◌, arith, T, ltb, ltb→lt, nltb→le, lit<, length, get_or, Ura, full_share, named, imm, w64, Ty, ty_ptr, ty_int, ty_bool, ty_ref, Val, vint, SProp, ent, emp, via, fst∗, Lft, GName, Share, Fml, ftrue, fat, froom, fdies, flft, Env, WpFn, Wp, Tables, after_block, after_seq, after_turn, at_return, Item, Sq, runs, any_q, at_ret, ‵, raw, ◌⊛◌, ⋆, ◌$◌, ◌∵◌, !, qed, by, use1, move, keep, drop, split, join, rewrite, fsplit, fjoin, suffices, frame, done, look, look_raw, store, init, forget, stop, hop, from, load, lit, of_opd, bin, and_then, no_more, assigns_last, first, blocks, loops, again, Below, exec, land, returns, enter, alloc1, alloc0, params1, pass1, pass0, free0, fm_of, owns, Is, pointee, uint_Makes, usize, slice_val, slice_ty, ShrSlice, Room, slice-vals, shr_slice_Tells, plain, shr_slice_of, nothing, owned, heard, on_entry, triple_of, Contract, Triple, says, Stays, stay_dropped, walk_of, Goes-dropped, ends_at, yes, Fn, Name, Body, local, value_local, place, field, deref, copy, int, rv_opd, op2, lt, mul, add, offset, unsigned, seq, assign, block, loop, skip, exit, cond, call, return, sep, id⊢, sem, use2, fact, RattleType, mem, now, shr_slice_copy, Clauses, Ended, closing, Meets}
+use Rattle.walks.proofs.Walk.{◌≡◌, refl, sym, ap, ◌∙◌, List, [], ◌∷◌, ℕ, zero, suc, ◌+◌, ◌*◌, ◌^◌, ◌<◌, ◌≤◌, arith, T, ltb, ltb→lt, nltb→le, lit<, length, get_or, Ura, named, imm, w64, Ty, ty_ptr, ty_int, ty_bool, ty_ref, Val, vint, SProp, ent, emp, via, fst∗, Lft, Share, Fml, ftrue, flft, Env, WpFn, Wp, Tables, after_block, after_seq, after_turn, at_return, Item, Sq, runs, any_q, at_ret, ‵, raw, ◌⊛◌, ⋆, ◌$◌, ◌∵◌, !, qed, by, use1, move, keep, drop, split, join, fsplit, fjoin, suffices, frame, done, look_raw, stop, load, lit, of_opd, bin, and_then, no_more, first, blocks, loops, again, Below, exec, returns, enter, fm_of, owns, Is, pointee, uint_Makes, usize, slice_val, slice_ty, ShrSlice, Room, shr_slice_Tells, plain, shr_slice_of, nothing, owned, heard, on_entry, triple_of, Contract, Triple, says, Stays, stay_dropped, walk_of, Goes-dropped, ends_at, yes, Fn, Body, local, value_local, place, field, deref, copy, int, rv_opd, op2, lt, mul, add, offset, unsigned, seq, assign, block, loop, skip, exit, cond, call, return, sep, id⊢, sem, use2, fact, RattleType, mem, shr_slice_copy, Clauses, Ended, closing, Meets, shr_slice_vals, alloc_all, pass_all, free_all, look_at, get, through, sets, lands_as, env, holding, forget_but, sets_last, Callee as Name}
 use mathlib.Core.Path.{subst}
 use lib.ListN.{take}
 use lib.Seq.{length-take-le, get_or-take}
 use native.Mathlib.Nat.{not-suc-le-zero, le_of_suc-le-suc}
 use native.Mathlib.Numerals.{add-one}
 use types.Kit as Kit
+use types.ByLocal.{is as same_as}
+use denote.RattleType.{RowLaws}
 use denote.Laws.{shows}
 use denote.Steps.{facts}
 use Rattle.walks.specs.Fold.{fold_from}
 use Rattle.walks.proofs.Plain.{Kind, of, letters, uint}
 use Rattle.walks.proofs.ByValue.{ByValue, always, Takes, calls_by}
-use Rattle.walks.proofs.Tab.{plainly, xs_at, loc, fld_at, sets, resets, elem_ptr, peeks_at, shuts_at, frees0, frees1, tests, left_of_lem, left_wf, calls_plain, meets_by, in_room}
+use Rattle.walks.proofs.Tab.{plainly, fld_at, elem_ptr, peeks_at, shuts_at, tests, left_of_lem, left_wf, calls_plain, meets_by, in_room, xs_in}
 
 -- ---- the MIR
 module _ (R B : RattleType) (τr τ : Ty) (g f : Name) where
@@ -62,6 +63,8 @@ module _ (R B : RattleType) (τr τ : Ty) (g f : Name) where
   function = record {
     lifetimes = 2;
     outlives = [];
+    ty_params = [];
+    givens = 0;
     params = 3;
     locals = local τ value_local ∷ local slice value_local ∷ local slice₁ value_local ∷ local τ value_local ∷ local (ty_int w64) value_local ∷ local τ value_local ∷ local (ty_int w64) value_local ∷ local τ value_local
         ∷ local (ty_int w64) value_local ∷ local ty_bool value_local ∷ local (ty_int w64) value_local ∷ local ty_ptr value_local ∷ local τr value_local ∷ [];
@@ -86,11 +89,11 @@ module _ (R B Y : RattleType) where
 
   module _ (F : List R.Denot → List B.Denot → Y.Denot → Y.Denot) {M : Type 1} (𝓤 : Ura M) where
     abbrev pub clauses : Clauses 𝓤 ended
-    clauses κs a = record { ghost = Unit {0}; requires = λ _. emp 𝓤; ensures = λ _ r e. fact 𝓤 (r ≡ F (now a.0) (now a.1.0) a.1.1.0) }
+    clauses κs a = record { ghost = Unit {0}; requires = λ _. emp 𝓤; ensures = λ _ r e. fact 𝓤 (r ≡ F a.0.now a.1.0.now a.1.1.0) }
 
   module _ (S : Y.Denot → R.Denot → List B.Denot → ℕ → Y.Denot) {M : Type 1} (𝓤 : Ura M) where
     abbrev pub called : Clauses 𝓤 callee
-    called κs a = record { ghost = Unit {0}; requires = λ _. emp 𝓤; ensures = λ _ r _. fact 𝓤 (r ≡ S a.0 a.1.0 (now a.1.1.0) a.1.1.1.0) }
+    called κs a = record { ghost = Unit {0}; requires = λ _. emp 𝓤; ensures = λ _ r _. fact 𝓤 (r ≡ S a.0 a.1.0 a.1.1.0.now a.1.1.1.0) }
 
     abbrev pub Callee : (𝓛 : Logic 𝓤) → Contract 𝓤
     Callee 𝓛 = triple_of 𝓛 callee.signature (closing 𝓛 callee called)
@@ -120,7 +123,7 @@ module _ {Y X B : Type 0} (S : Y → X → List B → ℕ → Y) (es : List B) w
   all_acc (suc i) j v (x ∷ xs) l = all_acc i (suc j) (S v x es j) xs (le_of_suc-le-suc l)
 
 -- ---- the walk
-module _ (KR : Kind) (d : KR.row.Denot) (fits : T (ltb (mem (of KR)).size (2 ^ 64))) (B : RattleType) (KY : Kind) (S : KY.row.Denot → KR.row.Denot → List B.Denot → ℕ → KY.row.Denot)
+module _ (KR : Kind) (d : KR.row.Denot) (fits : T (ltb (mem (of KR)).size (2 ^ 64))) (B : RattleType) (LB : RowLaws B) (KY : Kind) (S : KY.row.Denot → KR.row.Denot → List B.Denot → ℕ → KY.row.Denot)
     (F : List KR.row.Denot → List B.Denot → KY.row.Denot → KY.row.Denot) (Bounds : ℕ → ℕ → Type 0) (within : (n k : ℕ) → Bounds n k → k ≤ n)
     (agree : (ys : List KR.row.Denot) (es : List B.Denot) (a : KY.row.Denot) (k : ℕ) → Bounds (length ys) k → fold_from S es 0 a (take k ys) ≡ F ys es a) (g f : Name)
     {M : Type 1} {𝓤 : Ura M} (𝓛 : Logic 𝓤) (𝓣 : Tables 𝓤 𝓛.H) (k-most : Triple 𝓤 (𝓣.C g) (Takes (bounding Bounds) 𝓤 𝓛)) (known : Triple 𝓤 (𝓣.C f) (Callee (of KR) B (of KY) S 𝓤 𝓛)) where
@@ -128,7 +131,7 @@ module _ (KR : Kind) (d : KR.row.Denot) (fits : T (ltb (mem (of KR)).size (2 ^ 6
   open letters KR use {type as R, elem as ER}
   open letters KY use {type as Y, elem as EY}
 
-  module _ (κ κ₁ : Lft) (q q₁ : Share) (b o b₁ o₁ : ℕ) (γ γ₁ : GName) (ys : List R.Denot) (es : List B.Denot) (a : Y.Denot) (room : Room R (length ys)) (room₁ : Room B (length es)) (a-is : Is Y a (EY.val a ∷ [])) where
+  module _ (κ κ₁ : Lft) (q q₁ : Share) (b o b₁ o₁ : ℕ) (ys : List R.Denot) (es : List B.Denot) (a : Y.Denot) (room : Room R (length ys)) (room₁ : Room B (length es)) (a-is : Is Y a (EY.val a ∷ [])) where
     abbrev s : List Val
     s = slice_val (b, o) (length ys) ∷ []
 
@@ -136,16 +139,16 @@ module _ (KR : Kind) (d : KR.row.Denot) (fits : T (ltb (mem (of KR)).size (2 ^ 6
     s₁ = slice_val (b₁, o₁) (length es) ∷ []
 
     abbrev y : (walk_of 𝓛 (ended R B Y) (stayed R B Y) (clauses R B Y F 𝓤)).Ghost
-    y = (((κ, (κ₁, tt)), (q, (q₁, tt)), tt, (xs_at R b o γ ys, (xs_at B b₁ o₁ γ₁ es, (a, tt))), (s, (s₁, (EY.val a ∷ [], tt)))), tt)
+    y = (((κ, (κ₁, tt)), (q, (q₁, tt)), tt, (xs_in R b o ys, (xs_in B b₁ o₁ es, (a, tt))), (s, (s₁, (EY.val a ∷ [], tt)))), tt)
 
     abbrev Post : Val → SProp 𝓤
     Post = (walk_of 𝓛 (ended R B Y) (stayed R B Y) (clauses R B Y F 𝓤)).post y
 
     abbrev Own : Fml
-    Own = (ShrSlice (named 0) κ R).own_val (xs_at R b o γ ys) s
+    Own = (ShrSlice (named 0) κ R).own_val (xs_in R b o ys) s
 
     abbrev Own₁ : Fml
-    Own₁ = (ShrSlice (named 1) κ₁ B).own_val (xs_at B b₁ o₁ γ₁ es) s₁
+    Own₁ = (ShrSlice (named 1) κ₁ B).own_val (xs_in B b₁ o₁ es) s₁
 
     exits : (r : Y.Denot) → r ≡ F ys es a → Is Y r (EY.val r ∷ []) → ent 𝓤 (⋆ 𝓛 (‵ (flft κ q) ∷ ‵ (flft κ₁ q₁) ∷ [])) (Post (EY.val r))
     exits r e is =
@@ -155,7 +158,7 @@ module _ (KR : Kind) (d : KR.row.Denot) (fits : T (ltb (mem (of KR)).size (2 ^ 6
 
     -- what f is passed
     abbrev to : Y.Denot → R.Denot → ℕ → (Callee R B Y S 𝓤 𝓛).Ghost
-    to v c j = (((κ₁, tt), (q₁, tt), tt, (v, (c, (xs_at B b₁ o₁ γ₁ es, (j, tt)))), (EY.val v ∷ [], (ER.val c ∷ [], (s₁, (vint w64 j ∷ [], tt))))), tt)
+    to v c j = (((κ₁, tt), (q₁, tt), tt, (v, (c, (xs_in B b₁ o₁ es, (j, tt)))), (EY.val v ∷ [], (ER.val c ∷ [], (s₁, (vint w64 j ∷ [], tt))))), tt)
 
     asks : (v : Y.Denot) (c : R.Denot) (j : ℕ) → Is Y v (EY.val v ∷ []) → Is R c (ER.val c ∷ []) → j < 2 ^ 64 → ent 𝓤 (sep 𝓤 (sem 𝓛 Own₁) (A.lft κ₁ q₁)) ((Callee R B Y S 𝓤 𝓛).pre (to v c j))
     asks v c j iv ic j-fits = qed 𝓛 (‵ Own₁ ∷ ‵ (flft κ₁ q₁) ∷ []) ∵
@@ -163,22 +166,18 @@ module _ (KR : Kind) (d : KR.row.Denot) (fits : T (ltb (mem (of KR)).size (2 ^ 6
         nothing ! $ move ! (2 ∷ 0 ∷ []) $ join ! $ join ! $ frame ! $ done !
 
     -- n is k
-    module _ (k : ℕ) (bounds : Bounds (length ys) k) (l₀ l₁ l₂ l₃ l₄ l₅ l₆ l₇ l₈ l₉ l₁₀ l₁₁ l₁₂ : ℕ) where
+    module _ (k : ℕ) (bounds : Bounds (length ys) k) (l : ℕ → ℕ) where
       abbrev E : Env 𝓤 H
-      E = (KY.ty, l₀) ∷ (slice R B KR.ty KY.ty g f, l₁) ∷ (slice₁ R B KR.ty KY.ty g f, l₂) ∷ (KY.ty, l₃) ∷ (ty_int w64, l₄) ∷ (KY.ty, l₅) ∷ (ty_int w64, l₆) ∷ (KY.ty, l₇) ∷ (ty_int w64, l₈) ∷ (ty_bool, l₉) ∷ (ty_int w64, l₁₀) ∷ (ty_ptr, l₁₁) ∷ (KR.ty, l₁₂) ∷ []
+      E = env (function R B KR.ty KY.ty g f).locals l
 
       -- what is carried after i turns
       abbrev so_far : ℕ → Y.Denot
       so_far i = acc S es i 0 a (take k ys)
 
-      -- the invariant: the two slices with their tokens, and that what is carried is of its type; then the locals, the last first
+      -- the invariant: the two slices with their tokens, and that what is carried is of its type; then the locals
       abbrev Inv : ℕ → List (Item 𝓤)
-      Inv i = ‵ Own ∷ ‵ (flft κ q) ∷ ‵ Own₁ ∷ ‵ (flft κ₁ q₁) ∷ ‵ (Y.own (so_far i) (EY.val (so_far i) ∷ []))
-          ∷ ‵ (froom KR.ty l₁₂ 0) ∷ ‵ (fdies KR.ty l₁₂) ∷ ‵ (froom ty_ptr l₁₁ 0) ∷ ‵ (fdies ty_ptr l₁₁) ∷ ‵ (froom (ty_int w64) l₁₀ 0) ∷ ‵ (fdies (ty_int w64) l₁₀) ∷ ‵ (froom ty_bool l₉ 0) ∷ ‵ (fdies ty_bool l₉)
-          ∷ ‵ (fat full_share (ty_int w64) l₈ 0 (vint w64 (length ys))) ∷ ‵ (fdies (ty_int w64) l₈) ∷ ‵ (froom KY.ty l₇ 0) ∷ ‵ (fdies KY.ty l₇) ∷ ‵ (fat full_share (ty_int w64) l₆ 0 (vint w64 i)) ∷ ‵ (fdies (ty_int w64) l₆)
-          ∷ ‵ (fat full_share KY.ty l₅ 0 (EY.val (so_far i))) ∷ ‵ (fdies KY.ty l₅) ∷ ‵ (fat full_share (ty_int w64) l₄ 0 (vint w64 k)) ∷ ‵ (fdies (ty_int w64) l₄) ∷ ‵ (fat full_share KY.ty l₃ 0 (EY.val a)) ∷ ‵ (fdies KY.ty l₃)
-          ∷ ‵ (fat full_share (slice₁ R B KR.ty KY.ty g f) l₂ 0 (slice_val (b₁, o₁) (length es))) ∷ ‵ (fdies (slice₁ R B KR.ty KY.ty g f) l₂) ∷ ‵ (fat full_share (slice R B KR.ty KY.ty g f) l₁ 0 (slice_val (b, o) (length ys))) ∷ ‵ (fdies (slice R B KR.ty KY.ty g f) l₁)
-          ∷ ‵ (froom KY.ty l₀ 0) ∷ ‵ (fdies KY.ty l₀) ∷ []
+      Inv i = ‵ Own ∷ ‵ (flft κ q) ∷ ‵ Own₁ ∷ ‵ (flft κ₁ q₁) ∷ ‵ (Y.own_val (so_far i) (EY.val (so_far i) ∷ []))
+          ∷ holding 𝓛 E ((1, slice_val (b, o) (length ys)) ∷ (2, slice_val (b₁, o₁) (length es)) ∷ (3, EY.val a) ∷ (4, vint w64 k) ∷ (5, EY.val (so_far i)) ∷ (6, vint w64 i) ∷ (8, vint w64 (length ys)) ∷ [])
 
       -- where the loop is left, the rest of the body runs
       abbrev Left : Kit.Post 𝓤 H
@@ -192,35 +191,35 @@ module _ (KR : Kind) (d : KR.row.Denot) (fits : T (ltb (mem (of KR)).size (2 ^ 6
           let few : k ≤ length ys = within (length ys) k bounds in
           let all : length (take k ys) ≡ k = length-take-le k ys few in
           move ! (4 ∷ []) $ facts ! Y (Is Y) (shows 𝓛 Y) v _ (λ iv.
-          -- [what t owns; its token; what the other owns; its token; _12 at 4; _11; _10; _9; _8; _7; _6; _5; _4; _3; _2; _1; _0 at 28]
-          sets ! 10 refl (bin ! (loc ! 16 refl) (loc ! 20 refl) tt) (tt, tt) $
-          tests ! (loc ! 10 refl)
+          -- [what t owns; its token; what the other owns; its token; the locals]
+          sets ! (bin ! (get ! refl) (get ! refl) tt) refl (tt, tt) $
+          tests ! (get ! refl)
           (λ h.
           let under : i < k = ltb→lt i k h in
           let l : i < length ys = omega (arith, under, few) in
           let small : i * (mem R).size < 2 ^ 64 = in_room R i (length ys) l room in
           let next : i + 1 < 2 ^ 64 = omega (arith, l, room.0) in
-          sets ! 8 refl (bin ! (loc ! 16 refl) (lit ! fits) (record { fits = small })) (tt, record { fits = small }) $
-          sets ! 6 refl (elem_ptr ! (mem R).size o i (fld_at ! 26 0 refl refl refl) (loc ! 8 refl)) (tt, tt) $
+          sets ! (bin ! (get ! refl) (lit ! fits) (record { fits = small })) refl (tt, record { fits = small }) $
+          sets ! (elem_ptr ! (mem R).size o i (fld_at ! 0 refl refl refl) (get ! refl)) refl (tt, tt) $
           peeks_at ! tt ER b o ys i d l (λ q' p is.
-          sets ! 4 refl (of_opd ! (load ! (from ! (hop ! (look ! 6 refl) (stop !))) (look_raw ! 0 refl))) (ER.typed 𝓛 c is).0 $
+          sets ! (of_opd ! (load ! (through ! refl (stop !)) (look_raw ! 0 refl))) refl (ER.typed 𝓛 c is).0 $
           shuts_at ! tt ER b o ys s q' i d l p $
-          move ! (2 ∷ []) $ use1 𝓛 (‵ Own₁ ⊛ ‵ Own₁) ((shr_slice_copy 𝓛 (named 1) κ₁ B).twice (xs_at B b₁ o₁ γ₁ es) s₁) $ split ! $ move ! (0 ∷ 4 ∷ []) $
+          move ! (2 ∷ []) $ use1 𝓛 (‵ Own₁ ⊛ ‵ Own₁) ((shr_slice_copy 𝓛 (named 1) κ₁ B LB).twice (xs_in B b₁ o₁ es) s₁) $ split ! $ move ! (0 ∷ 4 ∷ []) $
           use2 𝓛 (raw ((Callee R B Y S 𝓤 𝓛).pre (to v c i))) (asks v c i iv is (omega (arith, l, room.0))) $
-          calls_plain ! (fm_of 𝓤 H 𝓛.laws 𝓣) (callee R B Y) (called R B Y S 𝓤) known (to v c i) EY (and_then ! (loc ! 18 refl) (and_then ! (loc ! 4 refl) (and_then ! (loc ! 24 refl) (and_then ! (loc ! 16 refl) (no_more !))))) (λ r ws ir.
+          calls_plain ! (fm_of 𝓤 H 𝓛.laws 𝓣) (callee R B Y) (called R B Y S 𝓤) known (to v c i) EY (and_then ! (get ! refl) (and_then ! (get ! refl) (and_then ! (get ! refl) (and_then ! (get ! refl) (no_more !))))) (λ r ws ir.
           move ! (2 ∷ []) $ heard ! (r ≡ S v c es i) (λ e.
           use1 𝓛 (‵ (flft κ₁ q₁) ⊛ ‵ ftrue) (id⊢ 𝓤 _) $ split ! $ move ! (4 ∷ 5 ∷ 3 ∷ 0 ∷ []) $ move ! (4 ∷ []) $ drop ! $ move ! (4 ∷ []) $ drop ! $
           let to_acc : r ≡ so_far (i + 1) = e ∙ ap (λ (x : R.Denot). S v x es i) (sym (get_or-take k ys i d under)) ∙ next_acc S es d i 0 i a (take k ys) (omega (arith, under, all)) (omega arith) ∙ ap so_far (sym (add-one i)) in
-          land ! (from ! (stop !)) (init ! 14 refl (EY.typed 𝓛 r ir).0) $
-          resets ! 18 refl (of_opd ! (loc ! 14 refl)) (EY.typed 𝓛 r ir).0 $
-          assigns_last ! (bin ! (loc ! 16 refl) (lit ! tt) (record { fits = next })) (from ! (stop !)) (store ! 16 refl (tt, record { fits = next })) $
-          rewrite ! 18 (λ (z : Y.Denot). ‵ (fat full_share KY.ty l₅ 0 (EY.val z))) to_acc refl $
-          owned ! Y (Is Y) (EY.makes 𝓛) (so_far (i + 1)) _ (subst (λ (z : Y.Denot). Is Y z (EY.val z ∷ [])) to_acc ir) $ move ! (1 ∷ 2 ∷ 3 ∷ 4 ∷ 0 ∷ []) $
-          forget ! 5 refl $ forget ! 7 refl $ forget ! 9 refl $ forget ! 11 refl $ forget ! 15 refl $ again ! (left_of_lem k) Inv i (i + 1) (omega (arith, under))))))
+          let is₁ : Is Y (so_far (i + 1)) (EY.val (so_far (i + 1)) ∷ []) = subst (λ (z : Y.Denot). Is Y z (EY.val z ∷ [])) to_acc ir in
+          lands_as ! refl refl (EY.typed 𝓛 r ir).0 $
+          sets ! (same_as ! (of_opd ! (get ! refl)) (ap (λ (z : Y.Denot). EY.val z) to_acc)) refl (EY.typed 𝓛 (so_far (i + 1)) is₁).0 $
+          sets_last ! (bin ! (get ! refl) (lit ! tt) (record { fits = next })) refl (tt, record { fits = next }) $
+          owned ! Y (Is Y) (EY.makes 𝓛) (so_far (i + 1)) _ is₁ $ move ! (1 ∷ 2 ∷ 3 ∷ 4 ∷ 0 ∷ []) $
+          forget_but ! E (1 ∷ 2 ∷ 3 ∷ 4 ∷ 5 ∷ 6 ∷ 8 ∷ []) refl $ again ! (left_of_lem k) Inv i (i + 1) (omega (arith, under))))))
           (λ h.
           exec ! 𝓣.C 𝓣.Λ E (rest R B KR.ty KY.ty g f) (at_ret E Post) $
-          sets ! 28 refl (of_opd ! (loc ! 18 refl)) (EY.typed 𝓛 v iv).0 $
-          returns ! (look ! 28 refl) $ frees1 ! 28 refl refl $ frees1 ! 26 refl refl $ frees1 ! 24 refl refl $ frees1 ! 22 refl refl $ frees1 ! 20 refl refl $ frees1 ! 18 refl refl $ frees1 ! 16 refl refl $ frees0 ! 14 refl refl $ frees1 ! 12 refl refl $ frees1 ! 10 refl refl $ frees0 ! 8 refl refl $ frees0 ! 6 refl refl $ frees0 ! 4 refl refl $ free0 ! $
+          sets ! (of_opd ! (get ! refl)) refl (EY.typed 𝓛 v iv).0 $
+          returns ! (look_at ! 0 refl) $ free_all ! refl $
           let over : k ≤ i = nltb→le i k h in
           keep ! (1 ∷ 3 ∷ []) $ by ! (exits v (all_acc S es i 0 a (take k ys) (omega (arith, over, all)) ∙ agree ys es a k bounds) iv)))
 
@@ -228,22 +227,21 @@ module _ (KR : Kind) (d : KR.row.Denot) (fits : T (ltb (mem (of KR)).size (2 ^ 6
     unfolding acc
     walk =
         qed 𝓛 ((‵ (flft κ q) ⊛ ‵ (flft κ₁ q₁) ⊛ ‵ ftrue) ∷ ‵ (owns (ShrSlice (named 0) κ R ∷ ShrSlice (named 1) κ₁ B ∷ Y ∷ []) y.0.3 y.0.4) ∷ []) ∵
+        move ! (1 ∷ []) $ fsplit ! $ move ! (1 ∷ []) $ fsplit ! $ move ! (1 ∷ []) $ drop ! $
+        -- [what the other owns; what t owns; the tokens]
+        move ! (2 ∷ []) $ split ! $ move ! (1 ∷ []) $ split ! $ move ! (1 ∷ []) $ drop ! $ move ! (3 ∷ 1 ∷ 2 ∷ 0 ∷ []) $
         enter ! 𝓣.C 𝓣.Λ (function R B KR.ty KY.ty g f) (slice_val (b, o) (length ys) ∷ slice_val (b₁, o₁) (length es) ∷ EY.val a ∷ []) _ $
-        alloc1 ! (λ l₀. alloc1 ! (λ l₁. alloc1 ! (λ l₂. alloc1 ! (λ l₃. alloc1 ! (λ l₄. alloc1 ! (λ l₅. alloc1 ! (λ l₆. alloc1 ! (λ l₇. alloc1 ! (λ l₈. alloc1 ! (λ l₉. alloc1 ! (λ l₁₀. alloc1 ! (λ l₁₁. alloc1 ! (λ l₁₂. alloc0 ! $ params1 ! $
-        pass1 ! (init ! 22 refl (tt, (tt, (record { fits = room.0 }, tt)))) $ pass1 ! (init ! 20 refl (tt, (tt, (record { fits = room₁.0 }, tt)))) $ pass1 ! (init ! 18 refl (EY.typed 𝓛 a a-is).0) $ pass0 ! $
-        move ! (27 ∷ []) $ fsplit ! $ move ! (1 ∷ []) $ fsplit ! $ move ! (1 ∷ []) $ drop ! $
-        -- [what the other owns; what t owns; _12 ..; the tokens]
-        move ! (28 ∷ []) $ split ! $ move ! (1 ∷ []) $ split ! $ move ! (1 ∷ []) $ drop ! $ move ! (3 ∷ 1 ∷ 2 ∷ 0 ∷ []) $
-        sets ! 12 refl (of_opd ! (fld_at ! 26 1 refl refl refl)) (tt, record { fits = room.0 }) $
-        calls_by ! (fm_of 𝓤 H 𝓛.laws 𝓣) (bounding Bounds) k-most (length ys, tt) ((refl, room.0), tt) tt (λ x. and_then ! (loc ! 13 refl) (no_more !)) (λ k ik bounds. land ! (from ! (stop !)) (init ! 20 refl (tt, record { fits = ik.1 })) $
-        sets ! 18 refl (of_opd ! (loc ! 22 refl)) (EY.typed 𝓛 a a-is).0 $
-        sets ! 16 refl (of_opd ! (lit ! tt)) (tt, record { fits = lit< tt }) $
+        alloc_all ! (λ l. pass_all ! refl ((tt, (tt, (record { fits = room.0 }, tt))), ((tt, (tt, (record { fits = room₁.0 }, tt))), ((EY.typed 𝓛 a a-is).0, tt))) $
+        sets ! (of_opd ! (fld_at ! 1 refl refl refl)) refl (tt, record { fits = room.0 }) $
+        calls_by ! (fm_of 𝓤 H 𝓛.laws 𝓣) (bounding Bounds) k-most (length ys, tt) ((refl, room.0), tt) tt (λ x. and_then ! (get ! refl) (no_more !)) (λ k ik bounds. lands_as ! refl refl (tt, record { fits = ik.1 }) $
+        sets ! (of_opd ! (get ! refl)) refl (EY.typed 𝓛 a a-is).0 $
+        sets ! (of_opd ! (lit ! tt)) refl (tt, record { fits = lit< tt }) $
         owned ! Y (Is Y) (EY.makes 𝓛) a _ a-is $ move ! (1 ∷ 2 ∷ 3 ∷ 4 ∷ 0 ∷ []) $
-        first ! $ blocks ! $ loops ! 𝓣 (left_of_lem k) (left_wf k) (Inv k bounds l₀ l₁ l₂ l₃ l₄ l₅ l₆ l₇ l₈ l₉ l₁₀ l₁₁ l₁₂) (turns k bounds l₀ l₁ l₂ l₃ l₄ l₅ l₆ l₇ l₈ l₉ l₁₀ l₁₁ l₁₂) 0))))))))))))))
+        first ! $ blocks ! $ loops ! 𝓣 (left_of_lem k) (left_wf k) (Inv k bounds l) (turns k bounds l) 0))
 
   pub fold_meets : Meets 𝓛 (ended R B Y).signature (WpFn 𝓤 H 𝓣.C 𝓣.Λ (function R B KR.ty KY.ty g f)) (closing 𝓛 (ended R B Y) (clauses R B Y F 𝓤))
   fold_meets =
       meets_by 𝓛 (ended R B Y) (stayed R B Y) (Goes-dropped 𝓛 2 (shr_slice_of (0 ∷ []) tt (plain (λ _. R))) yes (λ κs z f. refl), (Goes-dropped 𝓛 2 (shr_slice_of (1 ∷ []) tt (plain (λ _. B))) yes (λ κs z f. refl), (Goes-dropped 𝓛 2 (plain (λ _. Y)) yes (λ κs z f. refl), tt)))
       (clauses R B Y F 𝓤) (function R B KR.ty KY.ty g f) 𝓣
       (λ κs. (shr_slice_vals, (shr_slice_vals, ((λ z. EY.val z ∷ []), tt)))) (λ κs. (shr_slice_Tells (named 0) κs.0 R, (shr_slice_Tells (named 1) κs.1.0 B, (EY.tells, tt))))
-      (λ κs qs bounds x g are. via 𝓤 _ (fst∗ 𝓤 _ (emp 𝓤)) (walk κs.0 κs.1.0 qs.0 qs.1.0 x.0.ref_ptr.0 x.0.ref_ptr.1 x.1.0.ref_ptr.0 x.1.0.ref_ptr.1 0 0 x.0.now x.1.0.now x.1.1.0 are.0.0.1 are.1.0.0.1 are.1.1.0))
+      (λ κs qs bounds x g are. via 𝓤 _ (fst∗ 𝓤 _ (emp 𝓤)) (walk κs.0 κs.1.0 qs.0 qs.1.0 x.0.ref_ptr.0 x.0.ref_ptr.1 x.1.0.ref_ptr.0 x.1.0.ref_ptr.1 x.0.now x.1.0.now x.1.1.0 are.0.0.1 are.1.0.0.1 are.1.1.0))

@@ -1,8 +1,8 @@
 -- ONE WALK FOR EVERY SWEEP OF A TABLE. A function of this form, whatever the function `f` is, the plain type C of the records, the plain type Y
 -- of what is carried, and the struct S that f makes of the two:
 --     pub fn f_all(t: &mut [C], start: Y) -> Y
---         requires { ⌜ Every blank Asks (now t) ⌝ }
---         ensures { λ r. ⌜ (r ≡ sweepA stored carried F (now t.entry) start) × (now t.exit ≡ sweepT stored carried F (now t.entry) start) ⌝ }
+--         requires { Every blank Asks t.old }
+--         ensures { (result ≡ sweep_a stored carried F t.old start) × (t.new ≡ sweep_t stored carried F t.old start) }
 --     {
 --         let mut a = start;
 --         let mut i = 0;
@@ -14,23 +14,23 @@
 --         }
 --         a
 --     }
--- where `f(c: C, a: Y) -> S` requires `Asks c` and ensures `r ≡ F c a`; or neither has a `requires`.
---     sweep-meets  its arguments: the kinds of C, Y and S, the two fields of S, any value of C, `tt`; `true Asks (λ z c. absurd z)`, or `false (λ
+-- where `f(c: C, a: Y) -> S` requires `Asks c` and ensures `result ≡ F c a`; or neither has a `requires`.
+--     sweep_meets  its arguments: the kinds of C, Y and S, the two fields of S, any value of C, `tt`; `true Asks (λ z c. absurd z)`, or `false (λ
 --                  c. Unit {0}) (λ z c. tt)` where there is no `requires`; F, and f's name; then the model, the tables, and that f meets its
 --                  contract
 -- The invariant: after i turns the table is `tab i`, and what is carried is `acc i`.
 -- Assumes nothing.
 use types.Logic.{Logic}
-use denote.Slice.{mut_slice_vals}
-use Rattle.walks.proofs.Walk.{◌≡◌, refl, sym, ap, ◌∙◌, Bool, not, List, [], ◌∷◌, ℕ, zero, suc, ◌+◌, ◌*◌, ◌^◌, ◌<◌, ◌≤◌, arith, T, ltb, ltb→lt, nltb→le, lit<, length, get_or, set, Ura, full_share, named, mut, w64, Ty, ty_ptr, ty_int, ty_bool, ty_ref, Val, vint, SProp, ent, Lft, GName, Share, ftrue, fat, froom, fdies, flft, Env, WpFn, Wp, Tables, after_block, after_seq, after_turn, at_return, Item, Sq, runs, any_q, at_ret, ‵, ◌⊛◌, ⋆, ◌$◌, ◌∵◌, !, qed, by, move, drop, split, join, rewrite, fsplit, fjoin, suffices, frame, done, look, look_raw, store, store_raw, init, forget, stop, hop, from, load, lit, of_opd, bin, and_then, no_more, assigns, assigns_last, first, blocks, loops, again, Below, exec, land, returns, enter, alloc1, alloc0, params1, pass1, pass0, free0, fm_of, owns, Is, pointee, slice_val, slice_ty, MutSlice, Room, slice-vals, mut_slice_Tells, finally, plain, nothing, owned, on_entry, Triple, says, Stays, stay_dropped, gave_slice, walk_of, Goes-dropped, Goes-gave_slice, ends_at, yes, Fn, Name, Body, local, value_local, place, field, deref, copy, int, rv_opd, op2, lt, mul, add, offset, unsigned, seq, assign, block, loop, skip, exit, cond, call, return, fact, mem, now, mut_slice_of, Clauses, Ended, closing, Meets}
+use Rattle.walks.proofs.Walk.{◌≡◌, refl, sym, ap, ◌∙◌, Bool, not, List, [], ◌∷◌, ℕ, zero, suc, ◌+◌, ◌*◌, ◌^◌, ◌<◌, ◌≤◌, arith, T, ltb, ltb→lt, nltb→le, lit<, length, get_or, set, Ura, named, mut, w64, Ty, ty_ptr, ty_int, ty_bool, ty_ref, Val, vint, SProp, ent, Lft, GName, Share, ftrue, flft, Env, WpFn, Wp, Tables, after_block, after_seq, after_turn, at_return, Item, Sq, runs, any_q, at_ret, ‵, ◌⊛◌, ⋆, ◌$◌, ◌∵◌, !, qed, by, move, drop, split, join, rewrite, fsplit, fjoin, suffices, frame, done, look_raw, store_raw, stop, load, lit, of_opd, bin, and_then, no_more, assigns, first, blocks, loops, again, Below, exec, returns, enter, fm_of, owns, Is, pointee, slice_val, slice_ty, MutSlice, Room, mut_slice_Tells, plain, nothing, owned, on_entry, Triple, says, Stays, stay_dropped, gave_slice, walk_of, Goes-dropped, Goes-gave_slice, ends_at, yes, Fn, Body, local, value_local, place, field, deref, copy, int, rv_opd, op2, lt, mul, add, offset, unsigned, seq, assign, block, loop, skip, exit, cond, call, return, fact, mem, mut_slice_of, Clauses, Ended, closing, Meets, mut_slice_vals, alloc_all, pass_all, free_all, look_at, get, through, sets, lands_as, env, holding, forget_but, sets_last, Callee}
 use mathlib.Core.Path.{subst}
 use native.Mathlib.Nat.{not-suc-le-zero, le_of_suc-le-suc}
 use native.Mathlib.Numerals.{add-one}
 use types.Kit as Kit
+use types.ByLocal.{is as same_as}
 use denote.Laws.{shows}
 use denote.Steps.{facts}
 use Rattle.walks.specs.Sweep.{sweep_t, sweep_a, Every}
-use Rattle.walks.proofs.Tab.{xs_at, loc, fld_at, sets, resets, elem_ptr, opens_at, backs_at, closes_at, gives_up, frees0, frees1, tests, left_of_lem, left_wf, meets_by, in_room}
+use Rattle.walks.proofs.Tab.{xs_at, fld_at, elem_ptr, opens_at, backs_at, closes_at, gives_up, tests, left_of_lem, left_wf, meets_by, in_room, gave_at}
 use Rattle.walks.proofs.Plain.{Kind, of, Has, has_at, letters}
 use Rattle.walks.proofs.Served.{need, heeded}
 use Rattle.walks.proofs.ByValue.{ByValue, Takes, calls_by}
@@ -45,7 +45,7 @@ module _ (KC KY KS : Kind) (St : Has KS KC) (Ca : Has KS KY) (blank : KC.row.Den
   slice = slice_ty (ty_ref (named 0) mut (pointee C.written))
 
   -- ---- the MIR, for a callee f
-  module _ (f : Name) where
+  module _ (f : Callee) where
     abbrev turn : Body
     turn = seq (assign (place 6 []) (rv_opd (copy (place 1 (field 1 ∷ [])))))
         (seq (assign (place 7 []) (op2 (lt unsigned) (copy (place 4 [])) (copy (place 6 []))))
@@ -54,11 +54,12 @@ module _ (KC KY KS : Kind) (St : Has KS KC) (Ca : Has KS KY) (blank : KC.row.Den
         (seq (assign (place 8 []) (op2 offset (copy (place 1 (field 0 ∷ []))) (copy (place 6 []))))
         (seq (assign (place 9 []) (rv_opd (copy (place 8 (deref KC.ty ∷ [])))))
         (seq (call f (copy (place 9 []) ∷ copy (place 3 []) ∷ []) (place 5 []))
+        (seq (assign (place 10 []) (rv_opd (copy (place 5 (field St.index ∷ [])))))
         (seq (assign (place 6 []) (op2 (mul unsigned) (copy (place 4 [])) (int w64 (mem C).size)))
-        (seq (assign (place 10 []) (op2 offset (copy (place 1 (field 0 ∷ []))) (copy (place 6 []))))
-        (seq (assign (place 10 (deref KC.ty ∷ [])) (rv_opd (copy (place 5 (field St.index ∷ [])))))
+        (seq (assign (place 11 []) (op2 offset (copy (place 1 (field 0 ∷ []))) (copy (place 6 []))))
+        (seq (assign (place 11 (deref KC.ty ∷ [])) (rv_opd (copy (place 10 []))))
         (seq (assign (place 3 []) (rv_opd (copy (place 5 (field Ca.index ∷ [])))))
-        (assign (place 4 []) (op2 (add unsigned) (copy (place 4 [])) (int w64 1)))))))))))))
+        (assign (place 4 []) (op2 (add unsigned) (copy (place 4 [])) (int w64 1))))))))))))))
 
     abbrev rest : Body
     rest = seq (assign (place 0 []) (rv_opd (copy (place 3 [])))) return
@@ -67,9 +68,11 @@ module _ (KC KY KS : Kind) (St : Has KS KC) (Ca : Has KS KY) (blank : KC.row.Den
     function = record {
       lifetimes = 1;
       outlives = [];
+      ty_params = [];
+      givens = 0;
       params = 2;
       locals = local KY.ty value_local ∷ local slice value_local ∷ local KY.ty value_local ∷ local KY.ty value_local ∷ local (ty_int w64) value_local ∷ local KS.ty value_local
-          ∷ local (ty_int w64) value_local ∷ local ty_bool value_local ∷ local ty_ptr value_local ∷ local KC.ty value_local ∷ local ty_ptr value_local ∷ [];
+          ∷ local (ty_int w64) value_local ∷ local ty_bool value_local ∷ local ty_ptr value_local ∷ local KC.ty value_local ∷ local KC.ty value_local ∷ local ty_ptr value_local ∷ [];
       body = seq (assign (place 3 []) (rv_opd (copy (place 2 [])))) (seq (assign (place 4 []) (rv_opd (int w64 0))) (seq (block (loop turn)) rest));
     }
 
@@ -87,7 +90,7 @@ module _ (KC KY KS : Kind) (St : Has KS KC) (Ca : Has KS KY) (blank : KC.row.Den
 
     module _ {M : Type 1} (𝓤 : Ura M) where
       abbrev pub clauses : Clauses 𝓤 ended
-      clauses κs a = record { ghost = Unit {0}; requires = λ _. need 𝓤 asked (Every blank Asks (now a.0)); ensures = λ _ r e. fact 𝓤 ((r ≡ sweep_a St.part Ca.part F (now a.0) a.1.0) × (now e.0 ≡ sweep_t St.part Ca.part F (now a.0) a.1.0)) }
+      clauses κs a = record { ghost = Unit {0}; requires = λ _. need 𝓤 asked (Every blank Asks a.0.now); ensures = λ _ r e. fact 𝓤 ((r ≡ sweep_a St.part Ca.part F a.0.now a.1.0) × (e.0.now ≡ sweep_t St.part Ca.part F a.0.now a.1.0)) }
 
     -- ---- the table and what is carried, after i turns
     tab : ℕ → List C.Denot → Y.Denot → List C.Denot
@@ -140,7 +143,7 @@ module _ (KC KY KS : Kind) (St : Has KS KC) (Ca : Has KS KY) (blank : KC.row.Den
     all_acc (suc i) (c ∷ cs) a l = all_acc i cs (Ca.part (F c a)) (le_of_suc-le-suc l)
 
   -- ---- the walk
-  module _ (F : C.Denot → Y.Denot → S.Denot) (f : Name) {M : Type 1} {𝓤 : Ura M} (𝓛 : Logic 𝓤) (𝓣 : Tables 𝓤 𝓛.H) (known : Triple 𝓤 (𝓣.C f) (Takes (callee F) 𝓤 𝓛)) where
+  module _ (F : C.Denot → Y.Denot → S.Denot) (f : Callee) {M : Type 1} {𝓤 : Ura M} (𝓛 : Logic 𝓤) (𝓣 : Tables 𝓤 𝓛.H) (known : Triple 𝓤 (𝓣.C f) (Takes (callee F) 𝓤 𝓛)) where
     open 𝓛 use {H}
 
     module _ (κ : Lft) (q : Share) (b o : ℕ) (γ : GName) (ys : List C.Denot) (a : Y.Denot) (room : Room C (length ys)) (a-is : Is Y a (EY.val a ∷ [])) (every : Every blank Asks ys) where
@@ -153,23 +156,20 @@ module _ (KC KY KS : Kind) (St : Has KS KC) (Ca : Has KS KY) (blank : KC.row.Den
       abbrev Post : Val → SProp 𝓤
       Post = (walk_of 𝓛 ended stayed (clauses F 𝓤)).post y
 
-      exits : (r : Y.Denot) (zs : List C.Denot) → (r ≡ sweep_a St.part Ca.part F ys a) × (zs ≡ sweep_t St.part Ca.part F ys a) → length zs ≡ length ys → Is Y r (EY.val r ∷ []) → ent 𝓤 (⋆ 𝓛 (‵ (finally C γ zs) ∷ ‵ (flft κ q) ∷ [])) (Post (EY.val r))
+      exits : (r : Y.Denot) (zs : List C.Denot) → (r ≡ sweep_a St.part Ca.part F ys a) × (zs ≡ sweep_t St.part Ca.part F ys a) → length zs ≡ length ys → Is Y r (EY.val r ∷ []) → ent 𝓤 (⋆ 𝓛 (‵ (gave_at C κ b o γ (length ys) zs) ∷ ‵ (flft κ q) ∷ [])) (Post (EY.val r))
       exits r zs e l is =
-          qed 𝓛 (‵ (finally C γ zs) ∷ ‵ (flft κ q) ∷ []) ∵
+          qed 𝓛 (‵ (gave_at C κ b o γ (length ys) zs) ∷ ‵ (flft κ q) ∷ []) ∵
           suffices ! _ (ends_at 𝓛 ended stayed (clauses F 𝓤) y (EY.val r) r (zs, (tt, tt)) (l, (tt, tt))) $ says ! e $
           nothing ! $ move ! (2 ∷ 0 ∷ []) $ join ! $ frame ! $ nothing ! $ nothing ! $ fjoin ! $ move ! (1 ∷ 0 ∷ []) $ fjoin ! $ frame ! $ owned ! Y (Is Y) (EY.makes 𝓛) r _ is $ done !
 
-      module _ (l₀ l₁ l₂ l₃ l₄ l₅ l₆ l₇ l₈ l₉ l₁₀ : ℕ) where
+      module _ (l : ℕ → ℕ) where
         abbrev E : Env 𝓤 H
-        E = (KY.ty, l₀) ∷ (slice, l₁) ∷ (KY.ty, l₂) ∷ (KY.ty, l₃) ∷ (ty_int w64, l₄) ∷ (KS.ty, l₅) ∷ (ty_int w64, l₆) ∷ (ty_bool, l₇) ∷ (ty_ptr, l₈) ∷ (KC.ty, l₉) ∷ (ty_ptr, l₁₀) ∷ []
+        E = env (function f).locals l
 
-        -- the invariant: the slice, the token, and that what is carried is of its type; then the locals, the last first
+        -- the invariant: the slice, the token, and that what is carried is of its type; then the locals
         abbrev Inv : ℕ → List (Item 𝓤)
-        Inv i = ‵ ((MutSlice (named 0) κ C).own_val (xs_at C b o γ (tab F i ys a)) s) ∷ ‵ (flft κ q) ∷ ‵ (Y.own (acc F i ys a) (EY.val (acc F i ys a) ∷ []))
-            ∷ ‵ (froom ty_ptr l₁₀ 0) ∷ ‵ (fdies ty_ptr l₁₀) ∷ ‵ (froom KC.ty l₉ 0) ∷ ‵ (fdies KC.ty l₉) ∷ ‵ (froom ty_ptr l₈ 0) ∷ ‵ (fdies ty_ptr l₈) ∷ ‵ (froom ty_bool l₇ 0) ∷ ‵ (fdies ty_bool l₇)
-            ∷ ‵ (froom (ty_int w64) l₆ 0) ∷ ‵ (fdies (ty_int w64) l₆) ∷ ‵ (froom KS.ty l₅ 0) ∷ ‵ (fdies KS.ty l₅) ∷ ‵ (fat full_share (ty_int w64) l₄ 0 (vint w64 i)) ∷ ‵ (fdies (ty_int w64) l₄)
-            ∷ ‵ (fat full_share KY.ty l₃ 0 (EY.val (acc F i ys a))) ∷ ‵ (fdies KY.ty l₃) ∷ ‵ (fat full_share KY.ty l₂ 0 (EY.val a)) ∷ ‵ (fdies KY.ty l₂)
-            ∷ ‵ (fat full_share slice l₁ 0 (slice_val (b, o) (length ys))) ∷ ‵ (fdies slice l₁) ∷ ‵ (froom KY.ty l₀ 0) ∷ ‵ (fdies KY.ty l₀) ∷ []
+        Inv i = ‵ ((MutSlice (named 0) κ C).own_val (xs_at C b o γ (tab F i ys a)) s) ∷ ‵ (flft κ q) ∷ ‵ (Y.own_val (acc F i ys a) (EY.val (acc F i ys a) ∷ []))
+            ∷ holding 𝓛 E ((1, slice_val (b, o) (length ys)) ∷ (2, EY.val a) ∷ (3, EY.val (acc F i ys a)) ∷ (4, vint w64 i) ∷ [])
 
         -- where the loop is left, the rest of the body runs
         abbrev Left : Kit.Post 𝓤 H
@@ -182,55 +182,56 @@ module _ (KC KY KS : Kind) (St : Has KS KC) (Ca : Has KS KY) (blank : KC.row.Den
             let k : Y.Denot = acc F i ys a in
             let c : C.Denot = get_or zs i blank in
             move ! (2 ∷ []) $ facts ! Y (Is Y) (shows 𝓛 Y) k _ (λ ik.
-            -- [what t owns; the token; _10 at 2; _9; _8; _7; _6; _5; _4; _3; _2; _1; _0 at 22]
-            sets ! 10 refl (of_opd ! (fld_at ! 20 1 refl refl refl)) (tt, record { fits = room.0 }) $
-            sets ! 8 refl (bin ! (loc ! 14 refl) (loc ! 10 refl) tt) (tt, tt) $
-            tests ! (loc ! 8 refl)
+            -- [what t owns; the token; the locals]
+            sets ! (of_opd ! (fld_at ! 1 refl refl refl)) refl (tt, record { fits = room.0 }) $
+            sets ! (bin ! (get ! refl) (get ! refl) tt) refl (tt, tt) $
+            tests ! (get ! refl)
             (λ h.
             let l : i < length ys = ltb→lt i (length ys) h in
             let l' : i < length zs = subst (λ (m : ℕ). i < m) (sym (as_long F i ys a)) l in
             let small : i * (mem C).size < 2 ^ 64 = in_room C i (length ys) l room in
             let next : i + 1 < 2 ^ 64 = omega (arith, room.0) in
-            resets ! 10 refl (bin ! (loc ! 14 refl) (lit ! fits) (record { fits = small })) (tt, record { fits = small }) $
-            sets ! 6 refl (elem_ptr ! (mem C).size o i (fld_at ! 20 0 refl refl refl) (loc ! 10 refl)) (tt, tt) $
+            sets ! (bin ! (get ! refl) (lit ! fits) (record { fits = small })) refl (tt, record { fits = small }) $
+            sets ! (elem_ptr ! (mem C).size o i (fld_at ! 0 refl refl refl) (get ! refl)) refl (tt, tt) $
             opens_at ! tt EC b o zs i blank l' (λ p is.
-            sets ! 4 refl (of_opd ! (load ! (from ! (hop ! (look ! 6 refl) (stop !))) (look_raw ! 0 refl))) (EC.typed 𝓛 c is).0 $
+            sets ! (of_opd ! (load ! (through ! refl (stop !)) (look_raw ! 0 refl))) refl (EC.typed 𝓛 c is).0 $
             backs_at ! tt EC b o zs s i blank l' p is $
-            calls_by ! (fm_of 𝓤 H 𝓛.laws 𝓣) (callee F) known (c, (k, tt)) (is, (ik, tt)) (subst Asks (sym (untouched F i ys a)) (every i l)) (λ _. and_then ! (loc ! 5 refl) (and_then ! (loc ! 17 refl) (no_more !))) (λ r ir e.
+            calls_by ! (fm_of 𝓤 H 𝓛.laws 𝓣) (callee F) known (c, (k, tt)) (is, (ik, tt)) (subst Asks (sym (untouched F i ys a)) (every i l)) (λ _. and_then ! (get ! refl) (and_then ! (get ! refl) (no_more !))) (λ r ir e.
             let ic : Is C (St.part r) (EC.val (St.part r) ∷ []) = St.owed r ir in
             let ir' : Is Y (Ca.part r) (EY.val (Ca.part r) ∷ []) = Ca.owed r ir in
             let e' : r ≡ F (get_or ys i blank) k = e ∙ ap (λ (d : C.Denot). F d k) (untouched F i ys a) in
             let to_tab : set zs i (St.part r) ≡ tab F (i + 1) ys a = ap (λ (d : S.Denot). set zs i (St.part d)) e' ∙ next_tab F i ys a l ∙ ap (λ (m : ℕ). tab F m ys a) (sym (add-one i)) in
             let to_acc : Ca.part r ≡ acc F (i + 1) ys a = ap (λ (d : S.Denot). Ca.part d) e' ∙ next_acc F i ys a l ∙ ap (λ (m : ℕ). acc F m ys a) (sym (add-one i)) in
-            land ! (from ! (stop !)) (init ! 12 refl (ES.typed 𝓛 r ir).0) $
-            resets ! 10 refl (bin ! (loc ! 14 refl) (lit ! fits) (record { fits = small })) (tt, record { fits = small }) $
-            sets ! 2 refl (elem_ptr ! (mem C).size o i (fld_at ! 20 0 refl refl refl) (loc ! 10 refl)) (tt, tt) $
+            let is₁ : Is Y (acc F (i + 1) ys a) (EY.val (acc F (i + 1) ys a) ∷ []) = subst (λ (d : Y.Denot). Is Y d (EY.val d ∷ [])) to_acc ir' in
+            lands_as ! refl refl (ES.typed 𝓛 r ir).0 $
+            sets ! (of_opd ! (has_at ! St r refl refl)) refl (EC.typed 𝓛 (St.part r) ic).0 $
+            sets ! (bin ! (get ! refl) (lit ! fits) (record { fits = small })) refl (tt, record { fits = small }) $
+            sets ! (elem_ptr ! (mem C).size o i (fld_at ! 0 refl refl refl) (get ! refl)) refl (tt, tt) $
             opens_at ! tt EC b o zs i blank l' (λ p' _.
-            assigns ! (of_opd ! (has_at ! 12 St r refl refl)) (from ! (hop ! (look ! 2 refl) (stop !))) (store_raw ! 0 refl (EC.typed 𝓛 (St.part r) ic).0) $
+            assigns ! (of_opd ! (get ! refl)) (through ! refl (stop !)) (store_raw ! 0 refl (EC.typed 𝓛 (St.part r) ic).0) $
             closes_at ! tt EC b o zs s i (St.part r) l' p' ic $
-            resets ! 16 refl (of_opd ! (has_at ! 12 Ca r refl refl)) (EY.typed 𝓛 (Ca.part r) ir').0 $
-            assigns_last ! (bin ! (loc ! 14 refl) (lit ! tt) (record { fits = next })) (from ! (stop !)) (store ! 14 refl (tt, record { fits = next })) $
+            sets ! (same_as ! (of_opd ! (has_at ! Ca r refl refl)) (ap (λ (d : Y.Denot). EY.val d) to_acc)) refl (EY.typed 𝓛 (acc F (i + 1) ys a) is₁).0 $
+            sets_last ! (bin ! (get ! refl) (lit ! tt) (record { fits = next })) refl (tt, record { fits = next }) $
             rewrite ! 0 (λ (ws : List C.Denot). ‵ ((MutSlice (named 0) κ C).own_val (xs_at C b o γ ws) s)) to_tab refl $
-            rewrite ! 16 (λ (d : Y.Denot). ‵ (fat full_share KY.ty l₃ 0 (EY.val d))) to_acc refl $
-            owned ! Y (Is Y) (EY.makes 𝓛) (acc F (i + 1) ys a) _ (subst (λ (d : Y.Denot). Is Y d (EY.val d ∷ [])) to_acc ir') $ move ! (1 ∷ 2 ∷ 0 ∷ []) $
-            forget ! 3 refl $ forget ! 5 refl $ forget ! 7 refl $ forget ! 9 refl $ forget ! 11 refl $ forget ! 13 refl $ again ! (left_of_lem (length ys)) Inv i (i + 1) (omega (arith, l))))))
+            owned ! Y (Is Y) (EY.makes 𝓛) (acc F (i + 1) ys a) _ is₁ $ move ! (1 ∷ 2 ∷ 0 ∷ []) $
+            forget_but ! E (1 ∷ 2 ∷ 3 ∷ 4 ∷ []) refl $ again ! (left_of_lem (length ys)) Inv i (i + 1) (omega (arith, l))))))
             (λ h.
             exec ! 𝓣.C 𝓣.Λ E (rest f) (at_ret E Post) $
-            sets ! 22 refl (of_opd ! (loc ! 16 refl)) (EY.typed 𝓛 k ik).0 $ gives_up ! C b o zs $
-            returns ! (look ! 22 refl) $ frees1 ! 22 refl refl $ frees1 ! 20 refl refl $ frees1 ! 18 refl refl $ frees1 ! 16 refl refl $ frees1 ! 14 refl refl $ frees0 ! 12 refl refl $ frees1 ! 10 refl refl $ frees1 ! 8 refl refl $ frees0 ! 6 refl refl $ frees0 ! 4 refl refl $ frees0 ! 2 refl refl $ free0 ! $
+            sets ! (of_opd ! (get ! refl)) refl (EY.typed 𝓛 k ik).0 $ gives_up ! C b o zs $ rewrite ! 0 (λ (m : ℕ). ‵ (gave_at C κ b o γ m zs)) (as_long F i ys a) refl $
+            returns ! (look_at ! 0 refl) $ free_all ! refl $
             by ! (exits k zs (all_acc F i ys a (nltb→le i (length ys) h), all_tab F i ys a (nltb→le i (length ys) h)) (as_long F i ys a) ik)))
 
       walk : ent 𝓤 (on_entry 𝓛 ended.signature (κ, tt) (q, tt) y.0.3 y.0.4) (WpFn 𝓤 H 𝓣.C 𝓣.Λ (function f) (slice_val (b, o) (length ys) ∷ EY.val a ∷ []) Post)
       unfolding tab acc
       walk =
-          qed 𝓛 ((‵ (flft κ q) ⊛ ‵ ftrue) ∷ ‵ (owns (MutSlice (named 0) κ C ∷ Y ∷ []) y.0.3 y.0.4) ∷ []) ∵ enter ! 𝓣.C 𝓣.Λ (function f) (slice_val (b, o) (length ys) ∷ EY.val a ∷ []) _ $
-          alloc1 ! (λ l₀. alloc1 ! (λ l₁. alloc1 ! (λ l₂. alloc1 ! (λ l₃. alloc1 ! (λ l₄. alloc1 ! (λ l₅. alloc1 ! (λ l₆. alloc1 ! (λ l₇. alloc1 ! (λ l₈. alloc1 ! (λ l₉. alloc1 ! (λ l₁₀. alloc0 ! $ params1 ! $
-          pass1 ! (init ! 18 refl (tt, (tt, (record { fits = room.0 }, tt)))) $ pass1 ! (init ! 16 refl (EY.typed 𝓛 a a-is).0) $ pass0 ! $
-          move ! (23 ∷ []) $ fsplit ! $ move ! (1 ∷ []) $ drop ! $ move ! (23 ∷ []) $ split ! $ move ! (1 ∷ []) $ drop ! $ move ! (1 ∷ 0 ∷ []) $
-          sets ! 16 refl (of_opd ! (loc ! 18 refl)) (EY.typed 𝓛 a a-is).0 $
-          sets ! 14 refl (of_opd ! (lit ! tt)) (tt, record { fits = lit< tt }) $
+          qed 𝓛 ((‵ (flft κ q) ⊛ ‵ ftrue) ∷ ‵ (owns (MutSlice (named 0) κ C ∷ Y ∷ []) y.0.3 y.0.4) ∷ []) ∵
+          move ! (1 ∷ []) $ fsplit ! $ move ! (1 ∷ []) $ drop ! $ move ! (1 ∷ []) $ split ! $ move ! (1 ∷ []) $ drop ! $ move ! (1 ∷ 0 ∷ []) $
+          enter ! 𝓣.C 𝓣.Λ (function f) (slice_val (b, o) (length ys) ∷ EY.val a ∷ []) _ $
+          alloc_all ! (λ l. pass_all ! refl ((tt, (tt, (record { fits = room.0 }, tt))), ((EY.typed 𝓛 a a-is).0, tt)) $
+          sets ! (of_opd ! (get ! refl)) refl (EY.typed 𝓛 a a-is).0 $
+          sets ! (of_opd ! (lit ! tt)) refl (tt, record { fits = lit< tt }) $
           owned ! Y (Is Y) (EY.makes 𝓛) a _ a-is $ move ! (1 ∷ 2 ∷ 0 ∷ []) $
-          first ! $ blocks ! $ loops ! 𝓣 (left_of_lem (length ys)) (left_wf (length ys)) (Inv l₀ l₁ l₂ l₃ l₄ l₅ l₆ l₇ l₈ l₉ l₁₀) (turns l₀ l₁ l₂ l₃ l₄ l₅ l₆ l₇ l₈ l₉ l₁₀) 0)))))))))))
+          first ! $ blocks ! $ loops ! 𝓣 (left_of_lem (length ys)) (left_wf (length ys)) (Inv l) (turns l) 0)
 
     pub sweep_meets : Meets 𝓛 ended.signature (WpFn 𝓤 H 𝓣.C 𝓣.Λ (function f)) (closing 𝓛 ended (clauses F 𝓤))
     sweep_meets =

@@ -16,14 +16,13 @@
 --     }
 -- where begin and start have the lines as a `&[u8]`, and conclude as a `&mut [u8]`. `Says` has what each of them ensures, as relations, and that the call's own follows. Only the sweep (an instance of `Sweep.antt`) may have a
 -- `requires`, a single one.
---     sweeping-meets   its arguments: the types (`Tested`), the kinds of what the survey and the sweep carry, what is said (`Says`;
+--     sweeping_meets   its arguments: the types (`Tested`), the kinds of what the survey and the sweep carry, what is said (`Says`;
 --                      `Testing.antt` makes it of equations), the names of begin, survey, judge, start, the sweep and conclude; then the model,
 --                      the tables, and that each of them meets its contract
 -- Assumes nothing.
 use types.Logic.{Logic}
-use denote.Slice.{shr_slice_vals}
-use Rattle.walks.proofs.Walk.{◌≡◌, refl, Bool, true, false, List, [], ◌∷◌, ℕ, length, Ura, full_share, named, imm, mut, w8, w16, w64, Ty, ty_int, ty_bool, ty_ref, Val, SProp, ent, emp, via, fst∗, Lft, GName, Share, Fml, ftrue, flft, WpFn, Tables, ‵, raw, ◌⊛◌, ⋆, ◌$◌, ◌∵◌, !, qed, by, use0, use1, move, keep, drop, group, split, join, fsplit, fjoin, feq_l, suffices, frame, done, agg, whole, sub, look_in, look, init, stop, hop, fld, from, addr, of_opd, and_then, no_more, first, branches, land, returns, enter, alloc1, alloc0, params1, pass1, pass0, free0, fm_of, owns, Is, pointee, u8, u16, slice_val, slice_ty, MutSlice, ShrSlice, Room, slice-vals, mut_slice_Tells, shr_slice_Tells, finally, plain, shr_slice_of, nothing, owned, heard, on_entry, triple_of, Contract, Triple, says, Stays, stay_dropped, gave_slice, walk_of, Goes-dropped, Goes-gave_slice, ends_at, yes, Fn, Name, Body, erased, local, value_local, place, field, deref, copy, rv_opd, addr_of, aggregate, seq, assign, cond, call, return, id⊢, fact, RattleType, now, mut_slice_of, Clauses, Ended, closing, Meets}
-use Rattle.walks.proofs.Tab.{xs_at, mut_at, loc, fld_at, sets, gives_up, frees0, frees1, assigns_out, calls_plain, meets_by}
+use Rattle.walks.proofs.Walk.{◌≡◌, refl, Bool, true, false, List, [], ◌∷◌, ℕ, length, Ura, full_share, named, imm, mut, w8, w16, w64, Ty, ty_int, ty_bool, ty_ref, Val, SProp, ent, emp, via, fst∗, Lft, GName, Share, Fml, ftrue, flft, WpFn, Tables, ‵, raw, ◌⊛◌, ⋆, ◌$◌, ◌∵◌, !, qed, by, use0, use1, move, keep, drop, group, split, join, fsplit, fjoin, feq_l, suffices, frame, done, agg, stop, from, of_opd, and_then, no_more, first, branches, returns, enter, fm_of, owns, Is, pointee, u8, u16, slice_val, slice_ty, MutSlice, ShrSlice, Room, mut_slice_Tells, shr_slice_Tells, plain, shr_slice_of, nothing, owned, heard, on_entry, triple_of, Contract, Triple, says, Stays, stay_dropped, gave_slice, walk_of, Goes-dropped, Goes-gave_slice, ends_at, yes, Fn, Body, erased, local, value_local, place, field, deref, copy, rv_opd, addr_of, aggregate, seq, assign, cond, call, return, id⊢, fact, RattleType, mut_slice_of, Clauses, Ended, closing, Meets, shr_slice_vals, mut_slice_vals, alloc_all, pass_all, free_all, look_at, set_at, get, sets, lands_as, rewrite, Callee}
+use Rattle.walks.proofs.Tab.{xs_at, mut_at, fld_at, gives_up, assigns_out, calls_plain, meets_by, xs_in, gave_at, ptr_at}
 use Rattle.walks.proofs.Lend.{lends_on, comes_on}
 use Rattle.walks.proofs.Guard.{held, failed}
 use Rattle.walks.proofs.Plain.{Kind, of, has_at, letters}
@@ -33,7 +32,7 @@ use Rattle.walks.proofs.Surveyed.{Survey, deciding, surveys_one}
 use Rattle.walks.proofs.Lines.{Looks, Puts, looks_at, puts_to}
 
 module _ (K : Tested) where
-  open letters K.channel use {type as C}
+  open letters K.channel use {type as C, elem as EC}
   open letters K.answer use {type as N, elem as EN}
   open letters K.verdict use {type as J, elem as EJ}
 
@@ -63,7 +62,7 @@ module _ (K : Tested) where
     pub refuses : (ys : List C.Denot) (m l li : List ℕ) (a v : Y.Denot) (d : J.Denot) → Begins li a → Surveys ys l a v → Judges v (length ys) (length m) (length l) d → K.holds.part d ≡ false → Calls ys m l li (K.refusal.part d) ys li
 
   -- ---- the MIR
-  module _ (τ τz : Ty) (fb fs fd fk ff fe : Name) where
+  module _ (τ τz : Ty) (fb fs fd fk ff fe : Callee) where
     abbrev rest : Body
     rest = seq (assign (place 0 []) (rv_opd (copy (place 19 [])))) return
 
@@ -71,6 +70,8 @@ module _ (K : Tested) where
     function = record {
       lifetimes = 4;
       outlives = [];
+      ty_params = [];
+      givens = 0;
       params = 4;
       locals = local K.answer.ty value_local ∷ local (slice_ty (ty_ref (named 0) mut (pointee C.written))) value_local ∷ local (slice_ty (ty_ref (named 1) imm (ty_int w8))) value_local ∷ local (slice_ty (ty_ref (named 2) imm (ty_int w16))) value_local ∷ local (slice_ty (ty_ref (named 3) mut (ty_int w8))) value_local ∷ local τ value_local ∷ local τ value_local ∷ local K.verdict.ty value_local ∷ local τz value_local ∷ local τz value_local ∷ local K.answer.ty value_local ∷ local (ty_ref erased imm (ty_int w8)) value_local ∷ local (slice_ty (ty_ref erased imm (ty_int w8))) value_local ∷ local (ty_ref erased imm (pointee C.written)) value_local ∷ local (slice_ty (ty_ref erased imm (pointee C.written))) value_local ∷ local (ty_int w64) value_local ∷ local (ty_int w64) value_local ∷ local (ty_int w64) value_local ∷ local ty_bool value_local ∷ local K.answer.ty value_local ∷ local (ty_ref erased imm (ty_int w8)) value_local ∷ local (slice_ty (ty_ref erased imm (ty_int w8))) value_local ∷ local (ty_ref erased mut (pointee C.written)) value_local ∷ local (slice_ty (ty_ref erased mut (pointee C.written))) value_local ∷ local (ty_ref erased mut (ty_int w8)) value_local ∷ local (slice_ty (ty_ref erased mut (ty_int w8))) value_local ∷ [];
       body = seq (assign (place 11 []) (addr_of (place 4 (field 0 ∷ deref (ty_int w8) ∷ []))))
@@ -112,10 +113,10 @@ module _ (K : Tested) where
 
     module _ (Z : Says Y Q) {M : Type 1} (𝓤 : Ura M) where
       abbrev pub clauses : Clauses 𝓤 ended
-      clauses κs a = record { ghost = Unit {0}; requires = λ _. emp 𝓤; ensures = λ _ r e. fact 𝓤 (Z.Calls (now a.0) (now a.1.0) (now a.1.1.0) (now a.1.1.1.0) r (now e.0) (now e.1.1.1.0)) }
+      clauses κs a = record { ghost = Unit {0}; requires = λ _. emp 𝓤; ensures = λ _ r e. fact 𝓤 (Z.Calls a.0.now a.1.0.now a.1.1.0.now a.1.1.1.0.now r e.0.now e.1.1.1.0.now) }
 
       abbrev fill_says : Clauses 𝓤 fills
-      fill_says κs a = record { ghost = Unit {0}; requires = λ _. need 𝓤 Z.asks (Z.Asks (now a.0)); ensures = λ _ r e. fact 𝓤 (Z.Sweeps (now a.0) a.1.0 r (now e.0)) }
+      fill_says κs a = record { ghost = Unit {0}; requires = λ _. need 𝓤 Z.asks (Z.Asks a.0.now); ensures = λ _ r e. fact 𝓤 (Z.Sweeps a.0.now a.1.0 r e.0.now) }
 
       module _ (𝓛 : Logic 𝓤) where
         abbrev pub Fill : Contract 𝓤
@@ -127,13 +128,13 @@ module _ (K : Tested) where
     judges = deciding KY K.verdict Z.Judges
 
   -- ---- the walk
-  module _ (KY KQ : Kind) (Z : Says (of KY) (of KQ)) (fb fs fd fk ff fe : Name) {M : Type 1} {𝓤 : Ura M} (𝓛 : Logic 𝓤) (𝓣 : Tables 𝓤 𝓛.H)
+  module _ (KY KQ : Kind) (Z : Says (of KY) (of KQ)) (fb fs fd fk ff fe : Callee) {M : Type 1} {𝓤 : Ura M} (𝓛 : Logic 𝓤) (𝓣 : Tables 𝓤 𝓛.H)
       (k-begin : Triple 𝓤 (𝓣.C fb) (Looks KY Z.Begins 𝓤 𝓛)) (k-survey : Triple 𝓤 (𝓣.C fs) (Survey C KY Z.Surveys 𝓤 𝓛)) (k-judge : Triple 𝓤 (𝓣.C fd) (Takes (judges KY KQ Z) 𝓤 𝓛)) (k_start : Triple 𝓤 (𝓣.C fk) (Looks KQ Z.Starts 𝓤 𝓛)) (k-fill : Triple 𝓤 (𝓣.C ff) (Fill (of KY) (of KQ) Z 𝓤 𝓛)) (k-conclude : Triple 𝓤 (𝓣.C fe) (Puts KQ K.answer Z.Concludes 𝓤 𝓛)) where
     open 𝓛 use {H}
     open letters KY use {type as Y, elem as EY}
     open letters KQ use {type as Q, elem as EQ}
 
-    module _ (κ₀ κ₁ κ₂ κ₃ : Lft) (q₀ q₁ q₂ q₃ : Share) (b o b₁ o₁ b₂ o₂ b₃ o₃ : ℕ) (γ γ₁ γ₂ γ₃ : GName) (ys : List C.Denot) (m ln li : List ℕ) (room : Room C (length ys)) (room₁ : Room u8 (length m)) (room₂ : Room u16 (length ln)) (room₃ : Room u8 (length li)) where
+    module _ (κ₀ κ₁ κ₂ κ₃ : Lft) (q₀ q₁ q₂ q₃ : Share) (b o b₁ o₁ b₂ o₂ b₃ o₃ : ℕ) (γ γ₃ : GName) (ys : List C.Denot) (m ln li : List ℕ) (room : Room C (length ys)) (room₁ : Room u8 (length m)) (room₂ : Room u16 (length ln)) (room₃ : Room u8 (length li)) where
       abbrev s : Val
       s = slice_val (b, o) (length ys)
 
@@ -147,13 +148,13 @@ module _ (K : Tested) where
       s₃ = slice_val (b₃, o₃) (length li)
 
       abbrev y : (walk_of 𝓛 (ended Y Q) (stayed Y Q) (clauses Y Q Z 𝓤)).Ghost
-      y = (((κ₀, (κ₁, (κ₂, (κ₃, tt)))), (q₀, (q₁, (q₂, (q₃, tt)))), tt, (xs_at C b o γ ys, (xs_at u8 b₁ o₁ γ₁ m, (xs_at u16 b₂ o₂ γ₂ ln, (xs_at u8 b₃ o₃ γ₃ li, tt)))), (s ∷ [], (s₁ ∷ [], (s₂ ∷ [], (s₃ ∷ [], tt))))), tt)
+      y = (((κ₀, (κ₁, (κ₂, (κ₃, tt)))), (q₀, (q₁, (q₂, (q₃, tt)))), tt, (xs_at C b o γ ys, (xs_in u8 b₁ o₁ m, (xs_in u16 b₂ o₂ ln, (xs_at u8 b₃ o₃ γ₃ li, tt)))), (s ∷ [], (s₁ ∷ [], (s₂ ∷ [], (s₃ ∷ [], tt))))), tt)
 
       abbrev Post : Val → SProp 𝓤
       Post = (walk_of 𝓛 (ended Y Q) (stayed Y Q) (clauses Y Q Z 𝓤)).post y
 
-      exits : (r : N.Denot) (zs : List C.Denot) (is : List ℕ) → Z.Calls ys m ln li r zs is → length zs ≡ length ys → length is ≡ length li → Is N r (EN.val r ∷ []) → ent 𝓤 (⋆ 𝓛 (‵ (finally C γ zs) ∷ ‵ (flft κ₀ q₀) ∷ ‵ (flft κ₁ q₁) ∷ ‵ (flft κ₂ q₂) ∷ ‵ (flft κ₃ q₃) ∷ ‵ (finally u8 γ₃ is) ∷ [])) (Post (EN.val r))
-      exits r zs is e l l₃ ir = qed 𝓛 (‵ (finally C γ zs) ∷ ‵ (flft κ₀ q₀) ∷ ‵ (flft κ₁ q₁) ∷ ‵ (flft κ₂ q₂) ∷ ‵ (flft κ₃ q₃) ∷ ‵ (finally u8 γ₃ is) ∷ []) ∵ suffices ! _ (ends_at 𝓛 (ended Y Q) (stayed Y Q) (clauses Y Q Z 𝓤) y (EN.val r) r (zs, (tt, (tt, (is, tt)))) (l, (tt, (tt, (l₃, tt))))) $ says ! e $ nothing ! $ move ! (5 ∷ 0 ∷ []) $ join ! $ move ! (4 ∷ 0 ∷ []) $ join ! $ move ! (3 ∷ 0 ∷ []) $ join ! $ move ! (2 ∷ 0 ∷ []) $ join ! $ frame ! $ nothing ! $ move ! (2 ∷ 0 ∷ []) $ fjoin ! $ nothing ! $ fjoin ! $ nothing ! $ fjoin ! $ move ! (1 ∷ 0 ∷ []) $ fjoin ! $ frame ! $ owned ! N (Is N) (EN.makes 𝓛) r _ ir $ done !
+      exits : (r : N.Denot) (zs : List C.Denot) (is : List ℕ) → Z.Calls ys m ln li r zs is → length zs ≡ length ys → length is ≡ length li → Is N r (EN.val r ∷ []) → ent 𝓤 (⋆ 𝓛 (‵ (gave_at C κ₀ b o γ (length ys) zs) ∷ ‵ (flft κ₀ q₀) ∷ ‵ (flft κ₁ q₁) ∷ ‵ (flft κ₂ q₂) ∷ ‵ (flft κ₃ q₃) ∷ ‵ (gave_at u8 κ₃ b₃ o₃ γ₃ (length li) is) ∷ [])) (Post (EN.val r))
+      exits r zs is e l l₃ ir = qed 𝓛 (‵ (gave_at C κ₀ b o γ (length ys) zs) ∷ ‵ (flft κ₀ q₀) ∷ ‵ (flft κ₁ q₁) ∷ ‵ (flft κ₂ q₂) ∷ ‵ (flft κ₃ q₃) ∷ ‵ (gave_at u8 κ₃ b₃ o₃ γ₃ (length li) is) ∷ []) ∵ suffices ! _ (ends_at 𝓛 (ended Y Q) (stayed Y Q) (clauses Y Q Z 𝓤) y (EN.val r) r (zs, (tt, (tt, (is, tt)))) (l, (tt, (tt, (l₃, tt))))) $ says ! e $ nothing ! $ move ! (5 ∷ 0 ∷ []) $ join ! $ move ! (4 ∷ 0 ∷ []) $ join ! $ move ! (3 ∷ 0 ∷ []) $ join ! $ move ! (2 ∷ 0 ∷ []) $ join ! $ frame ! $ nothing ! $ move ! (2 ∷ 0 ∷ []) $ fjoin ! $ nothing ! $ fjoin ! $ nothing ! $ fjoin ! $ move ! (1 ∷ 0 ∷ []) $ fjoin ! $ frame ! $ owned ! N (Is N) (EN.makes 𝓛) r _ ir $ done !
 
       module _ (ν : ℕ) (δ : GName) where
         abbrev Own : Fml
@@ -168,59 +169,58 @@ module _ (K : Tested) where
       walk : ent 𝓤 (on_entry 𝓛 (ended Y Q).signature y.0.0 y.0.1 y.0.3 y.0.4) (WpFn 𝓤 H 𝓣.C 𝓣.Λ (function KY.ty KQ.ty fb fs fd fk ff fe) (s ∷ s₁ ∷ s₂ ∷ s₃ ∷ []) Post)
       walk =
           qed 𝓛 ((‵ (flft κ₀ q₀) ⊛ ‵ (flft κ₁ q₁) ⊛ ‵ (flft κ₂ q₂) ⊛ ‵ (flft κ₃ q₃) ⊛ ‵ ftrue) ∷ ‵ (owns (MutSlice (named 0) κ₀ C ∷ ShrSlice (named 1) κ₁ u8 ∷ ShrSlice (named 2) κ₂ u16 ∷ MutSlice (named 3) κ₃ u8 ∷ []) y.0.3 y.0.4) ∷ []) ∵
+          move ! (1 ∷ []) $ fsplit ! $ move ! (1 ∷ []) $ fsplit ! $ drop ! $ fsplit ! $ move ! (1 ∷ []) $ fsplit ! $ move ! (1 ∷ []) $ drop ! $ move ! (3 ∷ []) $ split ! $ move ! (1 ∷ []) $ split ! $ move ! (1 ∷ []) $ split ! $ move ! (1 ∷ []) $ split ! $ move ! (1 ∷ []) $ drop ! $ move ! (4 ∷ 0 ∷ 6 ∷ 3 ∷ 5 ∷ 1 ∷ 2 ∷ []) $
           enter ! 𝓣.C 𝓣.Λ (function KY.ty KQ.ty fb fs fd fk ff fe) (s ∷ s₁ ∷ s₂ ∷ s₃ ∷ []) _ $
-          alloc1 ! (λ l₀. alloc1 ! (λ l₁. alloc1 ! (λ l₂. alloc1 ! (λ l₃. alloc1 ! (λ l₄. alloc1 ! (λ l₅. alloc1 ! (λ l₆. alloc1 ! (λ l₇. alloc1 ! (λ l₈. alloc1 ! (λ l₉. alloc1 ! (λ l₁₀. alloc1 ! (λ l₁₁. alloc1 ! (λ l₁₂. alloc1 ! (λ l₁₃. alloc1 ! (λ l₁₄. alloc1 ! (λ l₁₅. alloc1 ! (λ l₁₆. alloc1 ! (λ l₁₇. alloc1 ! (λ l₁₈. alloc1 ! (λ l₁₉. alloc1 ! (λ l₂₀. alloc1 ! (λ l₂₁. alloc1 ! (λ l₂₂. alloc1 ! (λ l₂₃. alloc1 ! (λ l₂₄. alloc1 ! (λ l₂₅. alloc0 ! $ params1 ! $
-          pass1 ! (init ! 48 refl (tt, (tt, (record { fits = room.0 }, tt)))) $ pass1 ! (init ! 46 refl (tt, (tt, (record { fits = room₁.0 }, tt)))) $ pass1 ! (init ! 44 refl (tt, (tt, (record { fits = room₂.0 }, tt)))) $ pass1 ! (init ! 42 refl (tt, (tt, (record { fits = room₃.0 }, tt)))) $ pass0 ! $
-          move ! (53 ∷ []) $ fsplit ! $ move ! (1 ∷ []) $ fsplit ! $ drop ! $ fsplit ! $ move ! (1 ∷ []) $ fsplit ! $ move ! (1 ∷ []) $ drop ! $ move ! (55 ∷ []) $ split ! $ move ! (1 ∷ []) $ split ! $ move ! (1 ∷ []) $ split ! $ move ! (1 ∷ []) $ split ! $ move ! (1 ∷ []) $ drop ! $ move ! (4 ∷ 0 ∷ 6 ∷ 3 ∷ 5 ∷ 1 ∷ 2 ∷ []) $
+          alloc_all ! (λ l. pass_all ! refl ((tt, (tt, (record { fits = room.0 }, tt))), ((tt, (tt, (record { fits = room₁.0 }, tt))), ((tt, (tt, (record { fits = room₂.0 }, tt))), ((tt, (tt, (record { fits = room₃.0 }, tt))), tt)))) $
           -- [what lines, t and lens own, each with its token; the token of mem; then the locals, the last first]
-          sets ! 35 refl (addr ! (from ! (fld ! refl (hop ! (look_in ! 49 (sub ! 0 refl (whole !))) (stop !))))) (tt, tt) $
-          sets ! 33 refl (agg ! (and_then ! (loc ! 35 refl) (and_then ! (fld_at ! 49 1 refl refl refl) (no_more !)))) (tt, (tt, (record { fits = room₃.0 }, tt))) $
-          looks_at ! (fm_of 𝓤 H 𝓛.laws 𝓣) KY Z.Begins k-begin b₃ o₃ li (λ _ _. and_then ! (loc ! 33 refl) (no_more !)) (λ a ia ea.
-          land ! (from ! (stop !)) (init ! 47 refl (EY.typed 𝓛 a ia).0) $
-          sets ! 31 refl (addr ! (from ! (fld ! refl (hop ! (look_in ! 55 (sub ! 0 refl (whole !))) (stop !))))) (tt, tt) $
-          sets ! 29 refl (agg ! (and_then ! (loc ! 31 refl) (and_then ! (fld_at ! 55 1 refl refl refl) (no_more !)))) (tt, (tt, (record { fits = room.0 }, tt))) $
-          move ! (2 ∷ 3 ∷ 4 ∷ 5 ∷ []) $ surveys_one ! (fm_of 𝓤 H 𝓛.laws 𝓣) C KY Z.Surveys k-survey b o b₂ o₂ ys ln a ia (λ _ _ _. and_then ! (loc ! 28 refl) (and_then ! (loc ! 50 refl) (and_then ! (loc ! 46 refl) (no_more !)))) (λ v iv ev.
-          land ! (from ! (stop !)) (init ! 45 refl (EY.typed 𝓛 v iv).0) $ move ! (2 ∷ []) $ drop ! $
-          sets ! 26 refl (of_opd ! (fld_at ! 54 1 refl refl refl)) (tt, record { fits = room.0 }) $
-          sets ! 24 refl (of_opd ! (fld_at ! 52 1 refl refl refl)) (tt, record { fits = room₁.0 }) $
-          sets ! 22 refl (of_opd ! (fld_at ! 50 1 refl refl refl)) (tt, record { fits = room₂.0 }) $
-          calls_by ! (fm_of 𝓤 H 𝓛.laws 𝓣) (judges KY KQ Z) k-judge (v, (length ys, (length m, (length ln, tt)))) (iv, ((refl, room.0), ((refl, room₁.0), ((refl, room₂.0), tt)))) tt (λ _. and_then ! (loc ! 45 refl) (and_then ! (loc ! 27 refl) (and_then ! (loc ! 25 refl) (and_then ! (loc ! 23 refl) (no_more !))))) (λ d id ed.
-          land ! (from ! (stop !)) (init ! 42 refl (EJ.typed 𝓛 d id).0) $
-          sets ! 20 refl (of_opd ! (has_at ! 42 K.holds d refl refl)) (tt, tt) $
-          first ! $ branches ! (loc ! 20 refl)
+          sets ! (ptr_at ! refl refl) refl (tt, tt) $
+          sets ! (agg ! (and_then ! (get ! refl) (and_then ! (fld_at ! 1 refl refl refl) (no_more !)))) refl (tt, (tt, (record { fits = room₃.0 }, tt))) $
+          looks_at ! (fm_of 𝓤 H 𝓛.laws 𝓣) KY Z.Begins k-begin b₃ o₃ li (λ _ _. and_then ! (get ! refl) (no_more !)) (λ a ia ea.
+          lands_as ! refl refl (EY.typed 𝓛 a ia).0 $
+          sets ! (ptr_at ! refl refl) refl (tt, tt) $
+          sets ! (agg ! (and_then ! (get ! refl) (and_then ! (fld_at ! 1 refl refl refl) (no_more !)))) refl (tt, (tt, (record { fits = room.0 }, tt))) $
+          move ! (2 ∷ 3 ∷ 4 ∷ 5 ∷ []) $ surveys_one ! (fm_of 𝓤 H 𝓛.laws 𝓣) EC KY Z.Surveys k-survey b o b₂ o₂ ys ln a ia (λ _ _ _. and_then ! (get ! refl) (and_then ! (get ! refl) (and_then ! (get ! refl) (no_more !)))) (λ v iv ev.
+          lands_as ! refl refl (EY.typed 𝓛 v iv).0 $ move ! (2 ∷ []) $ drop ! $
+          sets ! (of_opd ! (fld_at ! 1 refl refl refl)) refl (tt, record { fits = room.0 }) $
+          sets ! (of_opd ! (fld_at ! 1 refl refl refl)) refl (tt, record { fits = room₁.0 }) $
+          sets ! (of_opd ! (fld_at ! 1 refl refl refl)) refl (tt, record { fits = room₂.0 }) $
+          calls_by ! (fm_of 𝓤 H 𝓛.laws 𝓣) (judges KY KQ Z) k-judge (v, (length ys, (length m, (length ln, tt)))) (iv, ((refl, room.0), ((refl, room₁.0), ((refl, room₂.0), tt)))) tt (λ _. and_then ! (get ! refl) (and_then ! (get ! refl) (and_then ! (get ! refl) (and_then ! (get ! refl) (no_more !))))) (λ d id ed.
+          lands_as ! refl refl (EJ.typed 𝓛 d id).0 $
+          sets ! (of_opd ! (has_at ! K.holds d refl refl)) refl (tt, tt) $
+          first ! $ branches ! (get ! refl)
           (λ h.
           let yes_is : K.holds.part d ≡ true = held (K.holds.part d) h in
-          sets ! 16 refl (addr ! (from ! (fld ! refl (hop ! (look_in ! 48 (sub ! 0 refl (whole !))) (stop !))))) (tt, tt) $
-          sets ! 14 refl (agg ! (and_then ! (loc ! 16 refl) (and_then ! (fld_at ! 48 1 refl refl refl) (no_more !)))) (tt, (tt, (record { fits = room₃.0 }, tt))) $
-          move ! (3 ∷ 4 ∷ []) $ looks_at ! (fm_of 𝓤 H 𝓛.laws 𝓣) KQ Z.Starts k_start b₃ o₃ li (λ _ _. and_then ! (loc ! 14 refl) (no_more !)) (λ k ik ek.
-          land ! (from ! (stop !)) (init ! 40 refl (EQ.typed 𝓛 k ik).0) $
-          sets ! 12 refl (addr ! (from ! (fld ! refl (hop ! (look_in ! 54 (sub ! 0 refl (whole !))) (stop !))))) (tt, tt) $
-          sets ! 10 refl (agg ! (and_then ! (loc ! 12 refl) (and_then ! (fld_at ! 54 1 refl refl refl) (no_more !)))) (tt, (tt, (record { fits = room.0 }, tt))) $
+          sets ! (ptr_at ! refl refl) refl (tt, tt) $
+          sets ! (agg ! (and_then ! (get ! refl) (and_then ! (fld_at ! 1 refl refl refl) (no_more !)))) refl (tt, (tt, (record { fits = room₃.0 }, tt))) $
+          move ! (3 ∷ 4 ∷ []) $ looks_at ! (fm_of 𝓤 H 𝓛.laws 𝓣) KQ Z.Starts k_start b₃ o₃ li (λ _ _. and_then ! (get ! refl) (no_more !)) (λ k ik ek.
+          lands_as ! refl refl (EQ.typed 𝓛 k ik).0 $
+          sets ! (ptr_at ! refl refl) refl (tt, tt) $
+          sets ! (agg ! (and_then ! (get ! refl) (and_then ! (fld_at ! 1 refl refl refl) (no_more !)))) refl (tt, (tt, (record { fits = room.0 }, tt))) $
           move ! (2 ∷ 3 ∷ []) $ lends_on ! tt C b o ys (s ∷ []) (λ ν' δ' p. group ! 2 $ use1 𝓛 (raw ((Fill Y Q Z 𝓤 𝓛).pre (to_fill ν' δ' k))) (asks_fill ν' δ' k ik (Z.may ys m ln li a v d ea ev ed yes_is)) $
-          calls_plain ! (fm_of 𝓤 H 𝓛.laws 𝓣) (fills Y Q) (fill_says Y Q Z 𝓤) k-fill (to_fill ν' δ' k) EQ (and_then ! (loc ! 10 refl) (and_then ! (loc ! 40 refl) (no_more !))) (λ z ws iz.
-          move ! (2 ∷ []) $ heard ! (Z.Sweeps ys k z ws.0) (λ e. land ! (from ! (stop !)) (init ! 39 refl (EQ.typed 𝓛 z iz).0) $ use1 𝓛 (‵ (flft (ν' ∷ []) full_share) ⊛ ‵ ftrue) (id⊢ 𝓤 _) $ split ! $ move ! (2 ∷ []) $ fsplit ! $ fsplit ! $ move ! (1 ∷ []) $ feq_l ! (λ l. move ! (3 ∷ []) $ drop ! $ move ! (1 ∷ []) $ drop ! $ move ! (1 ∷ 0 ∷ 2 ∷ []) $ comes_on ! tt C b o ys ws.0 (s ∷ []) p l $
+          calls_plain ! (fm_of 𝓤 H 𝓛.laws 𝓣) (fills Y Q) (fill_says Y Q Z 𝓤) k-fill (to_fill ν' δ' k) EQ (and_then ! (get ! refl) (and_then ! (get ! refl) (no_more !))) (λ z ws iz.
+          move ! (2 ∷ []) $ heard ! (Z.Sweeps ys k z ws.0) (λ e. lands_as ! refl refl (EQ.typed 𝓛 z iz).0 $ use1 𝓛 (‵ (flft (ν' ∷ []) full_share) ⊛ ‵ ftrue) (id⊢ 𝓤 _) $ split ! $ move ! (2 ∷ []) $ fsplit ! $ fsplit ! $ fsplit ! $ move ! (1 ∷ []) $ feq_l ! (λ l. move ! (1 ∷ []) $ drop ! $ move ! (3 ∷ []) $ drop ! $ move ! (1 ∷ []) $ drop ! $ move ! (1 ∷ 0 ∷ 2 ∷ []) $ comes_on ! tt C b o ys ws.0 (s ∷ []) p l $
           -- [what t and lines own, each with its token; the tokens of lens and mem]
-          sets ! 8 refl (addr ! (from ! (fld ! refl (hop ! (look_in ! 48 (sub ! 0 refl (whole !))) (stop !))))) (tt, tt) $
-          sets ! 6 refl (agg ! (and_then ! (loc ! 8 refl) (and_then ! (fld_at ! 48 1 refl refl refl) (no_more !)))) (tt, (tt, (record { fits = room₃.0 }, tt))) $
-          move ! (2 ∷ 3 ∷ []) $ puts_to ! (fm_of 𝓤 H 𝓛.laws 𝓣) KQ K.answer Z.Concludes k-conclude b₃ o₃ z li iz (λ _. and_then ! (loc ! 37 refl) (and_then ! (loc ! 5 refl) (no_more !))) (λ r is ir er l₃.
-          land ! (from ! (stop !)) (init ! 36 refl (EN.typed 𝓛 r ir).0) $
-          assigns_out ! (rest KY.ty KQ.ty fb fs fd fk ff fe) Post (of_opd ! (loc ! 36 refl)) (from ! (stop !)) (init ! 18 refl (EN.typed 𝓛 r ir).0) $
-          sets ! 56 refl (of_opd ! (loc ! 18 refl)) (EN.typed 𝓛 r ir).0 $ move ! (2 ∷ []) $ gives_up ! C b o ws.0 $
-          returns ! (look ! 56 refl) $ frees1 ! 56 refl refl $ frees1 ! 54 refl refl $ frees1 ! 52 refl refl $ frees1 ! 50 refl refl $ frees1 ! 48 refl refl $ frees1 ! 46 refl refl $ frees1 ! 44 refl refl $ frees1 ! 42 refl refl $ frees1 ! 40 refl refl $ frees1 ! 38 refl refl $ frees1 ! 36 refl refl $ frees1 ! 34 refl refl $ frees1 ! 32 refl refl $ frees1 ! 30 refl refl $ frees1 ! 28 refl refl $ frees1 ! 26 refl refl $ frees1 ! 24 refl refl $ frees1 ! 22 refl refl $ frees1 ! 20 refl refl $ frees1 ! 18 refl refl $ frees1 ! 16 refl refl $ frees1 ! 14 refl refl $ frees1 ! 12 refl refl $ frees1 ! 10 refl refl $ frees1 ! 8 refl refl $ frees1 ! 6 refl refl $ free0 ! $
+          sets ! (ptr_at ! refl refl) refl (tt, tt) $
+          sets ! (agg ! (and_then ! (get ! refl) (and_then ! (fld_at ! 1 refl refl refl) (no_more !)))) refl (tt, (tt, (record { fits = room₃.0 }, tt))) $
+          move ! (2 ∷ 3 ∷ []) $ puts_to ! (fm_of 𝓤 H 𝓛.laws 𝓣) KQ K.answer Z.Concludes k-conclude b₃ o₃ z li iz (λ _. and_then ! (get ! refl) (and_then ! (get ! refl) (no_more !))) (λ r is ir er l₃.
+          lands_as ! refl refl (EN.typed 𝓛 r ir).0 $
+          assigns_out ! (rest KY.ty KQ.ty fb fs fd fk ff fe) Post (of_opd ! (get ! refl)) (from ! (stop !)) (set_at ! 19 refl (EN.typed 𝓛 r ir).0) $
+          sets ! (of_opd ! (get ! refl)) refl (EN.typed 𝓛 r ir).0 $ move ! (2 ∷ []) $ gives_up ! C b o ws.0 $ rewrite ! 0 (λ (n : ℕ). ‵ (gave_at C κ₀ b o γ n ws.0)) l refl $
+          returns ! (look_at ! 0 refl) $ free_all ! refl $
           keep ! (0 ∷ 3 ∷ 5 ∷ 4 ∷ 2 ∷ 1 ∷ []) $
           by ! (exits r ws.0 is (Z.does ys m ln li a v d k z ws.0 r is ea ev ed yes_is ek e er) l l₃ ir))))))))
           (λ h.
           let ir : Is N (K.refusal.part d) (EN.val (K.refusal.part d) ∷ []) = K.refusal.owed d id in
-          assigns_out ! (rest KY.ty KQ.ty fb fs fd fk ff fe) Post (of_opd ! (has_at ! 42 K.refusal d refl refl)) (from ! (stop !)) (init ! 18 refl (EN.typed 𝓛 (K.refusal.part d) ir).0) $
-          sets ! 56 refl (of_opd ! (loc ! 18 refl)) (EN.typed 𝓛 (K.refusal.part d) ir).0 $ gives_up ! C b o ys $
-          returns ! (look ! 56 refl) $ frees1 ! 56 refl refl $ frees1 ! 54 refl refl $ frees1 ! 52 refl refl $ frees1 ! 50 refl refl $ frees1 ! 48 refl refl $ frees1 ! 46 refl refl $ frees1 ! 44 refl refl $ frees1 ! 42 refl refl $ frees0 ! 40 refl refl $ frees0 ! 38 refl refl $ frees0 ! 36 refl refl $ frees1 ! 34 refl refl $ frees1 ! 32 refl refl $ frees1 ! 30 refl refl $ frees1 ! 28 refl refl $ frees1 ! 26 refl refl $ frees1 ! 24 refl refl $ frees1 ! 22 refl refl $ frees1 ! 20 refl refl $ frees1 ! 18 refl refl $ frees0 ! 16 refl refl $ frees0 ! 14 refl refl $ frees0 ! 12 refl refl $ frees0 ! 10 refl refl $ frees0 ! 8 refl refl $ frees0 ! 6 refl refl $ free0 ! $
+          assigns_out ! (rest KY.ty KQ.ty fb fs fd fk ff fe) Post (of_opd ! (has_at ! K.refusal d refl refl)) (from ! (stop !)) (set_at ! 19 refl (EN.typed 𝓛 (K.refusal.part d) ir).0) $
+          sets ! (of_opd ! (get ! refl)) refl (EN.typed 𝓛 (K.refusal.part d) ir).0 $ gives_up ! C b o ys $
+          returns ! (look_at ! 0 refl) $ free_all ! refl $
           move ! (3 ∷ []) $ gives_up ! u8 b₃ o₃ li $ keep ! (1 ∷ 2 ∷ 5 ∷ 3 ∷ 4 ∷ 0 ∷ []) $
-          by ! (exits (K.refusal.part d) ys li (Z.refuses ys m ln li a v d ea ev ed (failed (K.holds.part d) h)) refl refl ir)))))))))))))))))))))))))))))))
+          by ! (exits (K.refusal.part d) ys li (Z.refuses ys m ln li a v d ea ev ed (failed (K.holds.part d) h)) refl refl ir))))))
 
     pub sweeping_meets : Meets 𝓛 (ended Y Q).signature (WpFn 𝓤 H 𝓣.C 𝓣.Λ (function KY.ty KQ.ty fb fs fd fk ff fe)) (closing 𝓛 (ended Y Q) (clauses Y Q Z 𝓤))
     sweeping_meets =
         meets_by 𝓛 (ended Y Q) (stayed Y Q) (Goes-gave_slice 𝓛 4 0 tt (plain (λ _. C)), (Goes-dropped 𝓛 4 (shr_slice_of (1 ∷ []) tt (plain (λ _. u8))) yes (λ κs z f. refl), (Goes-dropped 𝓛 4 (shr_slice_of (2 ∷ []) tt (plain (λ _. u16))) yes (λ κs z f. refl), (Goes-gave_slice 𝓛 4 3 tt (plain (λ _. u8)), tt))))
         (clauses Y Q Z 𝓤) (function KY.ty KQ.ty fb fs fd fk ff fe) 𝓣
-        (λ κs. (shr_slice_vals, (shr_slice_vals, (shr_slice_vals, (shr_slice_vals, tt)))))
+        (λ κs. (mut_slice_vals, (shr_slice_vals, (shr_slice_vals, (mut_slice_vals, tt)))))
         (λ κs. (mut_slice_Tells (named 0) κs.0 C, (shr_slice_Tells (named 1) κs.1.0 u8, (shr_slice_Tells (named 2) κs.1.1.0 u16, (mut_slice_Tells (named 3) κs.1.1.1.0 u8, tt)))))
-        (λ κs qs bounds a g are. via 𝓤 _ (fst∗ 𝓤 _ (emp 𝓤)) (walk κs.0 κs.1.0 κs.1.1.0 κs.1.1.1.0 qs.0 qs.1.0 qs.1.1.0 qs.1.1.1.0 a.0.ref_ptr.0 a.0.ref_ptr.1 a.1.0.ref_ptr.0 a.1.0.ref_ptr.1 a.1.1.0.ref_ptr.0 a.1.1.0.ref_ptr.1 a.1.1.1.0.ref_ptr.0 a.1.1.1.0.ref_ptr.1 a.0.ghost_name a.1.0.ghost_name a.1.1.0.ghost_name a.1.1.1.0.ghost_name a.0.now a.1.0.now a.1.1.0.now a.1.1.1.0.now are.0.0.1 are.1.0.0.1 are.1.1.0.0.1 are.1.1.1.0.0.1))
+        (λ κs qs bounds a g are. via 𝓤 _ (fst∗ 𝓤 _ (emp 𝓤)) (walk κs.0 κs.1.0 κs.1.1.0 κs.1.1.1.0 qs.0 qs.1.0 qs.1.1.0 qs.1.1.1.0 a.0.ref_ptr.0 a.0.ref_ptr.1 a.1.0.ref_ptr.0 a.1.0.ref_ptr.1 a.1.1.0.ref_ptr.0 a.1.1.0.ref_ptr.1 a.1.1.1.0.ref_ptr.0 a.1.1.1.0.ref_ptr.1 a.0.ghost_name a.1.1.1.0.ghost_name a.0.now a.1.0.now a.1.1.0.now a.1.1.1.0.now are.0.0.1 are.1.0.0.1 are.1.1.0.0.1 are.1.1.1.0.0.1))

@@ -1,4 +1,4 @@
--- What a call that is done only where a test holds ensures, said by equations of records (`specs/Serving.antt`'s `doneBy`), in the form that the
+-- What a call that is done only where a test holds ensures, said by equations of records (`specs/Serving.antt`'s `done_by`), in the form that the
 -- walks take.
 --     sweeping     of `Sweeping.antt`, over an instance of `Sweep.antt`: of the lines begin makes B and start St; survey makes Sv, judge
 --                  Jd, the sweep is by F, conclude makes Cn and leaves the lines as Cl, and the call G, which is what they make together
@@ -6,8 +6,8 @@
 --     making       of `Making.antt`, over an instance of `Afresh.antt`: the same, with the table made by F of each of s. The test has that there
 --                  are as many of s as records (`may`)
 -- Assumes nothing.
-use mathlib.Core.Path.{◌≡◌, refl, sym, ap, subst, ◌∙◌}
-use mathlib.Core.Bool.{Bool, true, false}
+use mathlib.Core.Path.{◌≡◌, sym, ap, subst, ◌∙◌}
+use mathlib.Core.Bool.{Bool, true}
 use mathlib.Core.List.{List, map}
 use Prim.Native.Nat.{ℕ}
 use lib.ListN.{length}
