@@ -1,7 +1,7 @@
 -- Laws of an arrival: what its step asks of a packet that was found a channel, and one law for each case of that step.
 -- Assumes nothing.
 use mathlib.Core.Path.{◌≡◌, sym, ap, ap₂, ◌∙◌, subst}
-use mathlib.Core.Bool.{Bool, true, false, true≢false}
+use mathlib.Core.Bool.{Bool, true, false}
 use mathlib.Core.List.{List}
 use Prim.Native.Nat.{ℕ, ◌≤◌, ◌<◌}
 use native.Mathlib.Nat.{lt_irrefl}
@@ -26,7 +26,7 @@ use Rattle.table.specs.declared.looking.Sought.TheVariants.{Index, Question, Pac
 use Rattle.table.specs.declared.deciding.Decision.{Decision}
 use Rattle.table.specs.Looking.{same, addressed, graded_by, graded}
 use Rattle.table.specs.Surveying.{stepping}
-use Rattle.arrivals.specs.Finding.{look_of, prefix_read}
+use Rattle.arrivals.specs.Finding.{look_of}
 use Rattle.arrivals.proofs.FindLaws.{found, found_packet}
 use Rattle.arrivals.specs.Data.{reply_length, unfit}
 use Rattle.arrivals.specs.Arriving.{arrive_as, arrive_by, arrival_for, Framed}

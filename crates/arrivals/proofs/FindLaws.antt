@@ -1,23 +1,21 @@
 -- Laws of which channel an arrival is for: what a packet that was found a channel has shown.
 -- Assumes nothing.
-use mathlib.Core.Path.{◌≡◌, refl, ap, ap₂, ◌∙◌, subst}
+use mathlib.Core.Path.{◌≡◌, refl, subst}
 use mathlib.Core.Bool.{Bool, true, false}
-use mathlib.Core.List.{List, ◌++◌}
+use mathlib.Core.List.{List}
 use Prim.Native.Nat.{ℕ, ◌≤◌, ◌<◌}
 use native.Mathlib.Nat.{lt_irrefl}
 use native.Mathlib.Omega.{arith}
 use borrow.Author.Tests.{ltb-false}
 use lib.Dec.{ltb}
-use lib.ListN.{length, take, drop, replicate, length-drop}
-use lib.Seq.{take-length, length-take-le}
-use Rattle.packet.specs.Layout.{least, most_prefix, prefix_from, payload_at, fields_at, prefix_at, length_at}
+use lib.ListN.{length}
+use Rattle.packet.specs.Layout.{least, most_prefix, payload_at, fields_at, prefix_at, length_at}
 use Rattle.packet.specs.Tests.{short, damaged, lacking, strange}
 use Rattle.packet.specs.Reading.{read_of}
 use Rattle.packet.specs.declared.fields.Fields.{Fields}
 use Rattle.packet.specs.declared.reading.Read.TheVariants.{Found}
 use Rattle.packet.proofs.Tests.{sourced, sound}
 use Rattle.packet.proofs.ReadLaws.{accepted}
-use Rattle.channel.specs.Prefixes.{padded}
 use Rattle.channel.specs.declared.record.Node.{Node}
 use Rattle.channel.specs.declared.record.Channel.{Channel}
 use Rattle.channel.specs.declared.answer.Refusal.{Refusal}
@@ -86,12 +84,3 @@ module _ (s : List ℕ) (f : Fields) (n start x : ℕ) (e : read_of s ≡ Found 
         subst (λ (k : ℕ). k ≤ most_prefix) a.prefix (sound (fields_at s) (prefix_at s) (length_at s) a.base a.plain).prefix,
         omega (arith, sourced s a.long, a.prefix),
       )
-
--- its octets, copied into an array of zeros
-pub prefix_copied : (s src o : List ℕ) (n : ℕ) → src ≡ take n (drop prefix_from s) → payload_at n ≤ length s
-    → o ≡ take (length src) src ++ drop (length src) (replicate most_prefix 0)
-    → o ≡ padded n (take n (drop prefix_from s))
-prefix_copied s src o n e room eo =
-    let count : length src ≡ n = ap length e ∙ length-take-le n (drop prefix_from s) (omega (arith, length-drop prefix_from s)) in
-    let zeros : List ℕ = replicate most_prefix 0 in
-    eo ∙ ap₂ (λ (l : List ℕ) (k : ℕ). l ++ drop k zeros) (take-length src ∙ e) count

@@ -1,15 +1,17 @@
--- Laws of what an Ack or Flow Control states: where the number lies in the packet, and which end a packet of type 6 is for.
+-- Laws of type 6: which end a packet of it is for, and that it leaves the memory and the lengths.
 -- Assumes nothing.
-use mathlib.Core.Path.{◌≡◌, refl, sym, ap, ◌∙◌}
+use mathlib.Core.Path.{◌≡◌, refl, ◌∙◌}
 use mathlib.Core.Bool.{Bool, true, false}
 use mathlib.Core.List.{List, []}
-use Prim.Native.Nat.{ℕ, ◌+◌, ◌<◌}
-use native.Mathlib.Nat.{add-zero, pos_of_ne-zero}
+use Prim.Native.Nat.{ℕ}
 use borrow.Author.Tests.{eqb-true, eq-eqb}
 use lib.Dec.{eqb}
+<<<<<<< HEAD
 use lib.ListN.{get_or, take, drop}
 use lib.Seq.{get_or-take, get_or-drop}
-use Rattle.std.specs.Prelude.{if◌then◌else◌}
+use Rattle.std.specs.Prelude.{if◌then◌else◌, if◌then◌else◌}
+=======
+>>>>>>> 411ddc4aef0e97da47653cb4631e1a855397584f
 use Rattle.laws.proofs.Choice.{chosen}
 use Rattle.packet.specs.declared.fields.Fields.{Fields}
 use Rattle.packet.specs.declared.kinds.Kind.TheVariants.{FlowControl}
@@ -17,7 +19,7 @@ use Rattle.packet.specs.Kinds.{kind_of}
 use Rattle.channel.specs.declared.record.Addresses.{Addresses}
 use Rattle.channel.specs.declared.record.Prefix.{Prefix}
 use Rattle.channel.specs.Record.{sends, receives}
-use Rattle.table.specs.Looking.{same, flow_finds}
+use Rattle.table.specs.Looking.{same}
 use Rattle.table.proofs.OneLaws.{kind_finds}
 use Rattle.walks.specs.Serving.{Worked, works}
 use Rattle.channel.specs.declared.record.Node.{Node}
@@ -26,14 +28,7 @@ use Rattle.channel.specs.declared.step.Stepped.{Stepped}
 use Rattle.channel.specs.Flow.{flow_step, flow_ack_step}
 use Rattle.receiver.specs.declared.acks.Acked.TheVariants as acked
 use Rattle.arrivals.specs.Replying.{replying}
-use Rattle.arrivals.specs.Arriving.{stated_in, six_for}
-
-pub stated_none : (l : List ℕ) (n : ℕ) → n ≡ 0 → 0 ≡ stated_in (take n l)
-stated_none l n e = sym (ap (λ (k : ℕ). stated_in (take k l)) e)
-
-pub stated_some : (s : List ℕ) (start n : ℕ) → (n ≡ 0 → ⊥) → get_or s start 0 ≡ stated_in (take n (drop start s))
-stated_some s start n some =
-    sym (get_or-take n (drop start s) 0 0 (pos_of_ne-zero some) ∙ get_or-drop start s 0 0 ∙ ap (λ (k : ℕ). get_or s k 0) (add-zero start))
+use Rattle.arrivals.specs.Arriving.{six_for}
 
 -- what comes to a sender carries an octet
 pub six_carries : (a : Addresses) (f : Fields) (x : ℕ) (q : Prefix) → same a f x q ≡ true → kind_of f.kind ≡ FlowControl → (a.direction ≡ receives → ⊥) → x ≡ 0 → ⊥

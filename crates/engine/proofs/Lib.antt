@@ -1,4 +1,3 @@
-pub mod Types
 pub mod RecordLaws
 pub mod ReadingLaws
 pub mod Cutting

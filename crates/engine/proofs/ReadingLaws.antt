@@ -6,16 +6,16 @@ use mathlib.Core.List.{List, [], ◌∷◌, ◌++◌}
 use Prim.Native.Nat.{ℕ, ◌+◌, ◌-◌, ◌≤◌, ◌<◌}
 use native.Mathlib.Numerals.{add-one}
 use native.Mathlib.Omega.{arith}
-use borrow.Author.Tests.{eq-eqb, ne_eqb, lt-ltb, le-ltb, ltb-true, ltb-false, eqb-true, eqb-false}
+use borrow.Author.Tests.{lt-ltb, le-ltb, ltb-true, ltb-false, eqb-true, eqb-false}
 use lib.Dec.{ltb, eqb}
 use lib.ListN.{length, get_or, take, drop, set, length-set}
 use lib.Seq.{length-take-le, get_or-take, get_or-set_other, take-suc-set, drop-cons, drop-set-lt, drop-drop}
 use Rattle.std.specs.Prelude.{if◌then◌else◌}
 use Rattle.laws.proofs.Choice.{either_way, chosen, passed_by}
 use Rattle.laws.proofs.Lists.{take_drop}
-use Rattle.engine.specs.Trace.{Entry, Records, little_at, is_whole, entry_of, after, records_from}
+use Rattle.engine.specs.Trace.{Entry, little_at, is_whole, entry_of, after, records_from}
 use Rattle.engine.specs.declared.reading.Fed.{Fed}
-use Rattle.engine.specs.Reading.{unfinished, held_in, given, behind, Feeds}
+use Rattle.engine.specs.Reading.{unfinished, held_in, Feeds}
 
 -- ---- the first n octets of a buffer
 

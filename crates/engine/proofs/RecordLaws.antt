@@ -10,13 +10,12 @@ use lib.Dec.{eqb}
 use lib.ListN.{length, get_or, drop}
 use Rattle.std.specs.Prelude.{if◌then◌else◌}
 use Rattle.laws.proofs.Choice.{chosen, passed_by}
-use Rattle.walks.specs.Serving.{Called, Changed, leaves, changes, telling}
+use Rattle.walks.specs.Serving.{Changed, leaves, changes, telling}
 use Rattle.channel.specs.declared.record.Node.{Node}
 use Rattle.channel.specs.declared.record.Channel.{Channel}
 use Rattle.table.specs.declared.deciding.Told.{Told}
 use Rattle.table.specs.Serving.{told_of}
 use Rattle.ticks.specs.Ticks.{ticked, tick_index}
-use Rattle.node.specs.declared.request.Request.{Request}
 use Rattle.node.specs.declared.request.Request.TheVariants.{Open, Close, Transfer, Take, Reclaim, Arrival, NextPacket, Unknown}
 use Rattle.engine.specs.Asking.{indexed_by, request_of, octets_from}
 use Rattle.engine.specs.Records.{ticking, serving, replayed}

@@ -1,6 +1,6 @@
 -- A record that stands in a trace is read from it.
 -- Assumes nothing.
-use mathlib.Core.Path.{◌≡◌, refl, sym, ap, ap₂, ◌∙◌}
+use mathlib.Core.Path.{◌≡◌, ap, ap₂, ◌∙◌}
 use mathlib.Core.Bool.{true, false}
 use mathlib.Core.List.{List, [], ◌∷◌, ◌++◌}
 use Prim.Native.Nat.{ℕ, ◌+◌, ◌*◌, ◌/◌, ◌%◌, ◌≤◌, ◌<◌}
@@ -8,12 +8,15 @@ use native.Mathlib.Nat.{div-add-mod'}
 use native.Mathlib.Omega.{arith}
 use borrow.Author.Tests.{eq-eqb, ne_eqb, le-ltb}
 use lib.Dec.{ltb, eqb}
-use lib.ListN.{length, get_or, get_or-append}
+use lib.ListN.{length, get_or-append}
 use lib.Seq.{append_snoc}
+<<<<<<< HEAD
 use Rattle.std.specs.Prelude.{if◌then◌else◌}
+=======
+>>>>>>> 411ddc4aef0e97da47653cb4631e1a855397584f
 use Rattle.laws.proofs.Choice.{chosen, passed_by}
 use Rattle.laws.proofs.Lists.{length_snoc}
-use Rattle.engine.specs.Trace.{Entry, Records, little_at, is_whole, entry_of, after, records_from, records_of, written_as, WrittenThenRead}
+use Rattle.engine.specs.Trace.{little_at, is_whole, entry_of, after, records_from, records_of, written_as, WrittenThenRead}
 
 module _ (octets : List ℕ) (headed : 4 ≤ length octets) where
   whole_where : length octets ≡ 4 + little_at octets 0 → is_whole octets ≡ true

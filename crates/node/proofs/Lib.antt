@@ -1,2 +1,2 @@
-pub mod Types
 pub mod StepLaws
+pub mod DoorLaws

@@ -2,6 +2,7 @@
 // surveys the table, copies the record that the request is for out, steps it by value, stores it back, and moves its channel in the lines. Settings
 // and ticks go over the whole table.
 #![tactic(auto)]
+
 pub mod door;
 pub mod request;
 

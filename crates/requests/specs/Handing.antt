@@ -1,5 +1,5 @@
 -- The hand-out of the packet that goes next, of the channel and the rank that were chosen (document 01, Sending).
-use Rattle.std.specs.Prelude.{List, length}
+use Rattle.std.specs.Prelude.{length}
 use Rattle.walks.specs.Serving.{works}
 use Rattle.channel.specs.declared.record.Node.{Node}
 use Rattle.sender_packets.specs.HandingOut.{hand_step, hand_out}
