@@ -6,12 +6,7 @@ use mathlib.Core.List.{List, []}
 use Prim.Native.Nat.{ℕ}
 use borrow.Author.Tests.{eqb-true, eq-eqb}
 use lib.Dec.{eqb}
-<<<<<<< HEAD
-use lib.ListN.{get_or, take, drop}
-use lib.Seq.{get_or-take, get_or-drop}
-use Rattle.std.specs.Prelude.{if◌then◌else◌, if◌then◌else◌}
-=======
->>>>>>> 411ddc4aef0e97da47653cb4631e1a855397584f
+use Rattle.std.specs.Prelude.{if◌then◌else◌}
 use Rattle.laws.proofs.Choice.{chosen}
 use Rattle.packet.specs.declared.fields.Fields.{Fields}
 use Rattle.packet.specs.declared.kinds.Kind.TheVariants.{FlowControl}

@@ -1,9 +1,5 @@
 -- Which channel an arriving packet is for (document 01, Answer numbers: 'Arrivals test 11, 1, 2, 4, 3, 14, ..').
-<<<<<<< HEAD
-use Rattle.std.specs.Prelude.{ℕ, Bool, ◌&&◌, List, ltb, eqb, length, take, drop, if◌then◌else◌, if◌then◌else◌}
-=======
-use Rattle.std.specs.Prelude.{ℕ, Bool, ◌&&◌, List, ltb, eqb, take, drop}
->>>>>>> 411ddc4aef0e97da47653cb4631e1a855397584f
+use Rattle.std.specs.Prelude.{ℕ, Bool, ◌&&◌, List, ltb, eqb, take, drop, if◌then◌else◌}
 use Rattle.packet.specs.declared.fields.Fields.{Fields}
 use Rattle.packet.specs.declared.reading.Read.{Read}
 use Rattle.packet.specs.declared.reading.Read.TheVariants.{Found, Short, Damaged, Lacking, Strange}

@@ -5,12 +5,7 @@ use mathlib.Core.Bool.{Bool, true, false}
 use mathlib.Core.List.{List, [], ◌∷◌, ◌++◌}
 use Prim.Native.Nat.{ℕ}
 use native.Mathlib.Omega.{arith}
-<<<<<<< HEAD
-use lib.ListN.{length, take, drop, drop_of_length-le}
-use Rattle.std.specs.Prelude.{if◌then◌else◌}
-=======
 use lib.ListN.{take, drop, drop_of_length-le}
->>>>>>> 411ddc4aef0e97da47653cb4631e1a855397584f
 use Rattle.engine.specs.Trace.{Entry, Records, is_whole, entry_of, after, records_from}
 use Rattle.engine.specs.Reading.{held_in, given, behind, joined, ReadOn, used_up, fed, ReadAll, at_end, piece_read, AnyCutting}
 use Rattle.engine.proofs.ReadingLaws.{head_held}

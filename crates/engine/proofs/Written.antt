@@ -10,10 +10,6 @@ use borrow.Author.Tests.{eq-eqb, ne_eqb, le-ltb}
 use lib.Dec.{ltb, eqb}
 use lib.ListN.{length, get_or-append}
 use lib.Seq.{append_snoc}
-<<<<<<< HEAD
-use Rattle.std.specs.Prelude.{if◌then◌else◌}
-=======
->>>>>>> 411ddc4aef0e97da47653cb4631e1a855397584f
 use Rattle.laws.proofs.Choice.{chosen, passed_by}
 use Rattle.laws.proofs.Lists.{length_snoc}
 use Rattle.engine.specs.Trace.{little_at, is_whole, entry_of, after, records_from, records_of, written_as, WrittenThenRead}

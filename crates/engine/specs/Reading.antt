@@ -1,9 +1,5 @@
 -- What the reader of a trace promises of one call, and of any number of calls over any pieces.
-<<<<<<< HEAD
-use Rattle.std.specs.Prelude.{◌≡◌, Bool, true, false, List, [], ◌∷◌, ◌++◌, ℕ, ◌+◌, ◌-◌, ◌≤◌, ◌<◌, ltb, length, take, drop, if◌then◌else◌, if◌then◌else◌}
-=======
-use Rattle.std.specs.Prelude.{◌≡◌, true, false, List, [], ◌∷◌, ◌++◌, ℕ, ◌+◌, ◌-◌, ◌≤◌, ◌<◌, ltb, length, take, drop}
->>>>>>> 411ddc4aef0e97da47653cb4631e1a855397584f
+use Rattle.std.specs.Prelude.{◌≡◌, true, false, List, [], ◌∷◌, ◌++◌, ℕ, ◌+◌, ◌-◌, ◌≤◌, ◌<◌, ltb, length, take, drop, if◌then◌else◌}
 use Rattle.engine.specs.declared.reading.Fed.{Fed}
 use Rattle.engine.specs.Trace.{Entry, Records, little_at, records_from, records_of}
 

@@ -1,5 +1,4 @@
 pub mod OneLaws
-pub mod Types
 pub mod SeenLaws
 pub mod AgreeLaws
 pub mod Promises

@@ -6,10 +6,8 @@ use mathlib.Core.List.{List}
 use Prim.Native.Nat.{ℕ, suc, ◌+◌, ◌-◌, ◌≤◌, ◌<◌}
 use native.Mathlib.Omega.{arith}
 use borrow.Author.Tests.{lt-ltb, le-ltb, le-leb, lt-leb}
-use lib.Dec.{leb}
 use Rattle.channel.specs.declared.record.Addresses.{Addresses}
 use Rattle.channel.specs.declared.record.Settings.{Settings}
-use Rattle.channel.specs.Record.{receives}
 use Rattle.channel.specs.Settings.{fit, fit_addresses, fit_limits, clash}
 use Rattle.channel.proofs.SettingsLaws.{fit_is}
 use Rattle.laws.proofs.Choice.{both}

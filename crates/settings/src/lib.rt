@@ -1,6 +1,7 @@
 // The call `settings`, for a whole table at once (document 01, A channel's record and memory): the settings are looked at one after another, and
 // where table, memory, lengths and lines are what they ask for, every channel is made CLOSED and empty. No old record is read.
 #![tactic(auto)]
+
 pub mod configuring;
 pub mod pairing;
 pub mod seeing;

@@ -5,5 +5,5 @@ pub mod SurveyLaws
 pub mod ServeLaws
 pub mod Parts
 pub mod Looked
-pub mod Types
 pub mod FirstLaws
+pub mod Folds

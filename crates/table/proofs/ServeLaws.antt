@@ -1,22 +1,21 @@
--- The survey and what is decided of it amount to `serveOne`, for any step; and the record that is served has what its step asks.
+-- The survey and what is decided of it amount to `serve_one`, for any step; and the record that is served has what its step asks.
 -- Assumes nothing.
 use mathlib.Core.Path.{◌≡◌, refl, sym, ap, ap₂, ◌∙◌, subst}
-use mathlib.Core.Bool.{Bool, true, false, not, ◌&&◌, true≢false, false≢true}
+use mathlib.Core.Bool.{Bool, true, false, ◌&&◌, true≢false, false≢true}
 use mathlib.Core.List.{List, [], ◌∷◌}
-use Prim.Native.Nat.{ℕ, ◌+◌, ◌*◌, ◌≤◌, ◌<◌}
+use Prim.Native.Nat.{ℕ, ◌+◌, ◌≤◌, ◌<◌}
 use native.Mathlib.Nat.{zero-add, lt_irrefl}
 use native.Mathlib.Omega.{arith}
 use borrow.Author.Tests.{ltb-true, ltb-false, lt-ltb, le-ltb, le-leb, leb-true, eqb-true, eq-eqb}
 use lib.Dec.{ltb, leb, eqb}
-use lib.ListN.{length, get_or, set, take, drop, length-take, length-drop}
+use lib.ListN.{length, get_or, set, take, drop, length-drop}
 use lib.Seq.{length-take-le}
-use Rattle.std.specs.Prelude.{if◌then◌else◌}
-use Rattle.laws.proofs.Choice.{both, chosen, passed_by}
-use Rattle.slots.specs.Slots.{Sized, laid}
+use Rattle.laws.proofs.Choice.{both, chosen}
+use Rattle.slots.specs.Slots.{laid}
 use Rattle.lines.specs.Lines.{no_lines}
 use Rattle.lines.specs.Fit.{fit_lines}
 use Rattle.lines.proofs.FitLaws.{fit_test, fit_facts, tested}
-use Rattle.walks.specs.Serving.{Worked, Called, works, leaves, served_by, saying}
+use Rattle.walks.specs.Serving.{Worked, Called, leaves, served_by, saying}
 use Rattle.channel.specs.declared.record.Channel.{Channel}
 use Rattle.channel.specs.declared.answer.Answer.{Answer}
 use Rattle.channel.specs.declared.answer.Answer.TheVariants.{Refused}
@@ -31,13 +30,13 @@ use Rattle.table.specs.declared.looking.Look.{Look}
 use Rattle.table.specs.declared.surveying.Survey.{Survey}
 use Rattle.table.specs.declared.surveying.Spot.{Spot}
 use Rattle.table.specs.declared.deciding.Decision.{Decision}
-use Rattle.table.specs.Looking.{graded, missing, Chosen, chosen_from, is_found, chosen as choice}
+use Rattle.table.specs.Looking.{graded, missing, chosen_from, chosen as choice}
 use Rattle.table.specs.Lent.{area_of, part_of, all_slots, all_octets, slot_at, octet_at, each_stands, lawful, passes}
 use Rattle.table.specs.Waiting.{rank_in, moved}
-use Rattle.table.specs.Serving.{blank, record_at, own_mem, own_lens, Step, stored, worked, serve_one, index_served, told_of}
-use Rattle.table.specs.Surveying.{begun, better, survey_one, surveyed, is_sound, decided, refused_by, served_by as served, told_roles, placed, mine, mine_lens, wholly, stepping, Served, Lined}
+use Rattle.table.specs.Serving.{blank, record_at, Step, stored, worked, serve_one, index_served, told_of}
+use Rattle.table.specs.Surveying.{begun, better, surveyed, is_sound, decided, refused_by, served_by as served, told_roles, placed, mine_lens, stepping, Served, Lined}
 use Rattle.table.proofs.OneLaws.{decided_bad, decided_found, decided_none}
-use Rattle.table.proofs.Spots.{spot_from, far, spot_grade, chosen_at, Lies, spot_lies, Suits, chosen_suits}
+use Rattle.table.proofs.Spots.{spot_from, far, spot_grade, chosen_at, spot_lies, chosen_suits}
 use Rattle.table.proofs.SurveyLaws.{each_stands_lem, slots_within, octets_within, Going, stays_spoilt, survey_good, survey_bad, finally}
 
 -- ---- the test for 13
@@ -380,7 +379,7 @@ module _ (look : Look) (t : List Channel) (mem lens lines : List ℕ) where
       go true p = let h = passing_is t mem lens lines p in decided_look (surveyed t lens (begun look lines)) (length t) (length mem) (length lens) ∙ ap (λ (w : Survey). w.look) (good look t mem lens lines h)
       go false p = absurd (lt_irrefl (length t) (subst (λ (d : Decision). d.at < length t) (is_unlawful p) l))
 
-  -- the call is what `serveOne` says
+  -- the call is what `serve_one` says
   pub agreed : (step : Step) (out : List ℕ)
       → served_with (ltb decision_of.at (length t)) decision_of t mem lens lines out (stepping step (record_at t decision_of.at) decision_of mem lens out)
       ≡ serve_one look step t mem lens lines out

@@ -1,20 +1,19 @@
--- The record that suits best, as the survey finds it from the first record on, and as `chosenFrom` says it.
+-- The record that suits best, as the survey finds it from the first record on, and as `chosen_from` says it.
 -- Assumes nothing.
-use mathlib.Core.Path.{◌≡◌, refl, sym, ap, ap₂, ◌∙◌}
+use mathlib.Core.Path.{◌≡◌, refl, sym, ap, ◌∙◌}
 use mathlib.Core.Bool.{Bool, true, false}
 use mathlib.Core.List.{List, [], ◌∷◌}
-use Prim.Native.Nat.{ℕ, zero, suc, ◌+◌, ◌≤◌, ◌<◌, suc-le-suc}
-use native.Mathlib.Nat.{add-zero, add-suc, add_assoc}
+use Prim.Native.Nat.{ℕ, suc, ◌+◌, ◌<◌, suc-le-suc}
+use native.Mathlib.Nat.{add-zero, add-suc}
 use native.Mathlib.Omega.{arith}
 use borrow.Author.Tests.{ltb-true, ltb-false, leb-true, leb-false, lt-ltb, le-ltb}
 use lib.Dec.{ltb, leb}
 use lib.ListN.{length, get_or, take}
 use Rattle.std.specs.Prelude.{if◌then◌else◌}
-use Rattle.laws.proofs.Choice.{chosen, passed_by}
 use Rattle.channel.specs.declared.record.Channel.{Channel}
 use Rattle.table.specs.declared.looking.Look.{Look}
 use Rattle.table.specs.declared.surveying.Spot.{Spot}
-use Rattle.table.specs.Looking.{graded, Chosen, chosen_from}
+use Rattle.table.specs.Looking.{graded, chosen_from}
 use Rattle.table.specs.Lent.{area_of, all_slots, all_octets}
 use Rattle.table.specs.Serving.{blank}
 use Rattle.table.specs.Surveying.{better}

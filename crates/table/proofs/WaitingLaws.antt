@@ -1,20 +1,18 @@
 -- Laws of who waits: a sender by what is ready, a receiver by its Heartbeat; the rank of a grade; and when a call moves its channel in the lines.
 -- Assumes nothing.
 use mathlib.Core.Path.{◌≡◌, refl, sym, ap, ◌∙◌, subst}
-use mathlib.Core.Bool.{Bool, true, false, ◌&&◌}
+use mathlib.Core.Bool.{Bool, true, false}
 use mathlib.Core.List.{List}
-use Prim.Native.Nat.{ℕ, zero, suc, ◌+◌, ◌*◌, ◌≤◌, ◌<◌}
+use Prim.Native.Nat.{ℕ, zero, suc, ◌+◌, ◌*◌, ◌<◌}
 use native.Mathlib.Omega.{arith}
 use borrow.Author.Tests.{lt-ltb, le-ltb, eq-eqb, ne_eqb, eqb-true, eqb-false}
 use lib.Dec.{ltb, eqb}
 use Rattle.laws.proofs.Choice.{chosen, passed_by, both, by_test, either_way}
-use Rattle.lines.specs.Lines.{stands, before, line_at, of_rank}
-use Rattle.lines.proofs.GradeLaws.{Found, found, Waiting}
+use Rattle.lines.specs.Lines.{before, line_at, of_rank}
+use Rattle.lines.proofs.GradeLaws.{found, Waiting}
 use Rattle.channel.specs.declared.record.Channel.{Channel}
 use Rattle.channel.specs.declared.step.Stepped.{Stepped}
 use Rattle.channel.specs.Record.{sends}
-use Rattle.sender_packets.specs.declared.handing.Ranks.{Ranks}
-use Rattle.sender_packets.specs.Asked.{Ready}
 use Rattle.sender_packets.specs.HandingOut.{ready_open, ready, ranks_of}
 use Rattle.sender_packets.proofs.HandLaws.{ready_beside_lem}
 use Rattle.table.specs.declared.looking.Sought.{Sought}

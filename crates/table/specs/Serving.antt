@@ -1,6 +1,6 @@
 -- A call that serves one channel: the test for 13, then the record that it is for (14, 12), then that channel's own step on its record, its
 -- octets and its lengths, and its place in the lines (document 02, A4); all else stays as it was (document 01, Answer numbers: 'reads and changes its own channel alone').
-use Rattle.std.specs.Prelude.{ℕ, Bool, not, List, length, get_or, set, if◌then◌else◌}
+use Rattle.std.specs.Prelude.{ℕ, not, List, length, get_or, set, if◌then◌else◌}
 use Rattle.slots.specs.Slots.{laid}
 use Rattle.walks.specs.Serving.{Worked, Called, Changed, works, leaves, changes}
 use Rattle.channel.specs.declared.record.Settings.{Settings}

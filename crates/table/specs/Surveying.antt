@@ -1,5 +1,5 @@
--- How the survey of a table goes, record by record. What it amounts to is `serveOne` (Serving.antt): a reader need not look here.
-use Rattle.std.specs.Prelude.{◌≡◌, ℕ, ◌+◌, ◌≤◌, ◌<◌, Bool, true, false, not, ◌&&◌, List, ltb, leb, eqb, length, take, drop, if◌then◌else◌}
+-- How the survey of a table goes, record by record. What it amounts to is `serve_one` (Serving.antt): a reader need not look here.
+use Rattle.std.specs.Prelude.{◌≡◌, ℕ, ◌+◌, ◌≤◌, ◌<◌, Bool, true, false, not, ◌&&◌, List, ltb, leb, eqb, length, if◌then◌else◌}
 use Rattle.slots.specs.Slots.{Sized, laid}
 use Rattle.walks.specs.Fold.{fold_from}
 use Rattle.lines.specs.Lines.{no_lines}

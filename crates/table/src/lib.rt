@@ -2,6 +2,7 @@
 // best, and what it decides (document 01, A channel's record and memory, Answer numbers 13 and 14); and who waits to hand out a packet, and what a
 // call does to the lines (document 02, A4, in place of 01's order of channels).
 #![tactic(auto)]
+
 pub mod beginning;
 pub mod deciding;
 pub mod looking;

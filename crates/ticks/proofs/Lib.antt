@@ -1,3 +1,3 @@
 pub mod TickLaws
 pub mod SweepLaws
-pub mod Types
+pub mod Turns

@@ -1,6 +1,6 @@
 -- A tick of one channel, at either end (document 01, Answer numbers: 'A tick treats each channel alone'), and what a tick of the table has seen so
 -- far.
-use Rattle.std.specs.Prelude.{ℕ, ◌+◌, Bool, true, false, List, ltb, eqb, if◌then◌else◌}
+use Rattle.std.specs.Prelude.{ℕ, ◌+◌, true, false, List, ltb, eqb, if◌then◌else◌}
 use Rattle.channel.specs.declared.record.Channel.{Channel}
 use Rattle.channel.specs.declared.step.Ticked.{Ticked}
 use Rattle.lines.specs.Fit.{relist_fit}

@@ -1,6 +1,6 @@
 -- The call `tick`, as one function of what it is given: every channel is ticked, each alone (document 01, Answer numbers),
 -- and then joins and leaves the lines by what is ready (document 02, A4).
-use Rattle.std.specs.Prelude.{Bool, true, false, ◌||◌, List, [], ◌∷◌, map, ℕ, suc, ◌+◌, eqb, length, if◌then◌else◌}
+use Rattle.std.specs.Prelude.{Bool, false, ◌||◌, List, [], ◌∷◌, map, ℕ, suc, ◌+◌, eqb, length, if◌then◌else◌}
 use Rattle.walks.specs.Sweep.{sweep_t, sweep_a}
 use Rattle.walks.specs.Serving.{Changed, changes}
 use Rattle.lines.specs.Lines.{no_lines}
