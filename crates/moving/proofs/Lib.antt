@@ -1,2 +1,3 @@
 pub mod FetchLaws
 pub mod RefileLaws
+pub mod PartLaws

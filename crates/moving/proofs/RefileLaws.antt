@@ -1,17 +1,17 @@
 -- Laws of a unit that is filed anew: its segments, and the part that it is filed in.
 -- Assumes nothing.
-use mathlib.Core.Path.{◌≡◌, refl, sym, ap, ap₂, ◌∙◌, subst}
-use mathlib.Core.Logic.{◌⊎◌, inl, inr, ⊎_elim}
-use mathlib.Core.List.{List, [], ◌∷◌, ◌++◌}
-use Prim.Native.Nat.{ℕ, zero, suc, min, ◌+◌, ◌-◌, ◌*◌, ◌≤◌, ◌<◌}
+use mathlib.Core.Path.{◌≡◌, sym, ap, ◌∙◌}
+use mathlib.Core.Logic.{⊎_elim}
+use mathlib.Core.List.{List, ◌∷◌}
+use Prim.Native.Nat.{ℕ, suc, min, ◌+◌, ◌-◌, ◌*◌, ◌≤◌, ◌<◌}
 use native.Mathlib.Nat.{zero-mul}
 use native.Mathlib.Omega.{arith}
-use lib.ListN.{length, get_or, set, take, drop, length-drop, length-take}
-use lib.Seq.{length-take-le, take_all, drop-drop}
+use lib.ListN.{length, set, take, drop, length-drop, length-take}
+use lib.Seq.{take_all, drop-drop}
 use Rattle.laws.proofs.Numbers.{lt_cases}
-use Rattle.slots.specs.Slots.{Sized, laid}
+use Rattle.slots.specs.Slots.{laid}
 use Rattle.slots.specs.Units.{segments_of, segment_cut}
-use Rattle.slots.proofs.SlotLaws.{laid_length, laid_here, laid_led}
+use Rattle.slots.proofs.SlotLaws.{laid_here, laid_led}
 use Rattle.slots.proofs.Units.{cut_later}
 use Rattle.channel.specs.Pairs.{again}
 use Rattle.store.proofs.Laws.{segment_starts, past_front}
