@@ -6,7 +6,7 @@ use Rattle.channel.specs.declared.record.Channel.{Channel}
 use Rattle.table.specs.Serving.{record_at, own_mem, own_lens}
 use Rattle.delivery.specs.Calls.{End, Request, after_call, called}
 use Rattle.delivery.specs.History.{Side, host, subscriber, Call, Event}
-use Rattle.delivery.specs.Delivery.{Fresh, Alike, Run, begin, event_of, step, run, Fair, AllFair, Delivered, Demand3}
+use Rattle.delivery.specs.Delivery.{Fresh, Alike, Run, event_of, step, run, Fair, AllFair, Delivered, Demand3}
 use Rattle.delivery.proofs.Nodes.{end_with, kept_called}
 use Rattle.delivery.proofs.Run.{Holds, begins, delivered}
 use Rattle.delivery.proofs.HostFrame.{HostNext}

@@ -14,7 +14,7 @@ use Rattle.table.proofs.ServeLaws.{lawful_is}
 use Rattle.ticks.proofs.TickLaws.{tick_sends}
 use Rattle.means.specs.Held.{units_held}
 use Rattle.means.proofs.UnitsStay.{tick_units}
-use Rattle.delivery.specs.Calls.{End, units_of}
+use Rattle.delivery.specs.Calls.{units_of}
 use Rattle.delivery.specs.Held.{HeldThroughTick}
 use Rattle.delivery.proofs.Ticked.{tick_seen}
 

@@ -1,19 +1,19 @@
 -- An arrival at the host: a Data Ack for the channel that is watched is the protocol's, a Control Ack moves its phase, a Heartbeat and its Ack are
 -- nothing to the protocol, and what else is for another channel does not name this one.
 -- Assumes nothing.
-use mathlib.Core.Path.{◌≡◌, refl, sym, ap, ap₂, ◌∙◌, subst}
-use mathlib.Core.Bool.{Bool, true, false, true≢false, false≢true, ◌&&◌, ◌||◌}
+use mathlib.Core.Path.{◌≡◌, refl, sym, ap, ◌∙◌, subst}
+use mathlib.Core.Bool.{Bool, true, false, true≢false, false≢true}
 use mathlib.Core.List.{List}
 use Prim.Native.Nat.{ℕ, ◌+◌, ◌≤◌, ◌<◌}
 use native.Mathlib.Omega.{arith}
-use borrow.Author.Tests.{eqb-true, eqb-false, ne_eqb, ltb-true, ltb-false}
+use borrow.Author.Tests.{ne_eqb, ltb-true, ltb-false}
 use lib.Dec.{ltb, eqb}
 use lib.ListN.{length}
 use Rattle.std.specs.Prelude.{if◌then◌else◌}
 use Rattle.laws.proofs.Choice.{either, either_way, chosen, passed_by}
 use Rattle.packet.specs.declared.kinds.Kind as packets
 use Rattle.packet.specs.declared.kinds.Kind.TheVariants as packet-kind
-use Rattle.packet.specs.Kinds.{kind_of, is_data}
+use Rattle.packet.specs.Kinds.{kind_of}
 use Rattle.packet.specs.declared.fields.Fields.{Fields}
 use Rattle.packet.specs.Layout.{least, fields_at, prefix_at, length_at, payload_at, payload_in}
 use Rattle.channel.specs.declared.record.Node.{Node}
@@ -66,7 +66,7 @@ use Rattle.means.proofs.SenderControl.{stays, control_ack_sends, pulse_sender_mo
 use Rattle.means.proofs.Pulses.{pulse_sends, heartbeat_sends, heartbeat_ack_sends, flow_sends}
 use Rattle.means.proofs.SenderAcks.{ack_sends, ack_near}
 use Rattle.delivery.specs.Calls.{End, arrives, Request, channel_of}
-use Rattle.delivery.specs.History.{Event, names, is_free, binds, IsData, IsDataAck, Replied, confirmed}
+use Rattle.delivery.specs.History.{Event, names, is_free, binds, IsDataAck, Replied, confirmed}
 use Rattle.delivery.specs.Delivery.{NotLate}
 use Rattle.delivery.proofs.Nodes.{end_with}
 use Rattle.delivery.proofs.Known.{limits}

@@ -1,11 +1,10 @@
 -- A call at the host, seen at the channel that is watched: what is to be shown of it, and the case where it changes nothing there.
 -- Assumes nothing.
 use mathlib.Core.Path.{◌≡◌, refl, sym, ◌∙◌, subst}
-use mathlib.Core.Bool.{Bool, true, false, true≢false}
+use mathlib.Core.Bool.{Bool, true, false, cond, true≢false}
 use mathlib.Core.List.{List, ◌∷◌}
 use mathlib.Core.Logic.{◌⊎◌, inr, ⊎_elim}
 use Prim.Native.Nat.{ℕ, ◌≤◌}
-use Rattle.std.specs.Prelude.{if◌then◌else◌}
 use Rattle.packet.specs.Layout.{fields_at, payload_in}
 use Rattle.channel.specs.declared.record.Channel.{Channel}
 use Rattle.channel.specs.declared.answer.Answer.{Answer}
@@ -38,7 +37,7 @@ sent_before (SenderCall.control p) a i g x = x
 sent_before (SenderCall.transfer u) a i g x = x
 sent_before (SenderCall.hand_out j) a i g {P = P} x = go (protocol.done a)
   where
-    go : (b : Bool) → if b then ((j ≡ i) × (a.segment ≡ g)) ⊎ P else P
+    go : (b : Bool) → cond b (((j ≡ i) × (a.segment ≡ g)) ⊎ P) P
     go true = inr x
     go false = x
 sent_before (SenderCall.ack j q) a i g x = x

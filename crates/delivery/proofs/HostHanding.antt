@@ -21,7 +21,6 @@ use Rattle.channel.specs.declared.record.Channel.{Channel}
 use Rattle.channel.specs.declared.answer.Answer.{Answer}
 use Rattle.channel.specs.declared.answer.Answer.TheVariants.{Done, Refused}
 use Rattle.channel.specs.declared.answer.Refusal.{Refusal}
-use Rattle.channel.specs.declared.answer.Refusal.TheVariants as refusal
 use Rattle.channel.specs.declared.step.Stepped.{Stepped}
 use Rattle.channel.specs.Answers.{length_of}
 use Rattle.channel.specs.declared.record.Prefix.{Prefix}

@@ -1,15 +1,13 @@
 -- What a node keeps over every call, whatever it is: it passes the test for 13, and its addresses and limits are those of the beginning.
 -- Assumes nothing.
-use mathlib.Core.Path.{◌≡◌, refl, sym, ap, ap₂, ◌∙◌, subst}
-use mathlib.Core.Bool.{Bool, true, false}
+use mathlib.Core.Path.{◌≡◌, refl, sym, ap, ◌∙◌, subst}
+use mathlib.Core.Bool.{true}
 use mathlib.Core.List.{List, [], ◌∷◌, map}
 use Prim.Native.Nat.{ℕ, zero, suc, ◌≤◌, ◌<◌}
 use native.Mathlib.Omega.{arith}
 use lib.ListN.{length, drop, get_or, length-map, length-drop}
 use lib.Seq.{length-take-le}
 use Rattle.walks.specs.Serving.{Called}
-use Rattle.channel.specs.declared.record.Addresses.{Addresses}
-use Rattle.channel.specs.declared.record.Limits.{Limits}
 use Rattle.channel.specs.declared.record.Channel.{Channel}
 use Rattle.channel.specs.declared.answer.Answer.{Answer}
 use Rattle.channel.specs.Asked.{Asked}
@@ -22,7 +20,7 @@ use Rattle.table.proofs.SurveyLaws.{each_stands_lem}
 use Rattle.table.proofs.ServeLaws.{lawful_is}
 use Rattle.node.specs.declared.request.Request as door
 use Rattle.node.specs.declared.request.Request.TheVariants.{Open, Close, Transfer, WouldTransfer, Take, Reclaim, Arrival, NextPacket, Unknown}
-use Rattle.keeps.specs.Keeping.{Wide, SettingsStay, addresses_in, limits_in}
+use Rattle.keeps.specs.Keeping.{Wide, SettingsStay}
 use Rattle.keeps.proofs.Serving.{octets_inside}
 use Rattle.keeps.proofs.CallsKeep.{tick_lawful}
 use Rattle.keeps.proofs.Marks.{tick_wide}

@@ -1,14 +1,14 @@
 -- The channel that is watched, through a call that serves one channel: it is as it was, since the call refuses or serves another, or it is as its
 -- own step leaves it.
 -- Assumes nothing.
-use mathlib.Core.Path.{◌≡◌, refl, sym, ap, ◌∙◌, subst}
+use mathlib.Core.Path.{◌≡◌, refl, sym, ◌∙◌, subst}
 use mathlib.Core.Bool.{Bool, true, false}
 use mathlib.Core.List.{List}
 use Prim.Native.Nat.{ℕ, ◌<◌}
 use borrow.Author.Tests.{eqb-true, eqb-false, lt-ltb, ltb-true}
 use lib.Dec.{eqb}
 use lib.ListN.{length}
-use Rattle.walks.specs.Serving.{Worked, Called, leaves}
+use Rattle.walks.specs.Serving.{Worked, Called}
 use Rattle.channel.specs.declared.record.Channel.{Channel}
 use Rattle.channel.specs.declared.answer.Answer.{Answer}
 use Rattle.channel.specs.declared.answer.Answer.TheVariants.{Refused}

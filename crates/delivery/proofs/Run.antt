@@ -1,25 +1,24 @@
 -- What is known of a run: it holds at the beginning, and says what demand 3 claims.
 -- Assumes nothing.
-use mathlib.Core.Path.{◌≡◌, refl, sym, ap, ap₂, ◌∙◌, subst}
-use mathlib.Core.List.{List, [], ◌∷◌, ◌++◌}
+use mathlib.Core.Path.{refl, sym, ap, ◌∙◌, subst}
+use mathlib.Core.List.{List, [], ◌++◌}
 use Prim.Native.Nat.{ℕ, suc, ◌≤◌}
-use lib.ListN.{length, take}
+use lib.ListN.{take}
 use Rattle.channel.specs.declared.record.Channel.{Channel}
 use Rattle.channel.proofs.SettingsLaws.{fit_is}
 use Rattle.table.specs.Serving.{record_at, own_mem, own_lens}
 use Rattle.protocol.specs.Units.{DataUnit}
-use Rattle.protocol.specs.Sending.{Sender, fresh_sender, held}
-use Rattle.protocol.specs.Receiving.{Receiver, fresh_receiver, waiting}
-use Rattle.protocol.proofs.Delivered.{starts, Accounts, told}
-use Rattle.means.specs.Held.{units_held}
+use Rattle.protocol.specs.Sending.{Sender, fresh_sender}
+use Rattle.protocol.specs.Receiving.{Receiver, fresh_receiver}
+use Rattle.protocol.proofs.Delivered.{starts, told}
 use Rattle.means.proofs.Sends.{fresh_sends}
 use Rattle.means.proofs.SenderHeld.{sends_held}
 use Rattle.means.proofs.Receives.{fresh_receives}
 use Rattle.means.proofs.ReceiverHeld.{receives_held}
 use Rattle.delivery.specs.Calls.{End, channel_of}
 use Rattle.delivery.specs.History.{Event, accepted, confirmed, reclaimed, taken}
-use Rattle.delivery.specs.Delivery.{Fresh, Alike, Run, Delivered}
-use Rattle.delivery.proofs.Nodes.{end_with, Kept, same_addresses, same_length, own_asked}
+use Rattle.delivery.specs.Delivery.{Fresh, Alike, Delivered}
+use Rattle.delivery.proofs.Nodes.{end_with, same_addresses, same_length, own_asked}
 use Rattle.delivery.proofs.Known.{Out, Back, limits, InvOf, Numbered, Host, Subscriber, inv_links}
 
 module _ (h s : End) (fresh-h : Fresh h) (fresh-s : Fresh s) (alike : Alike h s) where

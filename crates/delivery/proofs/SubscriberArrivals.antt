@@ -3,7 +3,7 @@
 -- Ack for the host.
 -- Assumes nothing.
 use mathlib.Core.Path.{◌≡◌, refl, sym, ap, ◌∙◌, subst}
-use mathlib.Core.Bool.{Bool, true, false, true≢false, ◌||◌}
+use mathlib.Core.Bool.{Bool, true, false, true≢false}
 use mathlib.Core.List.{List, []}
 use mathlib.Core.Logic.{◌⊎◌, ⊎_elim}
 use Prim.Native.Nat.{ℕ, ◌≤◌, ◌<◌}
@@ -27,7 +27,7 @@ use Rattle.channel.specs.declared.answer.Answer.TheVariants.{Refused}
 use Rattle.channel.specs.declared.answer.Refusal as refusals
 use Rattle.channel.specs.declared.answer.Refusal.TheVariants as refusal
 use Rattle.channel.specs.declared.step.Stepped.{Stepped}
-use Rattle.channel.specs.Record.{sends, receives}
+use Rattle.channel.specs.Record.{receives}
 use Rattle.channel.specs.Answers.{length_of}
 use Rattle.channel.specs.Prefixes.{fit_prefix, same_prefix}
 use Rattle.channel.proofs.StandingLaws.{own_fits}

@@ -1,7 +1,7 @@
 -- Data for the subscriber's channel is an arrival at the protocol's receiver, with the same Data Ack.
 -- Assumes nothing.
 use mathlib.Core.Path.{◌≡◌, refl, sym, ap, ap₂, ◌∙◌, subst, subst₃}
-use mathlib.Core.Bool.{Bool, true, false, ◌||◌}
+use mathlib.Core.Bool.{Bool, true, false, ◌||◌, cond}
 use mathlib.Core.List.{List, []}
 use mathlib.Core.Logic.{◌⊎◌, inl, ⊎_elim}
 use mathlib.Core.Option.{Option, none, some}
@@ -10,7 +10,6 @@ use native.Mathlib.Omega.{arith}
 use borrow.Author.Tests.{eqb-true, eqb-false}
 use lib.Dec.{eqb, ltb, leb}
 use lib.ListN.{length, take}
-use Rattle.std.specs.Prelude.{if◌then◌else◌}
 use Rattle.packet.specs.declared.kinds.Kind.TheVariants.{Data, DataAck}
 use Rattle.packet.specs.Kinds.{kind_of}
 use Rattle.packet.proofs.KindLaws.{kind_back}
@@ -156,7 +155,7 @@ module _ {h s : End} {past : List Event} {x : Sender} {y : Receiver} {t : List C
     Reply a = Replying h s past x y w.inv w.numbered (small w) request copy n (index_for w request) a (out_of a) call
 
     abbrev Acked : ℕ → Bool → Type 0
-    Acked j b = if b then (copy ≡ j) ⊎ Back h s past j else Back h s past j
+    Acked j b = cond b ((copy ≡ j) ⊎ Back h s past j) (Back h s past j)
 
     fits : fit_prefix c.addresses.own ≡ true
     fits = own_fits c l (asked w).standing

@@ -1,11 +1,10 @@
 -- A call at the subscriber, seen at the channel that is watched: what is to be shown of it, and the case where it changes nothing there.
 -- Assumes nothing.
 use mathlib.Core.Path.{◌≡◌, refl, sym, ◌∙◌, subst}
-use mathlib.Core.Bool.{Bool, true, false, true≢false}
+use mathlib.Core.Bool.{Bool, true, false, cond, true≢false}
 use mathlib.Core.List.{List, ◌∷◌}
 use mathlib.Core.Logic.{◌⊎◌, inr, ⊎_elim}
 use Prim.Native.Nat.{ℕ, ◌≤◌}
-use Rattle.std.specs.Prelude.{if◌then◌else◌}
 use Rattle.packet.specs.Layout.{fields_at}
 use Rattle.channel.specs.declared.record.Channel.{Channel}
 use Rattle.channel.specs.declared.answer.Answer.{Answer}
@@ -36,7 +35,7 @@ acked_before : (k : ReceiverCall) (a : ends.Answer) (i : ℕ) {P : Type 0} → P
 acked_before (ReceiverCall.control p) a i x = x
 acked_before (ReceiverCall.arrival j q g) a i {P = P} x = go (protocol.replied a)
   where
-    go : (b : Bool) → if b then (j ≡ i) ⊎ P else P
+    go : (b : Bool) → cond b ((j ≡ i) ⊎ P) P
     go true = inr x
     go false = x
 acked_before ReceiverCall.take_unit a i x = x

@@ -2,13 +2,11 @@
 -- segments 1 to 8, untaken, state 5, 6, 7, 8, 8, 8, 8, 8; then the host has a unit and hands nothing out. A take makes Flow Control ready, with the number of the last
 -- Ack and one number more; once it has come to the host, and its Ack to the station, the host goes on.
 -- Assumes nothing.
-use mathlib.Core.Path.{◌≡◌, refl, sym, ap, ◌∙◌, subst}
+use mathlib.Core.Path.{◌≡◌, refl}
 use mathlib.Core.List.{List, [], ◌∷◌, ◌++◌, map}
-use mathlib.Core.Bool.{Bool, true, false}
-use Prim.Native.Nat.{ℕ, zero, suc, ◌+◌, ◌%◌, ◌<◌}
-use native.Mathlib.Omega.{arith}
-use lib.Dec.{lit≤}
-use lib.ListN.{length, replicate, get_or, take, drop, set}
+use mathlib.Core.Bool.{Bool, true}
+use Prim.Native.Nat.{ℕ, zero, suc, ◌+◌}
+use lib.ListN.{replicate, get_or, take}
 use Rattle.std.specs.Prelude.{if◌then◌else◌}
 use Rattle.packet.specs.Kinds.{kind_of}
 use Rattle.packet.specs.Layout.{head_of, body_of, packet_of}
@@ -20,10 +18,8 @@ use Rattle.slots.specs.Ring.{round_of, back_of, run_of, cleared}
 use Rattle.slots.specs.Slots.{laid}
 use Rattle.channel.specs.Places.{slot_in}
 use Rattle.store.specs.Store.{unit_of, ends_in, last_end_in, size_in, octets_in, filed_mem, filed_by, filed_lens, filed_marks}
-use Rattle.channel.specs.declared.record.Node.{Node}
 use Rattle.channel.specs.declared.record.Limits.{Limits}
 use Rattle.channel.specs.declared.record.Settings.{Settings}
-use Rattle.channel.specs.declared.record.Channel.{Channel}
 use Rattle.channel.specs.Record.{made_of}
 use Rattle.channel.specs.Answers.{number_of}
 use Rattle.channel.specs.Lone.{fallen}
@@ -50,9 +46,9 @@ use Rattle.lines.specs.Fit.{below, apart, blank, fit_line, fit_lines}
 use Rattle.table.specs.Lent.{all_slots, all_octets, each_stands, lawful, passes}
 use Rattle.table.specs.Waiting.{waits, moved}
 use Rattle.table.specs.Looking.{same, chosen_from}
-use Rattle.table.specs.Serving.{record_at, stored, serve_one, index_served}
+use Rattle.table.specs.Serving.{stored, serve_one, index_served}
 use Rattle.requests.specs.Handing.{next_for}
-use Rattle.requests.specs.Requests.{opened_by, closed_by, transfer_for, asked_by, take_for, reclaim_for}
+use Rattle.requests.specs.Requests.{opened_by, closed_by, transfer_for, take_for, reclaim_for}
 use Rattle.ticks.specs.Ticking.{ticked_by}
 use Rattle.arrivals.specs.Arriving.{arrive_by, arrival_for}
 use Rattle.arrivals.specs.Finding.{is_ours, look_of}
@@ -60,9 +56,9 @@ use Rattle.arrivals.specs.Data.{unfit}
 use Rattle.ticks.specs.Ticks.{any_inactive, first_inactive, relisted_from, ticked, tick_index}
 use Rattle.protocol.specs.Numbers.{number_at, distance}
 use Rattle.means.specs.Held.{units_in}
-use Rattle.delivery.specs.Calls.{End, Kind, opens, transfers, takes, reclaims, hands, arrives, ticks, channel_of, units_of}
-use Rattle.delivery.specs.History.{Side, host, subscriber, Call, Event, written, accepted, confirmed, reclaimed, taken}
-use Rattle.delivery.specs.Delivery.{Fresh, Alike, Run, begin, run, AllFair, Delivered}
+use Rattle.delivery.specs.Calls.{End, transfers, takes, hands, arrives}
+use Rattle.delivery.specs.History.{host, subscriber, Event, written}
+use Rattle.delivery.specs.Delivery.{begin}
 use Rattle.delivery_sample.proofs.Script.{room, at_host, at_station, entering}
 use Rattle.delivery_sample.proofs.Deciding.{Move, brings, writes_for, equal, handed_in, replied_in, fairly, packet_for, Checked, checked}
 

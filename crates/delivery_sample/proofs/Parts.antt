@@ -1,13 +1,9 @@
 -- The run of Script.antt, computed part by part, each behind any history: one part after another is too much for one declaration.
 -- Assumes nothing.
-use mathlib.Core.Path.{◌≡◌, refl, sym, ap, ◌∙◌, subst}
+use mathlib.Core.Path.{◌≡◌, refl}
 use mathlib.Core.List.{List, [], ◌∷◌, ◌++◌}
-use mathlib.Core.Bool.{Bool, true, false}
-use Prim.Native.Nat.{ℕ, zero, suc, ◌+◌, ◌%◌, ◌<◌}
-use native.Mathlib.Omega.{arith}
-use lib.Dec.{lit≤}
-use lib.ListN.{length, replicate, get_or, drop, set}
-use Rattle.packet.specs.declared.fields.Fields.{Fields}
+use mathlib.Core.Bool.{Bool, true}
+use Prim.Native.Nat.{ℕ, zero, suc, ◌+◌}
 use Rattle.packet.specs.Kinds.{kind_of}
 use Rattle.packet.specs.Layout.{head_of, body_of, packet_of}
 use Rattle.packet.specs.Tests.{short, damaged, lacking, strange}
@@ -18,11 +14,6 @@ use Rattle.slots.specs.Ring.{round_of, back_of, run_of, cleared}
 use Rattle.slots.specs.Slots.{laid}
 use Rattle.channel.specs.Places.{slot_in}
 use Rattle.store.specs.Store.{unit_of, ends_in, last_end_in, size_in, octets_in, filed_mem, filed_by, filed_lens, filed_marks}
-use Rattle.channel.specs.declared.record.Node.{Node}
-use Rattle.channel.specs.declared.record.Limits.{Limits}
-use Rattle.channel.specs.declared.record.Settings.{Settings}
-use Rattle.channel.specs.declared.record.Channel.{Channel}
-use Rattle.channel.specs.Record.{made_of}
 use Rattle.channel.specs.Lone.{fallen}
 use Rattle.channel.specs.Pulse.{paced, heartbeat_step, heartbeat_ack_step}
 use Rattle.channel.specs.Flow.{flow_step, flow_ack_step}
@@ -47,7 +38,7 @@ use Rattle.lines.specs.Fit.{below, apart, blank, fit_line, fit_lines}
 use Rattle.table.specs.Lent.{all_slots, all_octets, each_stands, lawful, passes}
 use Rattle.table.specs.Waiting.{waits, moved}
 use Rattle.table.specs.Looking.{same, chosen_from}
-use Rattle.table.specs.Serving.{record_at, stored, serve_one, index_served}
+use Rattle.table.specs.Serving.{stored, serve_one, index_served}
 use Rattle.requests.specs.Handing.{next_for}
 use Rattle.requests.specs.Requests.{opened_by, closed_by, transfer_for, asked_by, take_for, reclaim_for}
 use Rattle.ticks.specs.Ticking.{ticked_by}
@@ -57,9 +48,8 @@ use Rattle.arrivals.specs.Data.{unfit}
 use Rattle.ticks.specs.Ticks.{any_inactive, first_inactive, relisted_from, ticked, tick_index}
 use Rattle.protocol.specs.Numbers.{number_at, distance}
 use Rattle.means.specs.Held.{units_in}
-use Rattle.delivery.specs.Calls.{End, Kind, opens, transfers, takes, reclaims, hands, arrives, ticks, units_of}
-use Rattle.delivery.specs.History.{Side, host, subscriber, Call, Event, accepted, confirmed, reclaimed, taken}
-use Rattle.delivery.specs.Delivery.{Fresh, Alike, Run, begin, run, AllFair, Delivered}
+use Rattle.delivery.specs.Calls.{End, units_of}
+use Rattle.delivery.specs.History.{Event, accepted, confirmed, reclaimed, taken}
 use Rattle.delivery_sample.proofs.Script.{host_end, station_end, opening, rounds, ending, host_after, station_after, from, run_at}
 use Rattle.delivery_sample.proofs.Deciding.{equal, handed_in, replied_in, fairly, packet_for, Checked, checked}
 

@@ -1,10 +1,10 @@
 -- Who is served is the head of its line, and stands last in it if it has more.
 -- Assumes nothing.
 use mathlib.Core.Path.{◌≡◌, refl, sym, ap, ◌∙◌, subst}
-use mathlib.Core.Bool.{Bool, true, false, ◌&&◌, true≢false, false≢true}
-use mathlib.Core.Logic.{◌⊎◌, ⊎_elim}
-use mathlib.Core.List.{List, [], ◌∷◌, ◌++◌}
-use Prim.Native.Nat.{ℕ, suc, ◌+◌, ◌<◌}
+use mathlib.Core.Bool.{Bool, true, false, ◌&&◌, false≢true}
+use mathlib.Core.Logic.{⊎_elim}
+use mathlib.Core.List.{List, [], ◌∷◌}
+use Prim.Native.Nat.{ℕ, suc, ◌<◌}
 use native.Mathlib.Numerals.{add-one}
 use native.Mathlib.Omega.{arith}
 use borrow.Author.Tests.{eqb-true, ltb-true, lt-ltb}
@@ -26,14 +26,14 @@ use Rattle.sender_packets.specs.HandingOut.{next_length, next_out, hand_step}
 use Rattle.table.specs.declared.looking.Sought.TheVariants.{Ready}
 use Rattle.table.specs.Waiting.{waits, served_for, moved}
 use Rattle.table.specs.Looking.{seeking, chosen as choice, is_found}
-use Rattle.table.specs.Serving.{record_at, own_lens, stored, serve_one, index_served}
+use Rattle.table.specs.Serving.{record_at, own_lens, stored, index_served}
 use Rattle.table.proofs.ServeLaws.{passing_is, found_below}
 use Rattle.table.proofs.WaitingLaws.{rank_known}
 use Rattle.requests.specs.Handing.{next_for}
 use Rattle.node.specs.declared.request.Request.TheVariants.{Open, Close, Transfer, WouldTransfer, Take, Reclaim, Arrival, NextPacket, Unknown}
 use Rattle.node.specs.Calls.{served}
 use Rattle.keeps.proofs.Serving.{worked, serve_missing, serve_found}
-use Rattle.fairness.specs.Fairness.{Lent, Call, asks, tick, settings, after, Sound, next_rank, hands_out, hands_out_of, FromTheHead, ToTheTail}
+use Rattle.fairness.specs.Fairness.{Lent, asks, tick, settings, after, Sound, next_rank, hands_out_of, FromTheHead, ToTheTail}
 use Rattle.fairness.proofs.Fair.{next, grade, fits, next_waiting, next_first}
 
 head_first : (l : List ℕ) (j : ℕ) → stands j l ≡ true → ((k : ℕ) → stands k l ≡ true → (j ≡ k → ⊥) → before j l < before k l) → before j l ≡ 0

@@ -1,20 +1,19 @@
 -- At most fifteen: one call after another, whoever is handed out of the rank stood before c, and nobody else comes before it.
 -- Assumes nothing.
 use mathlib.Core.Path.{◌≡◌, refl, sym, ap, ◌∙◌, subst}
-use mathlib.Core.Bool.{Bool, true, false, ◌&&◌, true≢false, false≢true}
+use mathlib.Core.Bool.{Bool, true, false, ◌&&◌, true≢false}
 use mathlib.Core.Logic.{◌⊎◌, inl, inr, ⊎_elim}
 use mathlib.Core.List.{List, [], ◌∷◌, map}
-use Prim.Native.Nat.{ℕ, zero, suc, ◌+◌, ◌≤◌, ◌<◌}
-use native.Mathlib.Nat.{le_refl}
+use Prim.Native.Nat.{ℕ, ◌+◌, ◌≤◌, ◌<◌}
 use native.Mathlib.Omega.{arith}
-use borrow.Author.Tests.{eq-eqb, eqb-true, eqb-false, ltb-true}
+use borrow.Author.Tests.{eqb-true, eqb-false, ltb-true}
 use lib.Dec.{ltb, eqb}
-use lib.ListN.{length, length-map}
+use lib.ListN.{length}
 use Rattle.std.specs.Prelude.{if◌then◌else◌}
-use Rattle.laws.proofs.Choice.{both, either_way, by_test, chosen, passed_by}
-use Rattle.walks.specs.Serving.{Worked, Called}
-use Rattle.lines.specs.Lines.{stands, before, line_at, of_rank}
-use Rattle.lines.specs.Fit.{fit_lines, Fit}
+use Rattle.laws.proofs.Choice.{either_way, by_test}
+use Rattle.walks.specs.Serving.{Called}
+use Rattle.lines.specs.Lines.{stands, before, line_at}
+use Rattle.lines.specs.Fit.{fit_lines}
 use Rattle.lines.proofs.FitLaws as fit
 use Rattle.lines.proofs.LineLaws as line
 use Rattle.lines.proofs.GradeLaws.{Waiting, served_before}
@@ -28,25 +27,21 @@ use Rattle.channel.specs.Steps.{refusing, doing}
 use Rattle.channel.specs.declared.step.Stepped.{Stepped}
 use Rattle.sender_packets.specs.HandingOut.{next_length, next_out, hand_step}
 use Rattle.table.specs.declared.looking.Look.{Look}
-use Rattle.table.specs.declared.looking.Sought.{Sought}
-use Rattle.table.specs.declared.looking.Sought.TheVariants.{Index, Question, Packet, Ready, Nobody}
-use Rattle.table.specs.Waiting.{waits, grade_at, rank_in, served_for, moved_by, may_move, moved}
+use Rattle.table.specs.declared.looking.Sought.TheVariants.{Ready}
+use Rattle.table.specs.Waiting.{waits, rank_in, served_for, moved_by, may_move, moved}
 use Rattle.table.specs.Looking.{seeking, chosen as choice, is_found}
-use Rattle.table.specs.Lent.{passes}
-use Rattle.table.specs.Serving.{record_at, own_mem, own_lens, Step, stored, serve_one, index_served}
+use Rattle.table.specs.Serving.{record_at, own_lens, Step, stored, serve_one, index_served}
 use Rattle.table.proofs.ServeLaws.{Lawful, passing_is, found_below, found_suits}
-use Rattle.table.proofs.WaitingLaws.{moves, of_rank_waits, rank_known, turn_is}
+use Rattle.table.proofs.WaitingLaws.{of_rank_waits, rank_known, turn_is}
 use Rattle.requests.specs.Handing.{next_for}
-use Rattle.lines.specs.Lines.{no_lines}
 use Rattle.walks.specs.Serving.{Changed}
-use Rattle.settings.specs.Configuring.{configured, settled}
+use Rattle.settings.specs.Configuring.{settled}
 use Rattle.settings.proofs.Promises.{settings_done, settings_refused}
-use Rattle.ticks.specs.Ticks.{tick_of, relisted_from}
-use Rattle.node.specs.declared.request.Request.{Request}
+use Rattle.ticks.specs.Ticks.{tick_of}
 use Rattle.node.specs.declared.request.Request.TheVariants.{Open, Close, Transfer, WouldTransfer, Take, Reclaim, Arrival, NextPacket, Unknown}
-use Rattle.node.specs.Calls.{look_in, step_for, served, served_index}
-use Rattle.keeps.proofs.Serving.{worked, serve_cases, serve_unlawful, serve_missing, serve_found}
-use Rattle.fairness.specs.Fairness.{Lent, Call, asks, tick, settings, after, Stood, Sound, next_rank, hands_out, hands_out_of, hand_outs, WaitsThrough, Fifteen}
+use Rattle.node.specs.Calls.{look_in, step_for}
+use Rattle.keeps.proofs.Serving.{worked, serve_cases, serve_missing, serve_found}
+use Rattle.fairness.specs.Fairness.{Lent, Call, asks, tick, settings, after, Sound, next_rank, hands_out, hands_out_of, hand_outs, WaitsThrough, Fifteen}
 use Rattle.fairness.proofs.Chosen.{chosen_least}
 use Rattle.fairness.proofs.Moving.{is_handing, moved_place, served_place, served_lowers}
 use Rattle.fairness.proofs.Ticking.{from_place}

@@ -7,10 +7,9 @@ use mathlib.Core.List.{List}
 use Prim.Native.Nat.{ℕ, suc, ◌≤◌, ◌<◌}
 use native.Mathlib.Nat.{le_refl}
 use Rattle.laws.proofs.Choice.{by_test}
-use Rattle.lines.specs.Lines.{stands, without, relisted, before, line_at, of_rank}
+use Rattle.lines.specs.Lines.{stands, before, line_at, of_rank}
 use Rattle.lines.specs.Fit.{fit_lines, Fit}
 use Rattle.lines.proofs.FitLaws as fit
-use Rattle.lines.proofs.LineLaws as line
 use Rattle.lines.proofs.FairLaws.{never_raised, hand_out_lowers}
 use Rattle.channel.specs.declared.record.Channel.{Channel}
 use Rattle.channel.specs.declared.step.Stepped.{Stepped}

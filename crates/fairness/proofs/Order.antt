@@ -1,10 +1,10 @@
 -- Two that join in the same call stand by index: but for a tick only one can join, and a tick goes by index.
 -- Assumes nothing.
-use mathlib.Core.Path.{◌≡◌, refl, sym, ap, ◌∙◌, subst}
-use mathlib.Core.Bool.{Bool, true, false, true≢false, false≢true}
-use mathlib.Core.Logic.{◌⊎◌, inl, inr, ⊎_elim}
-use mathlib.Core.List.{List, [], ◌∷◌, ◌++◌, map}
-use Prim.Native.Nat.{ℕ, suc, ◌+◌, ◌≤◌, ◌<◌}
+use mathlib.Core.Path.{◌≡◌, sym, ap, ◌∙◌, subst}
+use mathlib.Core.Bool.{Bool, true, false, false≢true}
+use mathlib.Core.Logic.{⊎_elim}
+use mathlib.Core.List.{List, [], ◌∷◌, map}
+use Prim.Native.Nat.{ℕ, ◌+◌, ◌≤◌, ◌<◌}
 use native.Mathlib.Omega.{arith}
 use lib.ListN.{length}
 use Rattle.laws.proofs.Choice.{either_way, by_test}
@@ -15,7 +15,6 @@ use Rattle.lines.specs.Fit.{fit_lines}
 use Rattle.lines.proofs.FitLaws as fit
 use Rattle.lines.proofs.LineLaws as line
 use Rattle.lines.proofs.FairLaws.{joiner_behind, in_order}
-use Rattle.channel.specs.declared.record.Settings.{Settings}
 use Rattle.channel.specs.declared.record.Channel.{Channel}
 use Rattle.channel.specs.declared.answer.Answer.{Answer}
 use Rattle.table.specs.declared.looking.Look.{Look}
@@ -30,7 +29,7 @@ use Rattle.settings.proofs.Promises.{settings_done, settings_refused}
 use Rattle.ticks.specs.Ticks.{tick_of, relisted_from}
 use Rattle.node.specs.Calls.{look_in, step_for}
 use Rattle.keeps.proofs.Serving.{worked, serve_cases}
-use Rattle.fairness.specs.Fairness.{Lent, Call, asks, tick, settings, after, Sound, ByIndex}
+use Rattle.fairness.specs.Fairness.{asks, tick, settings, ByIndex}
 use Rattle.fairness.proofs.Moving.{moved_other}
 use Rattle.fairness.proofs.Ticking.{earlier_stay}
 use Rattle.fairness.proofs.Standing.{nobody_stands, ticked_lines, many, fits_now}

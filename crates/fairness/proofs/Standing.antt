@@ -1,15 +1,15 @@
 -- Settings make a node sound, and every call keeps it so: the test for 13, and standing exactly if ready.
 -- Assumes nothing.
 use mathlib.Core.Path.{◌≡◌, refl, sym, ap, ap₂, ◌∙◌, subst}
-use mathlib.Core.Bool.{Bool, true, false, ◌&&◌, ◌||◌, true≢false, false≢true, and-false}
-use mathlib.Core.Logic.{◌⊎◌, inl, inr, ⊎_elim}
+use mathlib.Core.Bool.{Bool, true, false, ◌&&◌, ◌||◌, true≢false}
+use mathlib.Core.Logic.{⊎_elim}
 use mathlib.Core.List.{List, [], ◌∷◌, map}
 use Prim.Native.Nat.{ℕ, zero, suc, ◌+◌, ◌≤◌, ◌<◌}
 use native.Mathlib.Nat.{zero-add, not-suc-le-zero, le_of_suc-le-suc}
 use native.Mathlib.Omega.{arith}
-use borrow.Author.Tests.{eq-eqb, ne_eqb}
+use borrow.Author.Tests.{ne_eqb}
 use lib.Dec.{ltb, eqb}
-use lib.ListN.{length, set, length-set, length-map, replicate, take, drop}
+use lib.ListN.{length, set, length-set, length-map, take, drop}
 use lib.Seq.{get_or-set_same, get_or-set_other}
 use Rattle.laws.proofs.Choice.{either, either_way, chosen, passed_by, first_not}
 use Rattle.std.specs.Prelude.{if◌then◌else◌}
@@ -42,16 +42,15 @@ use Rattle.table.specs.declared.looking.Look.{Look}
 use Rattle.table.specs.declared.looking.Sought.{Sought}
 use Rattle.table.specs.declared.looking.Sought.TheVariants.{Index, Question, Packet, Ready, Nobody}
 use Rattle.table.specs.Waiting.{waits, rank_in, moved_by, may_move, moved}
-use Rattle.table.specs.Looking.{seeking, graded, chosen as choice}
-use Rattle.table.specs.Lent.{lawful, passes}
-use Rattle.table.specs.Serving.{blank, record_at, own_mem, own_lens, Step, alone, stored, serve_one}
-use Rattle.table.proofs.ServeLaws.{Lawful, is_lawful, lawful_is, passing_is, is_passing}
+use Rattle.table.specs.Looking.{seeking, chosen as choice}
+use Rattle.table.specs.Lent.{passes}
+use Rattle.table.specs.Serving.{blank, record_at, Step, stored, serve_one}
+use Rattle.table.proofs.ServeLaws.{is_lawful, lawful_is, passing_is, is_passing}
 use Rattle.table.proofs.WaitingLaws.{moves, rank_known}
-use Rattle.requests.specs.Requests.{asked_by}
 use Rattle.arrivals.specs.Finding.{is_ours, look_by, look_of}
 use Rattle.arrivals.proofs.FindLaws.{no_one}
-use Rattle.settings.specs.Configuring.{configured, settled, made_table}
-use Rattle.settings.proofs.Promises.{settings_done, settings_refused, settings_lawful, settings_lined, settings_closed, ClosedBy}
+use Rattle.settings.specs.Configuring.{settled, made_table}
+use Rattle.settings.proofs.Promises.{settings_done, settings_refused, settings_lawful, settings_lined, settings_closed}
 use Rattle.ticks.specs.Ticks.{tick_of, ticked, relisted_from}
 use Rattle.node.specs.declared.request.Request.{Request}
 use Rattle.node.specs.declared.request.Request.TheVariants.{Open, Close, Transfer, WouldTransfer, Take, Reclaim, Arrival, NextPacket, Unknown}
@@ -59,11 +58,11 @@ use Rattle.node.specs.Calls.{look_in, step_for, served}
 use Rattle.keeps.specs.Keeping.{Wide, Given, MayChange, RefusalsChangeNothing}
 use Rattle.keeps.proofs.Serving.{worked, serve_cases}
 use Rattle.keeps.proofs.Staying.{question_changes_nothing, question_lines_stay}
-use Rattle.keeps.proofs.CallsKeep.{tick_lawful, tick_unlawful_changes_nothing}
+use Rattle.keeps.proofs.CallsKeep.{tick_lawful}
 use Rattle.keeps.proofs.CallsRefuse.{served_refusals_change_nothing}
 use Rattle.keeps.proofs.Marks.{tick_wide}
 use Rattle.keeps.proofs.DoorKeeps.{served_lawful, served_wide}
-use Rattle.fairness.specs.Fairness.{Lent, Call, asks, tick, settings, left_of, after, Stood, Sound, SettingsSound, KeepsSound}
+use Rattle.fairness.specs.Fairness.{Lent, asks, tick, settings, left_of, after, Stood, Sound, SettingsSound, KeepsSound}
 use Rattle.fairness.proofs.Moving.{is_moving, moved_self, moved_other, moved_fit}
 use Rattle.fairness.proofs.Ticking.{from_fit, each_stands_lem}
 

@@ -1,7 +1,7 @@
 -- How long a channel waits in its line (document 02, A4): 'while a channel stands in a line, at most fifteen packets of that rank are handed out
 -- before its own'. Of every list of calls to a node whose table and lines settings and our calls alone have written. Packets of a rank that goes
 -- before are not counted.
-use Rattle.std.specs.Prelude.{ℕ, zero, suc, ◌+◌, ◌≤◌, ◌<◌, ◌≡◌, Bool, true, false, ◌&&◌, List, [], ◌∷◌, eqb, length, if◌then◌else◌}
+use Rattle.std.specs.Prelude.{ℕ, suc, ◌+◌, ◌≤◌, ◌<◌, ◌≡◌, Bool, true, false, ◌&&◌, List, [], ◌∷◌, eqb, length, if◌then◌else◌}
 use Rattle.walks.specs.Serving.{Called, Changed}
 use Rattle.lines.specs.Lines.{stands, before, line_at}
 use Rattle.channel.specs.declared.record.Settings.{Settings}

@@ -1,14 +1,12 @@
 -- Every call keeps one mark for each of 128 slots, used or not (document 01, A channel's record and memory): as the type of a record says, so that
 -- what a transfer asks holds again after every call.
 -- Assumes nothing.
-use mathlib.Core.Path.{◌≡◌, refl, sym, ap, ◌∙◌, subst}
+use mathlib.Core.Path.{◌≡◌, refl, sym, ◌∙◌, subst}
 use mathlib.Core.Bool.{Bool, true, false}
-use mathlib.Core.List.{List, [], map}
-use Prim.Native.Nat.{ℕ, ◌+◌, ◌<◌}
-use borrow.Author.Tests.{eqb-true, eqb-false}
+use mathlib.Core.List.{List, []}
+use Prim.Native.Nat.{ℕ, ◌+◌}
 use lib.Dec.{ltb, eqb}
-use lib.ListN.{length, set, length-set, length-map}
-use lib.Seq.{get_or-set_same, get_or-set_other}
+use lib.ListN.{length, length-set}
 use Rattle.std.specs.Prelude.{if◌then◌else◌}
 use Rattle.laws.proofs.Choice.{either}
 use Rattle.slots.proofs.RingLaws.{cleared_length}
@@ -16,13 +14,10 @@ use Rattle.store.proofs.Laws.{filed_marks_length}
 use Rattle.slots.specs.Marks.{mark_of}
 use Rattle.slots.specs.Units.{segments_of}
 use Rattle.packet.specs.Layout.{fields_at, length_at}
-use Rattle.walks.specs.Serving.{Worked, Called, changes}
+use Rattle.walks.specs.Serving.{Worked}
 use Rattle.channel.specs.declared.record.Node.{Node}
 use Rattle.channel.specs.declared.record.Lone.{Lone}
 use Rattle.channel.specs.declared.record.Channel.{Channel}
-use Rattle.channel.specs.declared.answer.Answer.{Answer}
-use Rattle.channel.specs.declared.answer.Answer.TheVariants.{Refused}
-use Rattle.channel.specs.declared.answer.Refusal.TheVariants as refusal
 use Rattle.channel.specs.declared.step.Stepped.{Stepped}
 use Rattle.channel.specs.Record.{sends, receives, closed as closedState, closing, unanswered, no_lone, no_marks}
 use Rattle.channel.specs.Lone.{ready_lone}
@@ -47,10 +42,7 @@ use Rattle.ends.proofs.ReceiverCases.{open_cases, control_cases, take_cases, tic
 use Rattle.table.specs.declared.looking.Look.{Look}
 use Rattle.table.specs.declared.looking.Sought.TheVariants.{Index, Ready}
 use Rattle.table.specs.Looking.{seeking}
-use Rattle.table.specs.Looking.{chosen as choice}
-use Rattle.table.specs.Waiting.{rank_in}
-use Rattle.table.specs.Lent.{passes}
-use Rattle.table.specs.Serving.{blank, record_at, own_mem, own_lens, Step, alone, stored, serve_one}
+use Rattle.table.specs.Serving.{Step, alone, serve_one}
 use Rattle.requests.specs.Requests.{opened_by, closed_by, transfer_for, take_for, reclaim_for}
 use Rattle.requests.specs.Handing.{next_for}
 use Rattle.channel.specs.declared.step.Ticked.{Ticked as OneTick}
@@ -59,7 +51,7 @@ use Rattle.ticks.specs.Ticking.{ticked_by}
 use Rattle.arrivals.specs.Finding.{look_of}
 use Rattle.arrivals.specs.Arriving.{stated_in, arrival_for}
 use Rattle.packet.specs.Layout.{payload_in}
-use Rattle.ticks.specs.Ticks.{tick_of, tick_answer, ticked, relisted_from}
+use Rattle.ticks.specs.Ticks.{tick_of, ticked}
 use Rattle.node.specs.Calls.{open_call, close_call, transfer_call, take_call, reclaim_call, next_packet_call, arrival_call}
 use Rattle.keeps.specs.Keeping.{Wide}
 use Rattle.keeps.proofs.Everywhere.{Steps, serve_each, tick_each}

@@ -1,15 +1,15 @@
 -- Out of OPEN an end has no Heartbeat, and no interval runs (document 02, A2): settings make it so, and every call keeps it.
 -- Assumes nothing.
-use mathlib.Core.Path.{◌≡◌, refl, sym, ap, ◌∙◌}
+use mathlib.Core.Path.{◌≡◌, refl, ◌∙◌}
 use mathlib.Core.Bool.{Bool, true, false, ◌&&◌}
-use mathlib.Core.List.{List, [], ◌∷◌}
-use Prim.Native.Nat.{ℕ, ◌<◌}
+use mathlib.Core.List.{List, []}
+use Prim.Native.Nat.{ℕ}
 use native.Mathlib.Omega.{arith}
 use borrow.Author.Tests.{ne_eqb}
 use lib.Dec.{eqb, ltb}
 use lib.ListN.{length}
 use Rattle.std.specs.Prelude.{if◌then◌else◌}
-use Rattle.laws.proofs.Choice.{either, either_way, chosen, passed_by, first_not}
+use Rattle.laws.proofs.Choice.{either, passed_by, first_not}
 use Rattle.packet.specs.Layout.{fields_at, length_at, payload_in}
 use Rattle.walks.specs.Serving.{Worked}
 use Rattle.channel.specs.declared.record.Node.{Node}
@@ -23,7 +23,7 @@ use Rattle.channel.specs.declared.answer.Refusal.TheVariants as refusal
 use Rattle.channel.specs.Record.{sends, receives, opened, closed as closedState, closing, late_open, control_number, data_number, retries_out, unanswered, no_lone, no_pulse, made_of}
 use Rattle.channel.specs.Lone.{ready_lone}
 use Rattle.channel.specs.Steps.{refusing}
-use Rattle.channel.specs.Pulse.{sent_in, heartbeat_step, heartbeat_ack_step}
+use Rattle.channel.specs.Pulse.{heartbeat_step, heartbeat_ack_step}
 use Rattle.channel.specs.Flow.{flows, replied_in, flow_step, flow_ack_step}
 use Rattle.channel.specs.Pairs.{filed}
 use Rattle.sender_acks.specs.Stated.{is_taken, heeding, heeding_first, data_ack_stated, control_ack_stated}
@@ -32,7 +32,7 @@ use Rattle.sender.specs.Ticking.{data_fallen, tick_step as senderTick}
 use Rattle.sender_units.specs.Transfer.{is_accepted, transfer_step}
 use Rattle.sender_units.specs.Reclaiming.{reclaim_step}
 use Rattle.sender_packets.specs.HandingOut.{single_out, again_out, new_out, next_out, next_length, hand_step}
-use Rattle.sender_acks.specs.Acks.{control_ack_step, away_of, recorded, advanced, data_ack_step}
+use Rattle.sender_acks.specs.Acks.{control_ack_step, advanced}
 use Rattle.receiver.specs.Receiving as receiver
 use Rattle.receiver_data.specs.Sorting.{place_at}
 use Rattle.receiver_data.specs.Data as received

@@ -9,7 +9,7 @@ use lib.ListN.{length}
 use lib.Seq.{set-get_or}
 use Rattle.std.specs.Prelude.{if◌then◌else◌}
 use Rattle.slots.specs.Slots.{laid}
-use Rattle.walks.specs.Serving.{Worked, Called, works}
+use Rattle.walks.specs.Serving.{Called, works}
 use Rattle.channel.specs.declared.record.Node.{Node}
 use Rattle.channel.specs.declared.record.Channel.{Channel}
 use Rattle.channel.specs.declared.answer.Answer.{Answer}

@@ -1,7 +1,7 @@
 -- Every step of a channel keeps what the test for 13 asks: the record stands with the lengths left, and nothing that the settings fixed has changed.
 -- Assumes nothing.
 use mathlib.Core.Path.{◌≡◌, refl, sym, ap, ◌∙◌, subst}
-use mathlib.Core.Bool.{Bool, true, false, ◌||◌}
+use mathlib.Core.Bool.{Bool, true, false}
 use mathlib.Core.List.{List}
 use Prim.Native.Nat.{ℕ, ◌≤◌, ◌<◌}
 use native.Mathlib.Omega.{arith}
@@ -51,7 +51,6 @@ use Rattle.table.specs.Looking.{looks_for, graded}
 use Rattle.table.specs.Waiting.{waits}
 use Rattle.table.specs.Serving.{alone}
 use Rattle.channel.specs.declared.step.Ticked.{Ticked}
-use Rattle.channel.specs.declared.record.Pulse.{Pulse}
 use Rattle.channel.specs.Pulse.{heartbeat_step, heartbeat_ack_step}
 use Rattle.channel.specs.Flow.{flow_step, flow_ack_step}
 use Rattle.channel.specs.Pairs.{filed}

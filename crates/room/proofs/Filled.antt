@@ -27,7 +27,7 @@ use Rattle.receiver_data.specs.Sorting.{distance, no_room, is_held, sort_at}
 use Rattle.receiver_data.specs.Data.{data_by, away_of, data_step}
 use Rattle.ends.proofs.ReceiverCases.{accept_cases}
 use Rattle.table.specs.declared.looking.Look.{Look}
-use Rattle.table.specs.Looking.{missing, same}
+use Rattle.table.specs.Looking.{missing}
 use Rattle.table.specs.Serving.{record_at, stored}
 use Rattle.arrivals.specs.Arriving.{arrive_as, arrive_by, arrival_for}
 use Rattle.arrivals.specs.Finding.{is_ours, look_by, look_of, prefix_read}

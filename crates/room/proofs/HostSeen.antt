@@ -23,7 +23,6 @@ use Rattle.channel.specs.Record.{sends, receives}
 use Rattle.channel.specs.Steps.{refusing}
 use Rattle.channel.specs.Flow.{flows}
 use Rattle.channel.specs.Pairs.{filed}
-use Rattle.sender_packets.specs.Asked.{Ready}
 use Rattle.table.specs.Waiting.{rank_in}
 use Rattle.table.specs.declared.looking.Look.{Look}
 use Rattle.table.specs.declared.looking.Sought.TheVariants as sought

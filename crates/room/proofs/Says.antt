@@ -5,7 +5,7 @@ use mathlib.Core.Path.{◌≡◌, sym, ap, ◌∙◌, subst}
 use mathlib.Core.Bool.{Bool, true, true≢false}
 use mathlib.Core.List.{List, [], ◌∷◌}
 use mathlib.Core.Logic.{◌⊎◌, ⊎_elim}
-use Prim.Native.Nat.{ℕ, ◌-◌, ◌<◌}
+use Prim.Native.Nat.{ℕ, ◌<◌}
 use native.Mathlib.Omega.{arith}
 use lib.ListN.{length, take}
 use Rattle.std.specs.Prelude.{if◌then◌else◌}
@@ -22,13 +22,12 @@ use Rattle.channel.specs.Record.{receives}
 use Rattle.channel.specs.Answers.{length_of}
 use Rattle.channel.specs.Prefixes.{same_prefix}
 use Rattle.channel.specs.Flow.{stated}
-use Rattle.table.specs.Looking.{same}
 use Rattle.table.specs.Serving.{record_at}
 use Rattle.arrivals.specs.Arriving.{stated_in}
 use Rattle.arrivals.specs.Finding.{prefix_read}
 use Rattle.protocol.specs.Sending.{Sender}
 use Rattle.protocol.specs.Receiving.{Receiver}
-use Rattle.delivery.specs.Calls.{End, Kind, Request, channel_of, index_told}
+use Rattle.delivery.specs.Calls.{End, Request, channel_of, index_told}
 use Rattle.delivery.specs.History.{Event, is, names, IsData, IsDataAck, Toward}
 use Rattle.delivery.specs.Delivery.{rivals}
 use Rattle.delivery.proofs.Own.{View}

@@ -3,7 +3,7 @@
 use mathlib.Core.Path.{◌≡◌, refl, sym, ap, ◌∙◌, subst}
 use mathlib.Core.Bool.{Bool, true, false, false≢true, not, ◌&&◌, ◌||◌}
 use mathlib.Core.List.{List}
-use Prim.Native.Nat.{ℕ, ◌-◌, ◌<◌}
+use Prim.Native.Nat.{ℕ, ◌<◌}
 use native.Mathlib.Omega.{arith}
 use borrow.Author.Tests.{eqb-true, eqb-false, eq-eqb}
 use lib.Dec.{eqb}
@@ -26,7 +26,6 @@ use Rattle.channel.specs.Record as state
 use Rattle.channel.specs.Record.{receives}
 use Rattle.channel.specs.Lone.{is_ready}
 use Rattle.channel.specs.Flow.{stated}
-use Rattle.receiver.specs.Receiving.{carries}
 use Rattle.sender_packets.specs.HandingOut.{is_flow, single_fields, single_out, ready_beside, ready, next_fields, next_out, next_length}
 use Rattle.table.specs.Waiting.{rank_in}
 use Rattle.table.specs.declared.looking.Look.{Look}
