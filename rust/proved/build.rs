@@ -1,4 +1,4 @@
-//! Links the static library that `rt lib host` leaves under the
+//! Links the static library that `tools/library` leaves under the
 //! repository's root.
 
 use std::env;
@@ -11,7 +11,7 @@ fn main() {
     println!("cargo:rerun-if-changed={}", archive.display());
     assert!(
         archive.exists(),
-        "crates/host/out/libhost.a is missing: `rt lib host` makes it"
+        "crates/host/out/libhost.a is missing: `tools/library` makes it"
     );
     println!("cargo:rustc-link-search=native={}", folder.display());
     println!("cargo:rustc-link-lib=static=host");
