@@ -1,4 +1,5 @@
 // A packet arrives for a channel that was found: it is taken by that channel's end.
+// What is marked so stays a function of its own when it is compiled, so that a call takes the stack of its own step alone.
 ghost use Rattle.std.specs.Prelude.{◌≡◌, ◌+◌, ◌≤◌, [], true, false, length, take, drop};
 ghost use Rattle.channel.specs.Record.{receives};
 ghost use Rattle.channel.specs.Steps.{outgoing_length};
@@ -30,6 +31,7 @@ use receiver::Acked;
 use table::{Decision, Sought};
 
 // An Open, or else a Close, changes the record alone, and is acknowledged where the answer is 0 or 15.
+#[inline(never)]
 fn arrive_control(
     c: Channel,
     node: Node,
@@ -58,6 +60,7 @@ fn arrive_control(
 }
 
 // A Heartbeat changes nothing but the interval of this end's own, as it is acknowledged.
+#[inline(never)]
 fn arrive_heartbeat(c: Channel, node: Node, number: u8, out: &mut [u8]) -> Stepped
     requires { (c.limits.window ≤ 128) × (fit_prefix c.addresses.own ≡ true) × (outgoing_length c.addresses 0 ≤ length out.old) }
     ensures { (result ≡ acknowledging number (heartbeat_step c)) × (out.new ≡ replied_by (heartbeat_step c).answer node c.addresses acked.Heartbeat number (carrying acked.Heartbeat c.limits (heartbeat_step c).channel.window) out.old) }
@@ -111,6 +114,7 @@ fn stated_in(packet: &[u8], start: usize, count: usize) -> u8
 }
 
 // Type 6: Flow Control at a sender, the Ack of it at a receiver.
+#[inline(never)]
 fn arrive_six(c: Channel, node: Node, number: u8, stated: u8, out: &mut [u8]) -> Stepped
     requires { (Ringed c.limits c.window) × (fit_prefix c.addresses.own ≡ true) × ((c.addresses.direction ≡ receives → ⊥) → outgoing_length c.addresses 0 ≤ length out.old) }
     ensures { works result [] [] out.new ≡ six_for node number stated c [] [] out.old }
@@ -193,6 +197,7 @@ fn arrive(
 }
 
 // The channel was found for this packet: nothing else is looked for in an arrival.
+#[inline(never)]
 pub fn arrive_step(
     c: Channel,
     d: Decision,

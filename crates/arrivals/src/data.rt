@@ -1,4 +1,5 @@
 // Data arrives at the channel that it is for.
+// Data's arrival stays a function of its own when it is compiled, so that a call takes the stack of its own step alone.
 ghost use Rattle.std.specs.Prelude.{◌≡◌, ◌≤◌, ◌<◌, length};
 ghost use Rattle.packet.specs.declared.kinds.Kind.TheVariants.{FlowControl};
 ghost use Rattle.walks.specs.Serving.{works};
@@ -70,6 +71,7 @@ pub fn is_unfit(c: Channel, f: Fields, length: usize) -> bool
 }
 
 // Data is filed in the channel's own part, and acknowledged where the answer is 0 or 15.
+#[inline(never)]
 pub fn arrive_data(
     c: Channel,
     d: Decision,

@@ -1,4 +1,5 @@
 // The next packet: that of the channel and the rank that were chosen.
+// It stays a function of its own when it is compiled, so that a call takes the stack of its own step alone.
 ghost use Rattle.std.specs.Prelude.{◌≡◌};
 ghost use Rattle.walks.specs.Serving.{works};
 ghost use Rattle.table.specs.declared.looking.Sought.TheVariants.{Ready};
@@ -11,6 +12,7 @@ use table::Decision;
 use table::surveying::area;
 use table::waiting::rank_in;
 
+#[inline(never)]
 pub fn next_step(
     c: Channel,
     d: Decision,

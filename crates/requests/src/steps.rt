@@ -1,4 +1,5 @@
 // Requests: each names its channel. A request that is not for a channel's direction is refused like one that its state does not allow.
+// Each stays a function of its own when it is compiled, so that a call takes the stack of its own step alone.
 ghost use Rattle.std.specs.Prelude.{◌≡◌, []};
 ghost use Rattle.channel.specs.Asked.{Ringed};
 ghost use Rattle.walks.specs.Serving.{works};
@@ -12,6 +13,7 @@ use table::Decision;
 use table::surveying::area;
 
 // An Open directive.
+#[inline(never)]
 pub fn open_step(c: Channel) -> Stepped
     requires { Ringed c.limits c.window }
     ensures { result ≡ opened_by c }
@@ -23,6 +25,7 @@ pub fn open_step(c: Channel) -> Stepped
 }
 
 // A Close directive.
+#[inline(never)]
 pub fn close_step(c: Channel) -> Stepped
     requires { Ringed c.limits c.window }
     ensures { result ≡ closed_by c }
@@ -34,6 +37,7 @@ pub fn close_step(c: Channel) -> Stepped
 }
 
 // A unit is handed over to be sent.
+#[inline(never)]
 pub fn transfer_step(
     c: Channel,
     d: Decision,
@@ -55,6 +59,7 @@ pub fn transfer_step(
 }
 
 // What a transfer of so many octets would answer. It is a question: nothing is changed.
+#[inline(never)]
 pub fn ask_step(c: Channel, count: usize) -> Stepped
     requires { Ringed c.limits c.window }
     ensures { result ≡ asked_by count c }
@@ -67,6 +72,7 @@ pub fn ask_step(c: Channel, count: usize) -> Stepped
 }
 
 // The oldest complete unit is taken.
+#[inline(never)]
 pub fn take_step(c: Channel, d: Decision, mem: &[u8], lens: &[u16], out: &mut [u8]) -> Stepped
     requires { Served c d mem.now lens.now }
     ensures { works result mem.now lens.now out.new ≡ stepping take_for c d mem.now lens.now out.old }
@@ -82,6 +88,7 @@ pub fn take_step(c: Channel, d: Decision, mem: &[u8], lens: &[u16], out: &mut [u
 }
 
 // The oldest unit that is held is reclaimed.
+#[inline(never)]
 pub fn reclaim_step(c: Channel, d: Decision, mem: &[u8], lens: &[u16], out: &mut [u8]) -> Stepped
     requires { Served c d mem.now lens.now }
     ensures { works result mem.now lens.now out.new ≡ stepping reclaim_for c d mem.now lens.now out.old }

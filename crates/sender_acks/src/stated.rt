@@ -1,4 +1,5 @@
 // What an Ack states is recorded (document 02, A5), if it is taken.
+// Each of the two that are marked so stays a function of its own when it is compiled, so that a call takes the stack of its own step alone.
 ghost use Rattle.std.specs.Prelude.{◌≡◌, ◌&&◌, ◌==◌, if◌then◌else◌};
 ghost use Rattle.channel.specs.Record.{opened};
 ghost use Rattle.channel.specs.Asked.{Ringed};
@@ -34,6 +35,7 @@ fn with_stated(s: Stepped, pulse: Pulse) -> Stepped
 }
 
 // A Data Ack, with the number that it states.
+#[inline(never)]
 pub fn data_ack_stated(c: Channel, number: u8, stated: u8) -> Stepped
     requires { Ringed c.limits c.window }
     ensures { result ≡ data_ack_stated c number stated }
@@ -62,6 +64,7 @@ fn first_in(taken: bool, state: u8, stated: u8, p: Pulse) -> Pulse
 }
 
 // A Control Ack, with the number that it states.
+#[inline(never)]
 pub fn control_ack_stated(c: Channel, number: u8, stated: u8) -> Stepped
     requires { Ringed c.limits c.window }
     ensures { result ≡ control_ack_stated c number stated }
