@@ -1,0 +1,5 @@
+pub mod Surveying
+pub mod Serving
+pub mod Ticking
+pub mod Configuring
+pub mod Saying
