@@ -17,7 +17,7 @@ use Rattle.delivery.proofs.Nodes.{end_with}
 use Rattle.delivery.proofs.Known.{InvOf, Numbered, Subscriber}
 use Rattle.delivery.proofs.SubscriberFrame.{subscriber_call, subscriber_event, SubscriberNext}
 use Rattle.delivery.proofs.SubscriberEnd.{Stage}
-use Rattle.delivery.proofs.SubscriberRequests.{subscriber-opens, subscriber_closes, subscriber_transfers, subscriber_asks, subscriber_reclaims, subscriber_hands, subscriber_strays}
+use Rattle.delivery.proofs.SubscriberRequests.{subscriber_opens, subscriber_closes, subscriber_transfers, subscriber_asks, subscriber_reclaims, subscriber_hands, subscriber_strays}
 use Rattle.delivery.proofs.SubscriberTakes.{subscriber_takes}
 use Rattle.delivery.proofs.SubscriberTicks.{subscriber_ticks}
 use Rattle.delivery.proofs.SubscriberArrivals.{subscriber_arrives}
@@ -56,7 +56,7 @@ module _ (h s : End) (fresh-h : Fresh h) (fresh-s : Fresh s) (alike : Alike h s)
           → FairArrival (record { kind = kind; channel = channel; octets = octets; buffer = buffer }) copy
           → FairOpening (record { kind = kind; channel = channel; octets = octets; buffer = buffer }) copy
           → After (record { kind = kind; channel = channel; octets = octets; buffer = buffer }) copy
-      go opens channel octets buffer arrival opening = subscriber-opens stage channel octets buffer copy opening
+      go opens channel octets buffer arrival opening = subscriber_opens stage channel octets buffer copy opening
       go closes channel octets buffer arrival opening = subscriber_closes stage channel octets buffer copy
       go transfers channel octets buffer arrival opening = subscriber_transfers stage channel octets buffer copy
       go asks channel octets buffer arrival opening = subscriber_asks stage channel octets buffer copy

@@ -41,7 +41,7 @@ use Rattle.protocol.specs.Receiving.{Receiver, ReceiverCall, start_of, moved, re
 use Rattle.protocol.specs.History as protocol
 use Rattle.means.specs.Meaning.{carried}
 use Rattle.means.proofs.Receives.{Receives}
-use Rattle.means.proofs.ReceiverData.{data-receives}
+use Rattle.means.proofs.ReceiverData.{data_receives}
 use Rattle.means.proofs.Near.{data_near}
 use Rattle.channel.specs.Prefixes.{fit_prefix, same_prefix}
 use Rattle.channel.proofs.PrefixLaws.{same_laid}
@@ -242,7 +242,7 @@ module _ {h s : End} {past : List Event} {x : Sender} {y : Receiver} {t : List C
         before : (Receives made.channel (data_mem c f.number p m) (data_lens c f.number p l) z) × (number_of made.answer ≡ said.number)
         before =
             subst (λ (k : Limits). (Receives made.channel (data_mem c f.number p m) (data_lens c f.number p l) (receiver_step k y call).0) × (number_of made.answer ≡ (receiver_step k y call).1.number))
-            (sym (limits_are w)) (data-receives c m l y (asked w) (receiving w) w.now.means f.number f.flags copy p few short)
+            (sym (limits_are w)) (data_receives c m l y (asked w) (receiving w) w.now.means f.number f.flags copy p few short)
 
         related : (Receives kept (data_mem c f.number p m) (data_lens c f.number p l) z) × (number_of made.answer ≡ said.number)
         related = (pulse_receives made.channel (data_mem c f.number p m) (data_lens c f.number p l) z kept.pulse before.0, before.1)

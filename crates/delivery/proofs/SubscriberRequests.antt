@@ -208,12 +208,12 @@ module _ {h s : End} {past : List Event} {x : Sender} {y : Receiver} {t : List C
       (open_cases c (λ (z : Stepped). open_step c ≡ z → Left First (works z m l buffer))
       (λ e first. opens_refused refusal.State buffer) (λ e first. opens_refused refusal.Untaken buffer) (λ e. opens_done own e) refl)
 
-  pub subscriber-opens :
+  pub subscriber_opens :
       (granted subscriber opens i
       (subscriber_event (request opens) copy n (index_for w (request opens)) (called_by opens (end_with s t mem lens lines n) (request opens)).answer (called_by opens (end_with s t mem lens lines n) (request opens)).out) ≡ true
       → openings subscriber i past ≡ 0)
       → Shown opens
-  subscriber-opens =
+  subscriber_opens =
       own_cases (seeking (Index channel)) (alone opened_by) t mem lens lines buffer (shapes (seeking (Index channel)) (alone opened_by) buffer (open_keeps (seeking (Index channel)) buffer)) i (below w) First
       (λ why first. opens_refused why buffer)
       (λ j there apart at g first.

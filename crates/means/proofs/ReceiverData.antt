@@ -249,8 +249,8 @@ module _ (c : Channel) (mem lens : List ℕ) (r : Receiver) (asked : Asked c mem
         subst₃ (λ (s : Stepped) (m l : List ℕ). Result s m l (r, say 5))
         (sym (data_state c number other flags)) (sym (state_mem c number other p mem)) (sym (state_lens c number other p lens)) (t, refl)
 
-    pub data-receives :
+    pub data_receives :
         (Receives (data_step c number flags).channel (data_mem c number p mem) (data_lens c number p lens)
         (receiver_step (limits_of c.limits) r (ReceiverCall.arrival i number (carried flags p))).0)
         × (number_of (data_step c number flags).answer ≡ (receiver_step (limits_of c.limits) r (ReceiverCall.arrival i number (carried flags p))).1.number)
-    data-receives = by_phase (is_open r.phase) refl
+    data_receives = by_phase (is_open r.phase) refl

@@ -42,7 +42,7 @@ pub fn is_lawful(table: &[Channel], octets: usize, lengths: &[u16]) -> bool {
     rest.is_empty() && needed == octets
 }
 
-/// `fitLimits`: such as settings allow.
+/// `fit_limits`: such as settings allow.
 fn fits(limits: &Limits) -> bool {
     limits.window.is_power_of_two()
         && limits.window <= 128
@@ -86,7 +86,7 @@ fn is_prefix(prefix: &Prefix) -> bool {
     prefix.length <= 15 && past.copied().all(|octet| octet == 0)
 }
 
-/// `inRing`, `inFlight` and `sided`.
+/// `in_ring`, `in_flight` and `sided`.
 fn is_counted(record: &Channel) -> bool {
     let (limits, window) = (&record.limits, &record.window);
     let in_ring = window.place < limits.slots

@@ -160,7 +160,7 @@ impl Outcome {
 
 impl Answer {
     /// What a call over so many records said. The library answers by document
-    /// 01's numbers and reasons alone: that is proved (`saidOf`), so that a number
+    /// 01's numbers and reasons alone: that is proved (`said_of`), so that a number
     /// without a name here means that something else was linked.
     pub fn of(said: Said, records: usize) -> Answer {
         let Said {

@@ -95,7 +95,7 @@ const SPOILT: Channel = Channel {
     acked: [0xE8; SLOTS],
 };
 
-/// What settings make (`madeOf` in `crates/channel/specs/Record.antt`).
+/// What settings make (`made_of` in `crates/channel/specs/Record.antt`).
 fn made(settings: Settings) -> Channel {
     let mut made = Channel::blank();
     made.addresses = settings.addresses;
