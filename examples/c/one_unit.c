@@ -1,7 +1,7 @@
 /* Two nodes, a hall's host and a cooling station, each with one channel: the host publishes a unit, the station takes it, and the host is told
  * that it is confirmed. What is a link between two machines elsewhere is here a buffer.
  *
- *   cc -Iinclude examples/c/one_unit.c crates/host/out/libhost.a -o one_unit */
+ *   cc -Iinclude examples/c/one_unit.c target/staticlib/libhost.a -o one_unit */
 #include <stdio.h>
 #include <stdlib.h>
 

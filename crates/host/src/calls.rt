@@ -19,8 +19,7 @@ use settings::settings;
 use ticks::ticking::tick;
 
 // A table made afresh.
-#[unsafe(no_mangle)]
-pub extern "C" fn peat_settings(
+pub fn peat_settings(
     t: &mut [Channel],
     mem: &[u8],
     lens: &[u16],
@@ -35,8 +34,7 @@ pub extern "C" fn peat_settings(
 }
 
 // A directive leaves memory and lengths as they were.
-#[unsafe(no_mangle)]
-pub extern "C" fn peat_open(
+pub fn peat_open(
     t: &mut [Channel],
     mem: &mut [u8],
     lens: &mut [u16],
@@ -53,8 +51,7 @@ pub extern "C" fn peat_open(
     r
 }
 
-#[unsafe(no_mangle)]
-pub extern "C" fn peat_close(
+pub fn peat_close(
     t: &mut [Channel],
     mem: &mut [u8],
     lens: &mut [u16],
@@ -71,8 +68,7 @@ pub extern "C" fn peat_close(
     r
 }
 
-#[unsafe(no_mangle)]
-pub extern "C" fn peat_transfer(
+pub fn peat_transfer(
     t: &mut [Channel],
     mem: &mut [u8],
     lens: &mut [u16],
@@ -90,8 +86,7 @@ pub extern "C" fn peat_transfer(
 }
 
 // A question: whatever it answers, all that is lent stays as it was.
-#[unsafe(no_mangle)]
-pub extern "C" fn peat_would_transfer(
+pub fn peat_would_transfer(
     t: &mut [Channel],
     mem: &mut [u8],
     lens: &mut [u16],
@@ -109,8 +104,7 @@ pub extern "C" fn peat_would_transfer(
     r
 }
 
-#[unsafe(no_mangle)]
-pub extern "C" fn peat_take(
+pub fn peat_take(
     t: &mut [Channel],
     mem: &mut [u8],
     lens: &mut [u16],
@@ -127,8 +121,7 @@ pub extern "C" fn peat_take(
     r
 }
 
-#[unsafe(no_mangle)]
-pub extern "C" fn peat_reclaim(
+pub fn peat_reclaim(
     t: &mut [Channel],
     mem: &mut [u8],
     lens: &mut [u16],
@@ -145,8 +138,7 @@ pub extern "C" fn peat_reclaim(
     r
 }
 
-#[unsafe(no_mangle)]
-pub extern "C" fn peat_next_packet(
+pub fn peat_next_packet(
     t: &mut [Channel],
     mem: &mut [u8],
     lens: &mut [u16],
@@ -163,8 +155,7 @@ pub extern "C" fn peat_next_packet(
     r
 }
 
-#[unsafe(no_mangle)]
-pub extern "C" fn peat_arrival(
+pub fn peat_arrival(
     t: &mut [Channel],
     mem: &mut [u8],
     lens: &mut [u16],
@@ -181,8 +172,7 @@ pub extern "C" fn peat_arrival(
     r
 }
 
-#[unsafe(no_mangle)]
-pub extern "C" fn peat_tick(t: &mut [Channel], mem: &[u8], lens: &[u16], lines: &mut [u8]) -> Said
+pub fn peat_tick(t: &mut [Channel], mem: &[u8], lens: &[u16], lines: &mut [u8]) -> Said
     ensures { changes result t.new lines.new ≡ told_at (tick_index t.old mem.now lens.now lines.old) (ticked t.old mem.now lens.now lines.old) }
 {
     let a = tick(t, mem, lens, lines);

@@ -16,29 +16,21 @@ use crate::packets::{Reading, Writing, reading_of, writing_of};
 use packet::Fields;
 
 // The check sum of so many octets.
-#[unsafe(no_mangle)]
-pub extern "C" fn peat_crc(octets: &[u8]) -> u16
+pub fn peat_crc(octets: &[u8]) -> u16
     ensures { result ≡ crc_of octets.now }
 {
     crc::crc_of(octets)
 }
 
 // Reads a packet alone: 0, 1, 2, 3 or 4.
-#[unsafe(no_mangle)]
-pub extern "C" fn peat_read_packet(packet: &[u8]) -> Reading
+pub fn peat_read_packet(packet: &[u8]) -> Reading
     ensures { result ≡ reading_of (read_of packet.now) }
 {
     reading_of(packet::read_packet(packet))
 }
 
 // Writes a packet alone: 0, 3, 4 or 11.
-#[unsafe(no_mangle)]
-pub extern "C" fn peat_write_packet(
-    fields: Fields,
-    prefix: &[u8],
-    payload: &[u8],
-    out: &mut [u8],
-) -> Writing
+pub fn peat_write_packet(fields: Fields, prefix: &[u8], payload: &[u8], out: &mut [u8]) -> Writing
     ensures { (result ≡ writing_of (written_of fields (length prefix.now) (length payload.now) (length out.old))) × (out.new ≡ after_write (written_of fields (length prefix.now) (length payload.now) (length out.old)) fields prefix.now payload.now out.old) }
 {
     writing_of(packet::write_packet(fields, prefix, payload, out))
