@@ -1,5 +1,5 @@
 // A packet arrives for a channel that was found: it is taken by that channel's end.
-// What is marked so stays a function of its own when it is compiled, so that a call takes the stack of its own step alone.
+// What is marked `inline(never)` stays a function of its own when it is compiled, so that a call takes the stack of its own step alone.
 ghost use Rattle.std.specs.Prelude.{◌≡◌, ◌+◌, ◌≤◌, [], true, false, length, take, drop};
 ghost use Rattle.channel.specs.Record.{receives};
 ghost use Rattle.channel.specs.Steps.{outgoing_length};

@@ -1,5 +1,5 @@
 // Data arrives at the channel that it is for.
-// Data's arrival stays a function of its own when it is compiled, so that a call takes the stack of its own step alone.
+// `arrive_data` stays a function of its own when it is compiled, so that a call takes the stack of its own step alone.
 ghost use Rattle.std.specs.Prelude.{◌≡◌, ◌≤◌, ◌<◌, length};
 ghost use Rattle.packet.specs.declared.kinds.Kind.TheVariants.{FlowControl};
 ghost use Rattle.walks.specs.Serving.{works};

@@ -4,7 +4,7 @@ use Rattle.channel.specs.declared.record.Limits.{Limits}
 use Rattle.channel.specs.declared.record.Channel.{Channel}
 
 -- A memory of one channel alone has a slot for each place, with the place's number. It has a name because the two are not one thing: channels
--- that share a memory have their slots wherever there was one free. Nothing but its laws (`slot-bound`, `slot_apart`) knows which slot it is
+-- that share a memory have their slots wherever there was one free. Nothing but its laws (`slot_bound`, `slot_apart`) knows which slot it is
 unfoldable pub slot_in : Limits → ℕ → ℕ
 slot_in l place = place
 

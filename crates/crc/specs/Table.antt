@@ -1,5 +1,5 @@
 -- The table of 256 numbers by which an octet goes into the register: what its eight bits add (document 02, A6). Its rule, `shifts 8 (u * 2 ^ 8)` at
--- each octet u, is proved once over the whole of it (`table-rule`, proofs/Table.antt).
+-- each octet u, is proved once over the whole of it (`table_rule`, proofs/Table.antt).
 use Rattle.std.specs.Prelude.{ℕ, List, [], ◌∷◌}
 
 unfoldable pub table : List ℕ

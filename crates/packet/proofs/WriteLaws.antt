@@ -1,4 +1,4 @@
--- Laws of `written_of` and `afterWrite`, and how a packet is laid down: the head with its prefix, the payload, the check sum.
+-- Laws of `written_of` and `after_write`, and how a packet is laid down: the head with its prefix, the payload, the check sum.
 -- Assumes nothing.
 use mathlib.Core.Path.{◌≡◌, refl, sym, ap, ap₂, ◌∙◌}
 use mathlib.Core.Bool.{true, false}

@@ -8,7 +8,7 @@ ghost use Rattle.packet.specs.Writing.{written_of, after_write, written_number};
 
 use crate::fields::{FRONT, Fields, HEAD, LEAST, is_lacking, is_strange};
 
-#[derive(Drop)]
+#[derive(Clone, Copy)]
 pub enum Written {
     // How many octets the packet has.
     Done(usize),

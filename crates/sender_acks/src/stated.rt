@@ -1,5 +1,5 @@
 // What an Ack states is recorded (document 02, A5), if it is taken.
-// Each of the two that are marked so stays a function of its own when it is compiled, so that a call takes the stack of its own step alone.
+// Each that is marked `inline(never)` stays a function of its own when it is compiled, so that a call takes the stack of its own step alone.
 ghost use Rattle.std.specs.Prelude.{◌≡◌, ◌&&◌, ◌==◌, if◌then◌else◌};
 ghost use Rattle.channel.specs.Record.{opened};
 ghost use Rattle.channel.specs.Asked.{Ringed};
