@@ -5,7 +5,7 @@
  *   - each pointer is good for its count of elements, and aligned; with a count of 0 it is not followed;
  *   - what a call may change (a pointer without const) overlaps nothing else that is lent to the same call;
  *   - no other thread uses what is lent while the call runs. Calls on other tables may run at the same time;
- *   - the stack has room: 16 KB do. Up to 15.1 KB was measured for a call (tests/c/stack.c), which is no proved bound.
+ *   - the stack has room: 16 KB do. Up to 15.7 KB was measured for a call (tests/c/stack.c), which is no proved bound.
  * Any octets, any records, any counts may be lent: what is wrong is refused by number and never undefined.
  *
  * A node is lent in four parts, the same ones in every call; PeatLent, below, holds all four:

@@ -2,8 +2,8 @@
 -- Assumes nothing.
 use mathlib.Core.Path.{◌≡◌, sym, ap, ◌∙◌}
 use mathlib.Core.Bool.{false}
-use mathlib.Core.List.{List}
-use Prim.Native.Nat.{ℕ, ◌≤◌}
+use mathlib.Core.List.{List, []}
+use Prim.Native.Nat.{ℕ, ◌+◌, ◌-◌, ◌≤◌}
 use borrow.Author.Tests.{ltb-false}
 use borrow.Rule.Slice.PartMut.{put_mid}
 use lib.ListN.{length, take, drop}
@@ -11,7 +11,7 @@ use Rattle.packet.specs.declared.fields.Fields.{Fields}
 use Rattle.packet.specs.declared.kinds.Kind.{Kind}
 use Rattle.packet.specs.declared.kinds.Kind.TheVariants.{Data}
 use Rattle.packet.specs.Kinds.{kind_of}
-use Rattle.walks.specs.Serving.{works}
+use Rattle.walks.specs.Serving.{Worked, works}
 use Rattle.channel.specs.declared.record.Node.{Node}
 use Rattle.channel.specs.declared.record.Channel.{Channel}
 use Rattle.channel.specs.declared.step.Stepped.{Stepped}
@@ -23,8 +23,7 @@ use Rattle.table.specs.Lent.{area_of}
 use Rattle.table.specs.Surveying.{mine, mine_lens, stepping, Served}
 use Rattle.table.proofs.Parts.{parts_filed}
 use Rattle.receiver.specs.declared.acks.Acked.TheVariants as acked
-use Rattle.receiver.specs.Receiving.{carrying}
-use Rattle.arrivals.specs.Replying.{replied_by, acknowledging}
+use Rattle.arrivals.specs.Replying.{acknowledging, replying}
 use Rattle.arrivals.specs.Data.{unfit_as, unfit, data_for}
 
 -- by the kind of the packet
@@ -42,17 +41,17 @@ pub data_files : (node : Node) (f : Fields) (p : List ℕ) (c : Channel) (d : De
     → c.addresses.direction ≡ receives
     → Served c d mem lens
     → length p ≤ c.limits.payload
-    → (r : Stepped) (m l o : List ℕ) (j k : ℕ)
-    → j ≡ area_of c.limits
-    → k ≡ c.limits.slots
-    → r ≡ acknowledging f.number (data_step c f.number f.flags)
-    → m ≡ data_mem c f.number p (take j (drop d.spot.octet mem))
-    → l ≡ data_lens c f.number p (take k (drop d.spot.slot lens))
-    → o ≡ replied_by (data_step c f.number f.flags).answer node c.addresses acked.Data f.number (carrying acked.Data c.limits (data_step c f.number f.flags).channel.window) out
-    → works r (put_mid d.spot.octet j mem m) (put_mid d.spot.slot k lens l) o ≡ stepping (data_for node f p) c d mem lens out
-data_files node f p c d mem lens out dir s few r m l o j k ej ek er em el eo =
-    parts_filed (data_for node f p) c d mem lens out j k ej ek (data_mem c f.number p) (data_lens c f.number p) r (acknowledging f.number (data_step c f.number f.flags)) m l o er
-    em el
-    (data_sized c (mine_lens c d lens) dir s.standing f.number p (mine c d mem) few s.sized)
-    (ap (λ (y : List ℕ). works (acknowledging f.number (data_step c f.number f.flags)) (data_mem c f.number p (mine c d mem)) (data_lens c f.number p (mine_lens c d lens)) y)
-    (sym eo))
+    → (a b i j : ℕ)
+    → (a ≡ d.spot.octet) × (b ≡ d.spot.octet + area_of c.limits)
+    → (i ≡ d.spot.slot) × (j ≡ d.spot.slot + c.limits.slots)
+    → (s r : Stepped) (m l o : List ℕ)
+    → s ≡ data_step c f.number f.flags
+    → m ≡ data_mem c f.number p (take (b - a) (drop a mem))
+    → l ≡ data_lens c f.number p (take (j - i) (drop i lens))
+    → works r [] [] o ≡ replying node c acked.Data f.number s [] [] out
+    → works r (put_mid a (b - a) mem m) (put_mid i (j - i) lens l) o ≡ stepping (data_for node f p) c d mem lens out
+data_files node f p c d mem lens out dir served few a b i j octets slots s r m l o es em el eo =
+    let e = eo ∙ ap (λ (x : Stepped). replying node c acked.Data f.number x [] [] out) es in
+    parts_filed (data_for node f p) c d mem lens out a b i j octets slots (data_mem c f.number p) (data_lens c f.number p) r (acknowledging f.number (data_step c f.number f.flags)) m l o
+    (ap (λ (w : Worked Stepped). w.made) e) em el (data_sized c (mine_lens c d lens) dir served.standing f.number p (mine c d mem) few served.sized)
+    (ap (λ (w : Worked Stepped). works (acknowledging f.number (data_step c f.number f.flags)) (data_mem c f.number p (mine c d mem)) (data_lens c f.number p (mine_lens c d lens)) w.out) (sym e))

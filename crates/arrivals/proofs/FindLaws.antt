@@ -11,9 +11,8 @@ use lib.Dec.{ltb}
 use lib.ListN.{length}
 use Rattle.packet.specs.Layout.{least, most_prefix, payload_at, fields_at, prefix_at, length_at}
 use Rattle.packet.specs.Tests.{short, damaged, lacking, strange}
-use Rattle.packet.specs.Reading.{read_of}
+use Rattle.packet.specs.Reading.{finds, read_of}
 use Rattle.packet.specs.declared.fields.Fields.{Fields}
-use Rattle.packet.specs.declared.reading.Read.TheVariants.{Found}
 use Rattle.packet.proofs.Tests.{sourced, sound}
 use Rattle.packet.proofs.ReadLaws.{accepted}
 use Rattle.channel.specs.declared.record.Node.{Node}
@@ -77,7 +76,7 @@ module _ (node : Node) (s : List ℕ) (room : ℕ) (lines : List ℕ) (at : ℕ)
 
 -- ---- the prefix of a packet that was read
 
-module _ (s : List ℕ) (f : Fields) (n start x : ℕ) (e : read_of s ≡ Found f n start x) where
+module _ (s : List ℕ) (f : Fields) (n start x : ℕ) (e : read_of s ≡ finds f n start x) where
   pub prefix_lies : (n ≤ most_prefix) × (payload_at n ≤ length s)
   prefix_lies =
       let a = accepted s f n start x e in (

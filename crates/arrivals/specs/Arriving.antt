@@ -70,3 +70,9 @@ pub record Framed (c : Channel) (f : Fields) (from x : ℕ) (s out : List ℕ) :
   pub whole : whole_length (prefix_at s) x ≡ length s
   pub flags : f.flags < 4
   pub room : least ≤ length out
+
+-- and of its payload p, as it lies in some packet
+pub record Carried (c : Channel) (f : Fields) (p out : List ℕ) : Type 0 where
+  pub packet : List ℕ
+  pub from : ℕ
+  pub framed : Framed c f from (length p) packet out

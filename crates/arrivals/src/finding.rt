@@ -7,18 +7,16 @@ ghost use Rattle.arrivals.specs.Finding.{is_ours, look_for, look_by, look_of};
 
 use channel::{Node, Prefix, Refusal};
 use packet::fields::{FRONT, LEAST};
-use packet::{Fields, Read, read_packet};
+use packet::{Fields, Found, ReadError, read_packet};
 use table::looking::seek;
 use table::{Look, Sought};
 
 // The destination and the protocol ID are this node's.
+#[tactic(auto, unfolding(crate::specs::Finding::is_ours))]
 fn is_ours(node: Node, f: Fields) -> bool
     ensures { result ≡ is_ours node f }
 {
-    if f.destination != node.address {
-        return false;
-    }
-    f.protocol == node.protocol
+    f.destination == node.address && f.protocol == node.protocol
 }
 
 // The prefix of n octets, with 0 past them, as a record has it.
@@ -26,30 +24,24 @@ fn prefix_of(packet: &[u8], n: usize) -> Prefix
     requires { (n ≤ most_prefix) × (payload_at n ≤ length packet.now) }
     ensures { result ≡ prefix_with n (take n (drop prefix_from packet.now)) }
 {
-    let mut octets: [u8; 15] = [0; 15];
-    let end = FRONT + n;
-    octets[..n].copy_from_slice(&packet[FRONT..end]);
+    let mut octets = [0; 15];
+    octets[..n].copy_from_slice(&packet[FRONT..FRONT + n]);
     Prefix {
         length: n as u8,
         octets,
     }
 }
 
-fn look_by(node: Node, packet: &[u8], read: Read) -> Look
+fn look_by(node: Node, packet: &[u8], read: Result<Found, ReadError>) -> Look
     requires { read ≡ read_of packet.now }
     ensures { result ≡ look_by node packet.now read }
 {
     match read {
-        Read::Found {
-            fields,
-            prefix,
-            start,
-            length,
-        } => look_for(node, fields, prefix_of(packet, prefix), start, length),
-        Read::Short => seek(Sought::Nobody(Refusal::Short)),
-        Read::Damaged => seek(Sought::Nobody(Refusal::Damaged)),
-        Read::Lacking => seek(Sought::Nobody(Refusal::Lacking)),
-        Read::Strange => seek(Sought::Nobody(Refusal::Strange)),
+        Ok(found) => {
+            let prefix = prefix_of(packet, found.prefix);
+            look_for(node, found.fields, prefix, found.start, found.length)
+        }
+        Err(why) => seek(Sought::Nobody(Refusal::from(why))),
     }
 }
 

@@ -1,13 +1,13 @@
 // The reply to a packet that an end has taken, and the channel once it is written.
-ghost use Rattle.std.specs.Prelude.{◌≡◌, ◌≤◌, true, length, if◌then◌else◌};
+ghost use Rattle.std.specs.Prelude.{◌≡◌, ◌≤◌, [], true, length};
+ghost use Rattle.walks.specs.Serving.{works};
 ghost use Rattle.channel.specs.Prefixes.{fit_prefix};
-ghost use Rattle.channel.specs.Flow.{replied_in};
 ghost use Rattle.channel.specs.Steps.{outgoing_length};
 ghost use Rattle.receiver.specs.Receiving.{carries, carrying};
-ghost use Rattle.arrivals.specs.Replying.{ack_out, replied_by, replies, acknowledging};
+ghost use Rattle.arrivals.specs.Replying.{ack_out, replied_by, acknowledging, replying};
 
 use channel::flow::replied;
-use channel::{Addresses, Answer, Limits, Node, Pulse, Stepped, Window};
+use channel::{Addresses, Answer, Channel, Limits, Node, Stepped, Window};
 use receiver::Acked;
 use receiver::acks::{carries, stated_by};
 
@@ -16,9 +16,8 @@ fn write_ack(node: Node, a: Addresses, of: Acked, number: u8, l: Limits, w: Wind
     requires { (fit_prefix a.own ≡ true) × (l.window ≤ 128) × (outgoing_length a (carries of l) ≤ length out.old) }
     ensures { out.new ≡ ack_out node a of number (carrying of l w) out.old }
 {
-    let n = carries(of, l);
-    let octet: [u8; 1] = [stated_by(of, l, w)];
-    receiver::acknowledge(node, a, of, number, &octet[..n], out)
+    let octet = [stated_by(of, l, w)];
+    receiver::acknowledge(node, a, of, number, &octet[..carries(of, l)], out)
 }
 
 // The ack goes into the reply where the answer is 0 or 15; with any other answer the reply stays.
@@ -36,43 +35,54 @@ pub fn reply(
     ensures { out.new ≡ replied_by s node a of number (carrying of l w) out.old }
 {
     match s {
-        Answer::Done {
-            length: _,
-            confirmed: _,
-        } => write_ack(node, a, of, number, l, w, out),
-        Answer::Repeated { length: _ } => write_ack(node, a, of, number, l, w, out),
-        Answer::Inactive(_) => {}
-        Answer::Refused(_) => {}
+        Answer::Done { .. } | Answer::Repeated { .. } => {
+            write_ack(node, a, of, number, l, w, out)
+        }
+        Answer::Inactive(_) | Answer::Refused(_) => {}
     }
 }
 
-// With 0 and 15 the channel has sent an Ack with this number.
-fn pulse_then(a: Answer, state: u8, l: Limits, number: u8, p: Pulse) -> Pulse
-    ensures { result ≡ (if replies a then replied_in state l number p else p) }
-{
-    match a {
-        Answer::Done {
-            length: _,
-            confirmed: _,
-        } => replied(state, l, number, p),
-        Answer::Repeated { length: _ } => replied(state, l, number, p),
-        Answer::Inactive(_) => p,
-        Answer::Refused(_) => p,
-    }
-}
-
+// With 0 and 15 the channel has sent an Ack with this number. It is compiled into its callers, as `replying` is: as functions of their own they
+// take 4 KB of stack more (19,656 octets of a call, where it takes 15,496).
+#[inline(always)]
 pub fn acknowledged(number: u8, s: Stepped) -> Stepped
     ensures { result ≡ acknowledging number s }
 {
-    let answer = s.answer;
-    let mut channel = s.channel;
-    let pulse = pulse_then(
-        answer,
-        channel.phase.state,
-        channel.limits,
+    match s.answer {
+        Answer::Done { .. } | Answer::Repeated { .. } => {
+            let c = s.channel;
+            let pulse = replied(c.phase.state, c.limits, number, c.pulse);
+            Stepped {
+                channel: Channel { pulse, ..c },
+                ..s
+            }
+        }
+        Answer::Inactive(_) | Answer::Refused(_) => s,
+    }
+}
+
+// A step of the channel c that an Ack answers: the reply is written, and the channel is as it is then.
+#[inline(always)]
+pub fn replying(
+    c: &Channel,
+    s: Stepped,
+    node: Node,
+    of: Acked,
+    number: u8,
+    out: &mut [u8],
+) -> Stepped
+    requires { (fit_prefix c.now.addresses.own ≡ true) × (c.now.limits.window ≤ 128) × (outgoing_length c.now.addresses (carries of c.now.limits) ≤ length out.old) }
+    ensures { works result [] [] out.new ≡ replying node c.now of number s [] [] out.old }
+{
+    reply(
+        s.answer,
+        node,
+        c.addresses,
+        of,
         number,
-        channel.pulse,
+        c.limits,
+        s.channel.window,
+        out,
     );
-    channel.pulse = pulse;
-    Stepped { channel, answer }
+    acknowledged(number, s)
 }

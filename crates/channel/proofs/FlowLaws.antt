@@ -12,21 +12,13 @@ use Rattle.channel.specs.declared.record.Channel.{Channel}
 use Rattle.channel.specs.declared.answer.Refusal.TheVariants as refusal
 use Rattle.channel.specs.Record.{opened, lone_none, no_lone, with_pulse}
 use Rattle.channel.specs.Lone.{ready_lone, is_out}
-use Rattle.channel.specs.Steps.{refusing, doing, outgoing_length}
-use Rattle.channel.specs.Flow.{flows, acceptable, stated, with_flow, telling_in, replied_in, answered_by, flow_ack_step, recording, recorded_first, flow_step}
+use Rattle.channel.specs.Steps.{refusing, doing}
+use Rattle.channel.specs.Flow.{flows, acceptable, stated, with_flow, telling_in, replied_in, answered_by, flow_ack_step, recording, recorded_first}
 use Rattle.channel.proofs.StandingLaws.{Sane}
 
 -- ---- case by case
 
 module _ (c : Channel) (number : ℕ) where
-  pub flow_open : c.phase.state ≡ opened → flow_step c number ≡ doing (with_pulse c (recording c.limits c.window number c.pulse)) (outgoing_length c.addresses 0)
-  unfolding flow_step
-  flow_open e = simp (eq-eqb c.phase.state opened e)
-
-  pub flow_shut : (c.phase.state ≡ opened → ⊥) → flow_step c number ≡ refusing c refusal.State
-  unfolding flow_step
-  flow_shut n = simp (ne_eqb c.phase.state opened n)
-
   pub flow_ack_shut : (c.phase.state ≡ opened → ⊥) → flow_ack_step c number ≡ refusing c refusal.State
   unfolding flow_ack_step
   flow_ack_shut n = simp (ne_eqb c.phase.state opened n)

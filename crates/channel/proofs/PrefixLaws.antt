@@ -1,9 +1,12 @@
 -- Laws of prefixes: octet by octet, and what is equal.
 -- Assumes nothing.
-use Rattle.std.proofs.Common.{◌≡◌, ℕ, zero, suc, ◌+◌, ◌-◌, ◌<◌, ◌≤◌, Bool, true, false, ◌&&◌, eqb, leb, List, [], ◌∷◌, ◌++◌, length, get_or, take, drop, set, replicate, sym, refl, ap, ◌∙◌, ap₂, ⊎_elim, true≢false, le_of_suc-le-suc, not-suc-le-zero, add-zero, add-suc, zero-add, add-one, arith, length-append, length-drop, get_or-drop, drop-cons, take_at, get_or-append-add, eq-eqb, eqb-true, leb-true}
+use Rattle.std.proofs.Common.{◌≡◌, ℕ, zero, suc, ◌+◌, ◌-◌, ◌<◌, ◌≤◌, Bool, true, false, ◌&&◌, eqb, leb, List, ◌∷◌, ◌++◌, length, get_or, take, drop, replicate, sym, refl, ap, ◌∙◌, ap₂, ⊎_elim, true≢false, le_of_suc-le-suc, not-suc-le-zero, add-zero, add-suc, zero-add, add-one, arith, length-drop, get_or-drop, drop-cons, get_or-append-add, eq-eqb, eqb-true, le-leb, leb-true}
 use borrow.Author.Tests.{eqb-false}
-use lib.ListN.{length-replicate, get_or-replicate, get_or-append}
-use lib.Seq.{set_at, append_snoc}
+use lib.ListN.{get_or-replicate, get_or-append}
+use Rattle.std.specs.List.{list_all}
+use Rattle.std.proofs.lemmas.List.{drop_all}
+use lib.Pointwise.{pointwise}
+use Rattle.std.proofs.Math.Seq.{take-length}
 use Rattle.laws.proofs.Choice.{both, either_way}
 use Rattle.laws.proofs.Numbers.{lt_cases}
 use Rattle.packet.specs.Layout.{most_prefix}
@@ -13,22 +16,28 @@ use Rattle.channel.specs.Prefixes.{octets_from, each, is_zero, is_same, prefix_o
 -- ---- one after the other
 
 module _ (test : ℕ → Bool) where
-  pub each_none : (n i : ℕ) → n ≤ i → each test (n - i) i ≡ true
-  unfolding each
-  each_none n i h = let e : n - i ≡ 0 = omega arith in rw e
-
-  pub each_more : (n i : ℕ) → i < n → test i ≡ true → each test (n - i) i ≡ each test (n - (i + 1)) (i + 1)
-  unfolding each
-  each_more n i l t = let e : n - i ≡ suc (n - (i + 1)) = omega arith in rw (e, t)
-
-  pub each_no : (n i : ℕ) → i < n → test i ≡ false → each test (n - i) i ≡ false
-  unfolding each
-  each_no n i l t = let e : n - i ≡ suc (n - (i + 1)) = omega arith in rw (e, t)
-
   each_all : (n i : ℕ) → ((k : ℕ) → test k ≡ true) → each test n i ≡ true
   unfolding each
   each_all zero i f = refl
   each_all (suc n) i f = simp (f i, each_all n (i + 1) f)
+
+-- a test of each of the last n elements of a list, as the list is walked and by index
+pub each_last : (test : ℕ → Bool) (l : List ℕ) (n i : ℕ) → length l ≡ i + n → list_all test (drop i l) ≡ each (λ k. test (get_or l k 0)) n i
+unfolding each
+each_last test l zero i h = simp (drop_all i l (omega arith))
+each_last test l (suc n) i h =
+    let rest : list_all test (drop (suc i) l) ≡ each (λ k. test (get_or l k 0)) n (i + 1) =
+    ap (λ (j : ℕ). list_all test (drop j l)) (sym (add-one i)) ∙ each_last test l n (i + 1) (omega (arith, h)) in
+    rw (drop-cons l i 0 (omega (arith, h))) (ap (λ (b : Bool). test (get_or l i 0) && b) rest)
+
+-- two lists are equal, as they are walked and by index
+pub same_last : (l m : List ℕ) (n i : ℕ) → length l ≡ i + n → length m ≡ i + n → pointwise eqb (drop i l) (drop i m) ≡ each (is_same l m) n i
+unfolding each
+same_last l m zero i h k = simp (drop_all i l (omega arith), drop_all i m (omega arith))
+same_last l m (suc n) i h k =
+    let rest : pointwise eqb (drop (suc i) l) (drop (suc i) m) ≡ each (is_same l m) n (i + 1) =
+    ap (λ (j : ℕ). pointwise eqb (drop j l) (drop j m)) (sym (add-one i)) ∙ same_last l m n (i + 1) (omega (arith, h)) (omega (arith, k)) in
+    rw (drop-cons l i 0 (omega (arith, h)), drop-cons m i 0 (omega (arith, k))) (ap (λ (b : Bool). eqb (get_or l i 0) (get_or m i 0) && b) rest)
 
 -- what passes two tests passes a third that follows from both
 each_both : (a b c : ℕ → Bool) → ((k : ℕ) → a k ≡ true → b k ≡ true → c k ≡ true) → (n i : ℕ) → each a n i ≡ true → each b n i ≡ true → each c n i ≡ true
@@ -53,44 +62,27 @@ pub prefix_short : (p : Prefix) → fit_prefix p ≡ true → p.length ≤ most_
 unfolding fit_prefix
 prefix_short p e = leb-true _ _ (both _ _ e).0
 
--- one octet more
-from_more : (l : List ℕ) (n i : ℕ) → octets_from l (n + 1) i ≡ octets_from l n i ++ (get_or l (i + n) 0 ∷ [])
-from_more l n i = ap (λ (k : ℕ). octets_from l k i) (add-one n) ∙ go n i
-  where
-    go : (n i : ℕ) → octets_from l (suc n) i ≡ octets_from l n i ++ (get_or l (i + n) 0 ∷ [])
-    go zero i = ap (λ (k : ℕ). get_or l k 0 ∷ []) (sym (add-zero i))
-    go (suc n) i =
-        let e : i + 1 + n ≡ i + suc n = omega (arith, add-suc i n) in
-        ap (λ (t : List ℕ). get_or l i 0 ∷ t) (go n (i + 1) ∙ ap (λ (k : ℕ). octets_from l n (i + 1) ++ (get_or l k 0 ∷ [])) e)
+-- the part of a record's octets that is lent
+from_take : (l : List ℕ) (n i : ℕ) → i + n ≤ length l → take n (drop i l) ≡ octets_from l n i
+from_take l zero i h = refl
+from_take l (suc n) i h =
+    let rest : take n (drop (suc i) l) ≡ octets_from l n (i + 1) = ap (λ (j : ℕ). take n (drop j l)) (sym (add-one i)) ∙ from_take l n (i + 1) (omega (arith, h)) in
+    rw (drop-cons l i 0 (omega (arith, h))) (ap (λ (t : List ℕ). get_or l i 0 ∷ t) rest)
 
--- laid out: at first none, then one more, and as many as there are places
-pub laid_none : (l : List ℕ) → replicate most_prefix 0 ≡ padded 0 (octets_from l 0 0)
-laid_none l = refl
-
-pub laid_more : (l own : List ℕ) (i : ℕ) → i < most_prefix → own ≡ padded i (octets_from l i 0) → set own i (get_or l i 0) ≡ padded (i + 1) (octets_from l (i + 1) 0)
-laid_more l own i h e =
-    let zeros : List ℕ = replicate most_prefix 0 in
-    let front = octets_from l i 0 in
-    let next : drop i zeros ≡ get_or zeros i 0 ∷ drop (suc i) zeros = drop-cons zeros i 0 (omega (arith, length-replicate {A = ℕ} most_prefix 0)) in
-    ap (λ (t : List ℕ). set t i (get_or l i 0)) (e ∙ ap (λ (t : List ℕ). front ++ t) next)
-    ∙ set_at front (get_or zeros i 0) (drop (suc i) zeros) (get_or l i 0) i (from_length l i 0)
-    ∙ sym (append_snoc front (get_or l i 0) (drop (suc i) zeros))
-    ∙ ap₂ (λ (a : List ℕ) (k : ℕ). a ++ drop k zeros) (ap (λ (k : ℕ). front ++ (get_or l k 0 ∷ [])) (sym (zero-add i)) ∙ sym (from_more l i 0)) (sym (add-one i))
-
-pub padded_length : (n : ℕ) (l : List ℕ) → n ≤ most_prefix → length l ≡ n → length (padded n l) ≡ most_prefix
-padded_length n l h e =
-    let zeros : List ℕ = replicate most_prefix 0 in
-    omega (arith, length-append l (drop n zeros), length-drop n zeros, length-replicate {A = ℕ} most_prefix 0)
-
--- the part that is lent of what is laid out
-pub laid_first : (p : Prefix) (own : List ℕ) → own ≡ padded p.length (octets_from p.octets p.length 0) → take p.length own ≡ prefix_of p
+pub lent_first : (p : Prefix) → p.length ≤ length p.octets → take p.length p.octets ≡ prefix_of p
 unfolding prefix_of
-laid_first p own e =
-    ap (take p.length) e
-    ∙ take_at (octets_from p.octets p.length 0) (drop p.length (replicate most_prefix 0)) p.length (from_length p.octets p.length 0)
+lent_first p h = from_take p.octets p.length 0 (omega (arith, h))
 
-pub laid_length : (p : Prefix) (own : List ℕ) → p.length ≤ most_prefix → own ≡ padded p.length (octets_from p.octets p.length 0) → length own ≡ most_prefix
-laid_length p own h e = ap length e ∙ padded_length p.length (octets_from p.octets p.length 0) h (from_length p.octets p.length 0)
+-- the octets past the prefix, tested in a row
+pub clear_past : (p : Prefix) (rest : List ℕ) → length p.octets ≡ most_prefix → p.length ≤ most_prefix
+    → rest ≡ take (length p.octets - p.length) (drop p.length p.octets)
+    → list_all (λ x. eqb x 0) rest ≡ fit_prefix p
+unfolding fit_prefix
+clear_past p rest long short e =
+    let all : take (length p.octets - p.length) (drop p.length p.octets) ≡ drop p.length p.octets =
+    rw (← length-drop p.length p.octets) (take-length (drop p.length p.octets)) in
+    simp (le-leb p.length most_prefix short)
+    (ap (list_all (λ x. eqb x 0)) (e ∙ all) ∙ each_last (λ x. eqb x 0) p.octets (most_prefix - p.length) p.length (omega (arith, long, short)))
 
 -- ---- equal prefixes
 

@@ -1,5 +1,7 @@
 -- The number and the values of each answer (document 01, Answer numbers).
 use Rattle.std.specs.Prelude.{ℕ}
+use Rattle.packet.specs.declared.reading.ReadError.{ReadError}
+use Rattle.packet.specs.declared.reading.ReadError.TheVariants as read
 use Rattle.channel.specs.declared.answer.Answer.{Answer}
 use Rattle.channel.specs.declared.answer.Answer.TheVariants.{Done, Repeated, Inactive, Refused}
 use Rattle.channel.specs.declared.answer.Refusal.{Refusal}
@@ -70,3 +72,10 @@ reason_of (Done n u) = 0
 reason_of (Repeated n) = 0
 reason_of (Inactive why) = why
 reason_of (Refused r) = 0
+
+-- a packet that is not read is refused for the same reason
+abbrev pub refusal_of : ReadError → Refusal
+refusal_of read.Short = refusal.Short
+refusal_of read.Damaged = refusal.Damaged
+refusal_of read.Lacking = refusal.Lacking
+refusal_of read.Strange = refusal.Strange

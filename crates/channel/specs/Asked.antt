@@ -6,7 +6,9 @@ use Rattle.channel.specs.declared.record.Window.{Window}
 use Rattle.channel.specs.declared.record.Channel.{Channel}
 use Rattle.channel.specs.Standing.{Standing}
 
--- the numbers of a window on its ring; a record that stands has them (`ringed` of proofs/StandingLaws.antt)
+-- the numbers of a window on its ring; a record that stands has them (`ringed` of proofs/StandingLaws.antt). A fact that functions ask, and no type that
+-- holds it: it ties two parts of a lent record, which steps change apart, so such a value would be made anew, with its proof, at each call; and lent
+-- records hold numbers alone
 pub record Ringed (l : Limits) (w : Window) : Type 0 where
   pub window : l.window ≤ 128
   pub most : l.slots ≤ 128

@@ -1,7 +1,11 @@
 // What a call of the node answers (document 01, Answer numbers).
 ghost use Rattle.std.specs.Prelude.{◌≡◌};
-ghost use Rattle.channel.specs.Answers.{refusal_number, number_of, length_of, wanted_by, wanted_of, confirmed_of, reason_of};
+ghost use Rattle.channel.specs.Answers.{refusal_number, number_of, length_of, wanted_of, confirmed_of};
 
+use packet::ReadError;
+
+// An enum of its own and no `Result`: four endings, with document 01's numbers 0, 15, 9 and those of the refusals, and no caller leaves at one with `?`:
+// the channel is stored and its lines are set right after each.
 #[derive(Clone, Copy)]
 pub enum Answer {
     // With the octets written, and the units that a Data Ack confirmed.
@@ -41,104 +45,88 @@ pub enum Refusal {
     Ignored,
 }
 
+impl Answer {
+    // The octets written, with 0 and 15.
+    pub fn length(self) -> usize
+        ensures { result ≡ length_of self }
+    {
+        match self {
+            Answer::Done { length, .. } | Answer::Repeated { length } => length,
+            _ => 0,
+        }
+    }
+
+    // The octets that a lent buffer must have, with 11.
+    pub fn wanted(self) -> usize
+        ensures { result ≡ wanted_of self }
+    {
+        match self {
+            Answer::Refused(Refusal::Small(octets)) => octets,
+            _ => 0,
+        }
+    }
+
+    // The units that a Data Ack confirmed, with 0.
+    pub fn confirmed(self) -> usize
+        ensures { result ≡ confirmed_of self }
+    {
+        match self {
+            Answer::Done { confirmed, .. } => confirmed,
+            _ => 0,
+        }
+    }
+}
+
 // Document 01's number.
-pub fn number(a: Answer) -> u32
-    ensures { result ≡ number_of a }
-{
-    match a {
-        Answer::Done {
-            length: _,
-            confirmed: _,
-        } => 0,
-        Answer::Repeated { length: _ } => 15,
-        Answer::Inactive(_) => 9,
-        Answer::Refused(refusal) => refusal_number(refusal),
+impl From<Answer> for u32 {
+    ghost from_gives = { λ answer number. number ≡ number_of answer };
+
+    fn from(answer: Answer) -> u32 {
+        match answer {
+            Answer::Done { .. } => 0,
+            Answer::Repeated { .. } => 15,
+            Answer::Inactive(_) => 9,
+            Answer::Refused(refusal) => u32::from(refusal),
+        }
     }
 }
 
-fn refusal_number(r: Refusal) -> u32
-    ensures { result ≡ refusal_number r }
-{
-    match r {
-        Refusal::Short => 1,
-        Refusal::Damaged => 2,
-        Refusal::Strange => 3,
-        Refusal::Lacking => 4,
-        Refusal::State => 5,
-        Refusal::Long => 6,
-        Refusal::NoRoom => 7,
-        Refusal::Full => 8,
-        Refusal::Untaken => 10,
-        Refusal::Small(_) => 11,
-        Refusal::Nothing => 12,
-        Refusal::Settings => 13,
-        Refusal::NoChannel => 14,
-        Refusal::Ignored => 16,
+impl From<Refusal> for u32 {
+    ghost from_gives = { λ refusal number. number ≡ refusal_number refusal };
+
+    fn from(refusal: Refusal) -> u32 {
+        match refusal {
+            Refusal::Short => 1,
+            Refusal::Damaged => 2,
+            Refusal::Strange => 3,
+            Refusal::Lacking => 4,
+            Refusal::State => 5,
+            Refusal::Long => 6,
+            Refusal::NoRoom => 7,
+            Refusal::Full => 8,
+            Refusal::Untaken => 10,
+            Refusal::Small(_) => 11,
+            Refusal::Nothing => 12,
+            Refusal::Settings => 13,
+            Refusal::NoChannel => 14,
+            Refusal::Ignored => 16,
+        }
     }
 }
 
-// The octets written, with 0 and 15.
-pub fn length(a: Answer) -> usize
-    ensures { result ≡ length_of a }
-{
-    match a {
-        Answer::Done {
-            length,
-            confirmed: _,
-        } => length,
-        Answer::Repeated { length } => length,
-        Answer::Inactive(_) => 0,
-        Answer::Refused(_) => 0,
-    }
-}
+// A packet that is not read is refused for the same reason.
+impl From<ReadError> for Refusal {
+    ghost use Rattle.std.specs.Prelude.{◌≡◌};
+    ghost use Rattle.channel.specs.Answers.{refusal_of};
 
-// The octets that a lent buffer must have, with 11.
-pub fn wanted(a: Answer) -> usize
-    ensures { result ≡ wanted_of a }
-{
-    match a {
-        Answer::Done {
-            length: _,
-            confirmed: _,
-        } => 0,
-        Answer::Repeated { length: _ } => 0,
-        Answer::Inactive(_) => 0,
-        Answer::Refused(refusal) => wanted_by(refusal),
-    }
-}
+    ghost from_gives = { λ unread refusal. refusal ≡ refusal_of unread };
 
-fn wanted_by(r: Refusal) -> usize
-    ensures { result ≡ wanted_by r }
-{
-    match r {
-        Refusal::Small(octets) => octets,
-        Refusal::Short => 0,
-        Refusal::Damaged => 0,
-        Refusal::Strange => 0,
-        Refusal::Lacking => 0,
-        Refusal::State => 0,
-        Refusal::Long => 0,
-        Refusal::NoRoom => 0,
-        Refusal::Full => 0,
-        Refusal::Untaken => 0,
-        Refusal::Nothing => 0,
-        Refusal::Settings => 0,
-        Refusal::NoChannel => 0,
-        Refusal::Ignored => 0,
-    }
-}
-
-// The units that a Data Ack confirmed, with 0.
-pub fn confirmed(a: Answer) -> usize
-    ensures { result ≡ confirmed_of a }
-{
-    match a {
-        Answer::Done {
-            length: _,
-            confirmed,
-        } => confirmed,
-        Answer::Repeated { length: _ } => 0,
-        Answer::Inactive(_) => 0,
-        Answer::Refused(_) => 0,
+    fn from(unread: ReadError) -> Refusal {
+        match unread {
+            ReadError::Short => Refusal::Short,
+            ReadError::Damaged => Refusal::Damaged,
+            ReadError::Lacking => Refusal::Lacking,
+            ReadError::Strange => Refusal::Strange,
+        }
     }
 }

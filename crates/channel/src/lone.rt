@@ -4,13 +4,17 @@ ghost use Rattle.channel.specs.Lone.{is_ready, is_out, handed_out, fallen};
 
 use crate::record::Lone;
 
+// Its states: numbers, as all that a lent record holds.
+pub(crate) const NONE: u8 = 0;
+
 const READY: u8 = 1;
 
 const OUT: u8 = 2;
 
-const AGAIN: u8 = 3;
+pub(crate) const AGAIN: u8 = 3;
 
-// The packet after a tick, and whether its timer ended with its retries used up.
+// The packet after a tick, and whether its timer ended with its retries used up. It is no `Option`: the definition `beaten_by` takes the packet on in
+// either case.
 #[derive(Clone, Copy)]
 pub struct Fallen {
     pub lone: Lone,
@@ -21,27 +25,25 @@ pub struct Fallen {
 pub fn is_ready(l: Lone) -> bool
     ensures { result ≡ is_ready l }
 {
-    if l.state == READY {
-        return true;
-    }
-    l.state == AGAIN
+    l.state == READY || l.state == AGAIN
 }
 
 // It was handed out, and an ack is awaited, also while it waits to be resent.
 pub fn is_out(l: Lone) -> bool
     ensures { result ≡ is_out l }
 {
-    if l.state == OUT {
-        return true;
-    }
-    l.state == AGAIN
+    l.state == OUT || l.state == AGAIN
 }
 
 // Its timer starts at the timeout. The retries are the resends allowed to it.
 pub fn hand_out(l: Lone, timeout: u16, retries: u16) -> Lone
     ensures { result ≡ handed_out l timeout retries }
 {
-    let tries = tries_left(l, retries);
+    let tries = if l.state == AGAIN {
+        l.tries.saturating_sub(1)
+    } else {
+        retries
+    };
     Lone {
         state: OUT,
         timer: timeout,
@@ -49,54 +51,29 @@ pub fn hand_out(l: Lone, timeout: u16, retries: u16) -> Lone
     }
 }
 
-fn tries_left(l: Lone, retries: u16) -> u16
-    ensures { result ≡ (handed_out l 0 retries).tries }
-{
-    if l.state != AGAIN {
-        return retries;
-    }
-    if l.tries == 0 {
-        return 0;
-    }
-    l.tries - 1
-}
-
 // One tick.
+#[tactic(auto, unfolding(crate::specs::Lone::fallen))]
 pub fn fall(l: Lone) -> Fallen
     ensures { result ≡ fallen l }
 {
-    if l.state != OUT {
-        return Fallen {
-            lone: l,
-            spent: false,
-        };
-    }
-    if 2 <= l.timer {
-        return Fallen {
-            lone: Lone {
-                state: OUT,
+    let (lone, spent) = match l.state {
+        OUT if 2 <= l.timer => (
+            Lone {
                 timer: l.timer - 1,
-                tries: l.tries,
+                ..l
             },
-            spent: false,
-        };
-    }
-    if l.tries == 0 {
-        return Fallen {
-            lone: Lone {
-                state: 0,
+            false,
+        ),
+        OUT if l.tries == 0 => (Lone::NONE, true),
+        OUT => (
+            Lone {
+                state: AGAIN,
                 timer: 0,
-                tries: 0,
+                ..l
             },
-            spent: true,
-        };
-    }
-    Fallen {
-        lone: Lone {
-            state: AGAIN,
-            timer: 0,
-            tries: l.tries,
-        },
-        spent: false,
-    }
+            false,
+        ),
+        _ => (l, false),
+    };
+    Fallen { lone, spent }
 }

@@ -2,7 +2,7 @@
 ghost use Rattle.std.specs.Prelude.{◌≡◌};
 ghost use Rattle.channel.specs.Record.{fresh_of, made_of};
 
-// Directions.
+// Directions. These, the states and the reasons are numbers and no enums: they lie in the record, where any number may stand.
 pub const SENDS: u8 = 0;
 
 pub const RECEIVES: u8 = 1;
@@ -44,10 +44,18 @@ pub struct Node {
 
 // A Source Address prefix (document 02, A7): so many octets, and 0 in those past them.
 #[repr(C)]
-#[derive(Clone, Copy)]
+#[derive(Clone, Copy, PartialEq, Eq)]
 pub struct Prefix {
     pub length: u8,
     pub octets: [u8; 15],
+}
+
+impl Prefix {
+    // Logical addressing.
+    pub const NONE: Prefix = Prefix {
+        length: 0,
+        octets: [0; 15],
+    };
 }
 
 // Which channel it is, to which node, and whether this end sends or receives. prefix: where that node is, seen from here; it stands in the
@@ -98,6 +106,21 @@ pub struct Lone {
     pub tries: u16,
 }
 
+impl Lone {
+    // Nothing is sent.
+    pub const NONE: Lone = Lone {
+        state: 0,
+        timer: 0,
+        tries: 0,
+    };
+
+    // It becomes ready.
+    pub const READY: Lone = Lone {
+        state: 1,
+        ..Lone::NONE
+    };
+}
+
 // Where an opening stands. reason: why the channel last went inactive. kept: a Close directive waits for the Open's ack.
 // accepted: Data was accepted in this opening. control: the Open or Close that is sent.
 #[repr(C)]
@@ -122,6 +145,16 @@ pub struct Flow {
     pub recorded: u8,
 }
 
+impl Flow {
+    pub const NONE: Flow = Flow {
+        packet: Lone::NONE,
+        number: 0,
+        stated: 0,
+        last: 0,
+        recorded: 0,
+    };
+}
+
 // In OPEN: the ticks left until this end makes a Heartbeat (0: it makes none), the Heartbeat that is sent (document 02, A2), and Flow Control.
 #[repr(C)]
 #[derive(Clone, Copy)]
@@ -129,6 +162,15 @@ pub struct Pulse {
     pub left: u16,
     pub beat: Lone,
     pub flow: Flow,
+}
+
+impl Pulse {
+    // Out of OPEN there is none.
+    pub const NONE: Pulse = Pulse {
+        left: 0,
+        beat: Lone::NONE,
+        flow: Flow::NONE,
+    };
 }
 
 // The window's first number, and the place on the ring of slots where that segment lies: the number does not tell it.
@@ -146,6 +188,18 @@ pub struct Window {
     pub way: usize,
 }
 
+impl Window {
+    // An opening begins at number 1, with nothing held.
+    pub const FRESH: Window = Window {
+        start: 1,
+        place: 0,
+        behind: 0,
+        ahead: 0,
+        flight: 0,
+        way: 0,
+    };
+}
+
 // By place: ticks left to a segment that is out (0: none runs), and the resends left to it. closing: the receiver's close timer.
 #[repr(C)]
 #[derive(Clone, Copy)]
@@ -153,6 +207,14 @@ pub struct Timers {
     pub closing: u16,
     pub left: [u16; 128],
     pub tries: [u16; 128],
+}
+
+impl Timers {
+    pub const NONE: Timers = Timers {
+        closing: 0,
+        left: [0; 128],
+        tries: [0; 128],
+    };
 }
 
 // marks, by place: 0 for a slot not in use, else the segment's flags and 1 more. acked, by place: not 0 once acknowledged.
@@ -183,38 +245,9 @@ pub fn fresh(addresses: Addresses, limits: Limits, state: u8, control: Lone) -> 
             accepted: 0,
             control,
         },
-        pulse: Pulse {
-            left: 0,
-            beat: Lone {
-                state: 0,
-                timer: 0,
-                tries: 0,
-            },
-            flow: Flow {
-                packet: Lone {
-                    state: 0,
-                    timer: 0,
-                    tries: 0,
-                },
-                number: 0,
-                stated: 0,
-                last: 0,
-                recorded: 0,
-            },
-        },
-        window: Window {
-            start: 1,
-            place: 0,
-            behind: 0,
-            ahead: 0,
-            flight: 0,
-            way: 0,
-        },
-        timers: Timers {
-            closing: 0,
-            left: [0; 128],
-            tries: [0; 128],
-        },
+        pulse: Pulse::NONE,
+        window: Window::FRESH,
+        timers: Timers::NONE,
         marks: [0; 128],
         acked: [0; 128],
     }
@@ -224,12 +257,5 @@ pub fn fresh(addresses: Addresses, limits: Limits, state: u8, control: Lone) -> 
 pub fn made(s: Settings) -> Channel
     ensures { result ≡ made_of s }
 {
-    let addresses = s.addresses;
-    let limits = s.limits;
-    let control = Lone {
-        state: 0,
-        timer: 0,
-        tries: 0,
-    };
-    fresh(addresses, limits, CLOSED, control)
+    fresh(s.addresses, s.limits, CLOSED, Lone::NONE)
 }

@@ -8,113 +8,61 @@ use crate::record::{Addresses, Limits, RECEIVES, Settings};
 // The most that settings allow for the window.
 const MOST_WINDOW: usize = 128;
 
+#[tactic(auto, unfolding(crate::specs::Settings::fit))]
 pub fn is_fit(s: Settings) -> bool
     ensures { result ≡ fit s }
 {
-    if !fits_addresses(s.addresses) {
-        return false;
-    }
-    fits_limits(s.limits)
+    fits_addresses(s.addresses) && fits_limits(s.limits)
 }
 
+#[tactic(auto, unfolding(crate::specs::Settings::fit_addresses))]
 pub fn fits_addresses(a: Addresses) -> bool
     ensures { result ≡ fit_addresses a }
 {
-    if RECEIVES < a.direction {
-        return false;
-    }
-    if !fits_prefix(a.prefix) {
-        return false;
-    }
-    fits_prefix(a.own)
+    a.direction <= RECEIVES && fits_prefix(a.prefix) && fits_prefix(a.own)
 }
 
+#[tactic(auto, unfolding(crate::specs::Settings::fit_limits))]
 pub fn fits_limits(l: Limits) -> bool
     ensures { result ≡ fit_limits l }
 {
-    if !fits_window(l) {
-        return false;
-    }
-    if !fits_units(l) {
-        return false;
-    }
-    if !fits_timers(l) {
-        return false;
-    }
-    if 1 < l.flow {
-        return false;
-    }
-    fits_route(l)
+    fits_window(l) && fits_units(l) && fits_timers(l) && l.flow <= 1 && fits_route(l)
 }
 
 // Whoever names a spare has the leading octet.
+#[tactic(auto, unfolding(crate::specs::Settings::fit_route))]
 fn fits_route(l: Limits) -> bool
     ensures { result ≡ fit_route l }
 {
-    if 16 < l.spare {
-        return false;
-    }
-    if 1 < l.lead {
-        return false;
-    }
-    if l.spare == 0 {
-        return true;
-    }
-    l.lead == 1
+    l.spare <= 16 && l.lead <= 1 && (l.spare == 0 || l.lead == 1)
 }
 
 // A power of two up to 128 is what divides 128.
+#[tactic(auto, unfolding(crate::specs::Settings::fit_window))]
 fn fits_window(l: Limits) -> bool
     ensures { result ≡ fit_window l }
 {
-    if l.window < 1 {
-        return false;
-    }
-    if MOST_WINDOW % l.window != 0 {
-        return false;
-    }
-    if l.slots < l.window {
-        return false;
-    }
-    l.slots <= 128
+    1 <= l.window && MOST_WINDOW % l.window == 0 && l.window <= l.slots && l.slots <= 128
 }
 
+#[tactic(auto, unfolding(crate::specs::Settings::fit_units))]
 fn fits_units(l: Limits) -> bool
     ensures { result ≡ fit_units l }
 {
-    if l.payload < 1 {
-        return false;
-    }
-    if 1024 < l.payload {
-        return false;
-    }
-    if l.segments < 1 {
-        return false;
-    }
-    l.segments <= l.slots
+    (1..=1024).contains(&l.payload) && (1..=l.slots).contains(&l.segments)
 }
 
+#[tactic(auto, unfolding(crate::specs::Settings::fit_timers))]
 fn fits_timers(l: Limits) -> bool
     ensures { result ≡ fit_timers l }
 {
-    if l.timeout < 1 {
-        return false;
-    }
-    if l.closing < 1 {
-        return false;
-    }
-    l.retries <= 255
+    1 <= l.timeout && 1 <= l.closing && l.retries <= 255
 }
 
 // No two records may be so: equal channel number, remote address and remote prefix, whatever their directions.
+#[tactic(auto, unfolding(crate::specs::Settings::clash))]
 pub fn is_clash(a: Addresses, b: Addresses) -> bool
     ensures { result ≡ clash a b }
 {
-    if a.channel != b.channel {
-        return false;
-    }
-    if a.remote != b.remote {
-        return false;
-    }
-    is_same(a.prefix, b.prefix)
+    a.channel == b.channel && a.remote == b.remote && is_same(a.prefix, b.prefix)
 }

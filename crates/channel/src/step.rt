@@ -1,23 +1,24 @@
 // What every step of a channel is made of: the channel and an answer; an opening begun; the fields of a packet that goes out.
-ghost use Rattle.std.specs.Prelude.{◌≡◌, true, length};
+ghost use Rattle.std.specs.Prelude.{◌≡◌, ◌<◌, ◌^◌, true, length};
 ghost use Rattle.packet.specs.Writing.{written_of, after_write};
 ghost use Rattle.channel.specs.Prefixes.{prefix_of, fit_prefix};
-ghost use Rattle.channel.specs.Steps.{answered, refusing, doing, enabled_of, outgoing_of};
+ghost use Rattle.channel.specs.Steps.{answered, refusing, doing, enabled_of, outgoing_of, outgoing_length};
 
 use crate::answer::{Answer, Refusal};
-use crate::prefixes::laid_out;
 use crate::record::{Addresses, Channel, ENABLED, Lone, Node, fresh};
-use packet::kinds::code_of;
-use packet::{Fields, Kind, Written, write_packet};
+use packet::fields::LEAST;
+use packet::{Fields, Kind, WriteError, write_packet};
 
-// The channel after a step, and what the step answers.
+// The channel after a step, and what the step answers. No `Result`: what a refusal leaves is said of the channel too, and a caller stores it and lists it
+// in either case.
 #[derive(Clone, Copy)]
 pub struct Stepped {
     pub channel: Channel,
     pub answer: Answer,
 }
 
-// The channel after a tick, and whether it went inactive in it.
+// The channel after a tick, and whether it went inactive in it. No `Option`: the channel counts in either case, and one that went inactive has the reason
+// in its record.
 #[derive(Clone, Copy)]
 pub struct Ticked {
     pub channel: Channel,
@@ -57,9 +58,7 @@ pub fn done(c: Channel, length: usize) -> Stepped
 pub fn enabled(c: Channel, control: Lone) -> Channel
     ensures { result ≡ enabled_of c control }
 {
-    let addresses = c.addresses;
-    let limits = c.limits;
-    fresh(addresses, limits, ENABLED, control)
+    fresh(c.addresses, c.limits, ENABLED, control)
 }
 
 // From this node to the channel's other end.
@@ -72,7 +71,7 @@ pub fn outgoing(node: Node, a: Addresses, kind: Kind, flags: u8, number: u8) -> 
         version: 1,
         secondary: 0,
         flags,
-        kind: code_of(kind),
+        kind: u8::from(kind),
         channel: a.channel,
         number,
         reserved: 0,
@@ -80,13 +79,25 @@ pub fn outgoing(node: Node, a: Addresses, kind: Kind, flags: u8, number: u8) -> 
     }
 }
 
+// How many octets a packet to the channel's other end has with a payload of n octets: of any kind, it carries the own prefix.
+pub fn outgoing_length(a: Addresses, n: usize) -> usize
+    requires { outgoing_length a n < 2 ^ 64 }
+    ensures { result ≡ outgoing_length a n }
+{
+    LEAST + usize::from(a.own.length) + n
+}
+
 // A packet to the channel's other end is written with the own prefix.
-pub fn write_outgoing(a: Addresses, fields: Fields, payload: &[u8], out: &mut [u8]) -> Written
+pub fn write_outgoing(
+    a: Addresses,
+    fields: Fields,
+    payload: &[u8],
+    out: &mut [u8],
+) -> Result<usize, WriteError>
     requires { fit_prefix a.own ≡ true }
     ensures { (result ≡ written_of fields a.own.length (length payload.now) (length out.old)) × (out.new ≡ after_write result fields (prefix_of a.own) payload.now out.old) }
 {
-    let octets = a.own.octets;
-    let n = a.own.length as usize;
-    let prefix = laid_out(octets, n);
+    let prefix = a.own.octets;
+    let n = usize::from(a.own.length);
     write_packet(fields, &prefix[..n], payload, out)
 }

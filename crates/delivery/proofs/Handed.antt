@@ -8,17 +8,15 @@ use native.Mathlib.Omega.{arith}
 use borrow.Author.Tests.{eqb-true, eqb-false, eq-eqb, ne_eqb, ltb-false}
 use lib.Dec.{ltb, eqb}
 use lib.ListN.{length, get_or, take, drop}
-use Rattle.std.specs.Prelude.{if◌then◌else◌}
+use Rattle.std.specs.Prelude.{Ok, if◌then◌else◌}
 use Rattle.laws.proofs.Choice.{chosen, passed_by}
 use Rattle.slots.specs.Slots.{segment_in}
 use Rattle.channel.specs.Places.{slot_of}
 use Rattle.packet.specs.declared.kinds.Kind.TheVariants.{Data, Open, Close, Heartbeat, FlowControl}
 use Rattle.packet.specs.Kinds.{code_of, kind_of, is_data}
 use Rattle.packet.specs.declared.fields.Fields.{Fields}
-use Rattle.packet.specs.declared.reading.Read.TheVariants.{Found}
-use Rattle.packet.specs.declared.writing.Written.TheVariants as written
 use Rattle.packet.specs.Layout.{payload_at, fields_at, payload_in}
-use Rattle.packet.specs.Reading.{read_of}
+use Rattle.packet.specs.Reading.{finds, read_of}
 use Rattle.packet.specs.Writing.{written_of, after_write}
 use Rattle.packet.proofs.WriteLaws.{write_done}
 use Rattle.packet.proofs.ReadLaws.{accepted}
@@ -95,7 +93,7 @@ module _ (c : Channel) (mem lens : List ℕ) (rank : ℕ) where
 
 -- these octets are the packet of the rank, and are read as that
 pub record Carries (node : Node) (c : Channel) (mem lens : List ℕ) (rank : ℕ) (packet : List ℕ) : Type 0 where
-  pub read : read_of packet ≡ Found (next_fields node c rank) (length (prefix_of c.addresses.own)) (payload_at (length (prefix_of c.addresses.own))) (length (next_payload c lens mem rank))
+  pub read : read_of packet ≡ finds (next_fields node c rank) (length (prefix_of c.addresses.own)) (payload_at (length (prefix_of c.addresses.own))) (length (next_payload c lens mem rank))
   pub fields : fields_at packet ≡ next_fields node c rank
   pub payload : payload_in packet ≡ next_payload c lens mem rank
 
@@ -143,7 +141,7 @@ module _ (node : Node) (c : Channel) (mem lens : List ℕ) (a : Asked c mem lens
 
   carries : (out : List ℕ) → next_length c lens rank ≤ length out
       → Carries node c mem lens rank
-      (take (next_length c lens rank) (after_write (written.Done (next_length c lens rank)) (next_fields node c rank) (prefix_of c.addresses.own) (next_payload c lens mem rank) out))
+      (take (next_length c lens rank) (after_write (Ok (next_length c lens rank)) (next_fields node c rank) (prefix_of c.addresses.own) (next_payload c lens mem rank) out))
   carries out room =
       let f = next_fields node c rank in
       let p = next_payload c lens mem rank in
@@ -155,9 +153,9 @@ module _ (node : Node) (c : Channel) (mem lens : List ℕ) (a : Asked c mem lens
       ∙ write_done f own.length (length p) (length out) plain.0.base plain.0.plain (omega (arith, room, plain.1))
       in
       let back = written_then_read f q p out whole done in
-      let packet = take whole (after_write (written.Done whole) f q p out) in
+      let packet = take whole (after_write (Ok whole) f q p out) in
       let got = accepted packet f (length q) (payload_at (length q)) (length p) back.answer in
-      subst (λ (n : ℕ). Carries node c mem lens rank (take n (after_write (written.Done n) f q p out))) (sym plain.1)
+      subst (λ (n : ℕ). Carries node c mem lens rank (take n (after_write (Ok n) f q p out))) (sym plain.1)
       (record {
         read = back.answer;
         fields = got.fields;
@@ -175,6 +173,6 @@ module _ (node : Node) (c : Channel) (mem lens : List ℕ) (a : Asked c mem lens
       go : (b : Bool) → ltb (length out) (next_length c lens rank) ≡ b
           → P
           (works (if b then refusing c (refusal.Small (next_length c lens rank)) else doing (next_out c rank) (next_length c lens rank)) mem lens
-          (if b then out else after_write (written.Done (next_length c lens rank)) (next_fields node c rank) (prefix_of c.addresses.own) (next_payload c lens mem rank) out))
+          (if b then out else after_write (Ok (next_length c lens rank)) (next_fields node c rank) (prefix_of c.addresses.own) (next_payload c lens mem rank) out))
       go true e = small
       go false e = done (next_length c lens rank) _ (carries out (ltb-false (length out) (next_length c lens rank) e))

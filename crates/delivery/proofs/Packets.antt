@@ -6,7 +6,7 @@ use mathlib.Core.List.{List, []}
 use Prim.Native.Nat.{ℕ}
 use borrow.Author.Tests.{eqb-true, eq-eqb}
 use lib.Dec.{eqb}
-use Rattle.std.specs.Prelude.{if◌then◌else◌}
+use Rattle.std.specs.Prelude.{Result, Err, if◌then◌else◌}
 use Rattle.laws.proofs.Choice.{both}
 use Rattle.packet.specs.declared.kinds.Kind as packets
 use Rattle.packet.specs.declared.kinds.Kind.TheVariants as kinds
@@ -14,9 +14,10 @@ use Rattle.packet.specs.Kinds.{kind_of}
 use Rattle.packet.specs.declared.fields.Fields.{Fields}
 use Rattle.packet.specs.Layout.{fields_at, prefix_at, length_at, payload_at}
 use Rattle.packet.specs.Tests.{short, damaged, lacking, strange}
-use Rattle.packet.specs.declared.reading.Read.{Read}
-use Rattle.packet.specs.declared.reading.Read.TheVariants.{Found, Short, Damaged, Strange, Lacking}
-use Rattle.packet.specs.Reading.{read_of}
+use Rattle.packet.specs.declared.reading.Found.{Found}
+use Rattle.packet.specs.declared.reading.ReadError.{ReadError}
+use Rattle.packet.specs.declared.reading.ReadError.TheVariants.{Short, Damaged, Strange, Lacking}
+use Rattle.packet.specs.Reading.{finds, read_of}
 use Rattle.packet.proofs.ReadLaws.{read_found}
 use Rattle.channel.specs.declared.record.Node.{Node}
 use Rattle.channel.specs.declared.record.Addresses.{Addresses}
@@ -46,8 +47,8 @@ pub record Named (node : Node) (a : Addresses) (packet : List ℕ) : Type 0 wher
 named_by : (node : Node) (a : Addresses) (packet : List ℕ) (b1 b2 b3 b4 : Bool)
     → short packet ≡ b1 → damaged packet ≡ b2 → lacking (fields_at packet) (prefix_at packet) ≡ b3 → strange (fields_at packet) (length_at packet) ≡ b4
     → names_by
-    (if b1 then Short else if b2 then Damaged else if b3 then Lacking else if b4 then Strange
-    else Found (fields_at packet) (prefix_at packet) (payload_at (prefix_at packet)) (length_at packet)) packet node a ≡ true
+    (if b1 then Err Short else if b2 then Err Damaged else if b3 then Err Lacking else if b4 then Err Strange
+    else finds (fields_at packet) (prefix_at packet) (payload_at (prefix_at packet)) (length_at packet)) packet node a ≡ true
     → Named node a packet
 named_by node a packet true b2 b3 b4 e1 e2 e3 e4 n = absurd (true≢false (sym n))
 named_by node a packet false true b3 b4 e1 e2 e3 e4 n = absurd (true≢false (sym n))
@@ -66,7 +67,7 @@ named_is e packet n =
 pub names_so : (e : End) (packet : List ℕ) → ReadWell packet → is_ours e.node (fields_at packet) ≡ true → same (channel_of e).addresses (fields_at packet) (length_at packet) (prefix_read packet) ≡ true
     → names e packet ≡ true
 names_so e packet w ours is =
-    ap (λ (r : Read). names_by r packet e.node (channel_of e).addresses) (read_found packet w.short w.damaged w.lacking w.strange)
+    ap (λ (r : Result Found ReadError). names_by r packet e.node (channel_of e).addresses) (read_found packet w.short w.damaged w.lacking w.strange)
     ∙ ap₂ (λ (p q : Bool). p && q) ours is
 
 -- of no kind that is free, so that the premises bind it

@@ -19,8 +19,7 @@ use Rattle.packet.specs.Layout.{least, prefix_from, payload_at, fields_at, prefi
 use Rattle.packet.specs.Tests.{flags_whole}
 use Rattle.packet.specs.Writing.{written_of, after_write}
 use Rattle.packet.proofs.WriteLaws.{write_done}
-use Rattle.packet.specs.declared.reading.Read.TheVariants.{Found}
-use Rattle.packet.specs.Reading.{read_of}
+use Rattle.packet.specs.Reading.{finds, read_of}
 use Rattle.packet.proofs.ReadLaws.{accepted}
 use Rattle.packet.proofs.RoundTrip.{written_then_read}
 use Rattle.walks.specs.Serving.{Worked, works}
@@ -124,7 +123,7 @@ control_ack_silent c number = go (not (eqb c.phase.state enabled || eqb c.phase.
 -- with so many octets
 pub record Acks (node : Node) (a : Addresses) (kind : Kind) (number : ℕ) (packet : List ℕ) : Type 0 where
   pub count : ℕ
-  pub read : read_of packet ≡ Found (outgoing_of node a kind flags_whole number) (length (prefix_of a.own)) (payload_at (length (prefix_of a.own))) count
+  pub read : read_of packet ≡ finds (outgoing_of node a kind flags_whole number) (length (prefix_of a.own)) (payload_at (length (prefix_of a.own))) count
   pub fields : fields_at packet ≡ outgoing_of node a kind flags_whole number
   pub prefix : prefix_read packet ≡ prefix_with a.own.length (prefix_of a.own)
 

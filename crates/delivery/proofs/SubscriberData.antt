@@ -15,7 +15,9 @@ use Rattle.packet.specs.Kinds.{kind_of}
 use Rattle.packet.proofs.KindLaws.{kind_back}
 use Rattle.packet.specs.declared.fields.Fields.{Fields}
 use Rattle.packet.specs.Layout.{fields_at, payload_in}
-use Rattle.packet.specs.declared.reading.Read.{Read}
+use Rattle.std.specs.Prelude.{Result}
+use Rattle.packet.specs.declared.reading.Found.{Found}
+use Rattle.packet.specs.declared.reading.ReadError.{ReadError}
 use Rattle.walks.specs.Serving.{works}
 use Rattle.channel.specs.declared.record.Addresses.{Addresses}
 use Rattle.channel.specs.declared.record.Channel.{Channel}
@@ -169,7 +171,7 @@ module _ {h s : End} {past : List Event} {x : Sender} {y : Receiver} {t : List C
     ack_for_host : (q : List ℕ) → Acks s.node c.addresses DataAck f.number q → names h q ≡ true
     ack_for_host q k =
         let d = addresses_are w in
-        ap (λ (r : Read). names_by r q h.node (channel_of h).addresses) k.read
+        ap (λ (r : Result Found ReadError). names_by r q h.node (channel_of h).addresses) k.read
         ∙ ack_names s.node h.node c.addresses (channel_of h).addresses f.number k.count (prefix_read q)
         (ap (λ (a : Addresses). a.remote) d ∙ w.alike.to_host_end) (sym w.alike.protocol) (w.alike.number ∙ sym (ap (λ (a : Addresses). a.channel) d))
         w.alike.to_subscriber_end w.alike.sends (from_us q k)

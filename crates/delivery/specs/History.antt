@@ -1,12 +1,12 @@
 -- What happened, and what is read from it: from the calls, their answers and the octets that they wrote, and from nothing that an end remembers.
-use Rattle.std.specs.Prelude.{ℕ, suc, ◌+◌, ◌≡◌, ◌⊎◌, Bool, true, false, not, ◌&&◌, List, [], ◌∷◌, ◌++◌, eqb, take, if◌then◌else◌}
+use Rattle.std.specs.Prelude.{ℕ, suc, ◌+◌, ◌≡◌, ◌⊎◌, Bool, true, false, not, ◌&&◌, List, [], ◌∷◌, ◌++◌, Result, Ok, Err, eqb, take, if◌then◌else◌}
 use Rattle.packet.specs.declared.kinds.Kind as packets
 use Rattle.packet.specs.declared.kinds.Kind.TheVariants.{Data, DataAck}
 use Rattle.packet.specs.declared.kinds.Kind.TheVariants as kinds
 use Rattle.packet.specs.Kinds.{kind_of}
 use Rattle.packet.specs.Layout.{fields_at}
-use Rattle.packet.specs.declared.reading.Read.{Read}
-use Rattle.packet.specs.declared.reading.Read.TheVariants.{Found, Short, Damaged, Strange, Lacking}
+use Rattle.packet.specs.declared.reading.Found.{Found}
+use Rattle.packet.specs.declared.reading.ReadError.{ReadError}
 use Rattle.packet.specs.Reading.{read_of}
 use Rattle.channel.specs.declared.record.Node.{Node}
 use Rattle.channel.specs.declared.record.Addresses.{Addresses}
@@ -58,12 +58,9 @@ written e = take (length_of e.answer) e.out
 -- ---- packets
 
 -- The octets are a packet that a node takes for the channel with these addresses: whole, undamaged, of a known form, and addressed to it.
-abbrev pub names_by : Read → List ℕ → Node → Addresses → Bool
-names_by (Found f n start x) packet node a = is_ours node f && same a f x (prefix_read packet)
-names_by Short packet node a = false
-names_by Damaged packet node a = false
-names_by Strange packet node a = false
-names_by Lacking packet node a = false
+abbrev pub names_by : Result Found ReadError → List ℕ → Node → Addresses → Bool
+names_by (Ok r) packet node a = is_ours node r.fields && same a r.fields r.length (prefix_read packet)
+names_by (Err why) packet node a = false
 
 abbrev pub names : End → List ℕ → Bool
 names e packet = names_by (read_of packet) packet e.node (channel_of e).addresses

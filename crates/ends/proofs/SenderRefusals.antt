@@ -6,9 +6,8 @@ use mathlib.Core.List.{List}
 use Prim.Native.Nat.{ℕ}
 use lib.Dec.{ltb}
 use lib.ListN.{length}
-use Rattle.std.specs.Prelude.{if◌then◌else◌}
+use Rattle.std.specs.Prelude.{Ok, if◌then◌else◌}
 use Rattle.laws.proofs.Choice.{either_way}
-use Rattle.packet.specs.declared.writing.Written.TheVariants as written
 use Rattle.packet.specs.Writing.{after_write}
 use Rattle.channel.specs.declared.record.Node.{Node}
 use Rattle.channel.specs.declared.record.Channel.{Channel}
@@ -77,7 +76,7 @@ hand_unchanged node c lens mem rank out = go (ltb (length out) (next_length c le
     after : Bool → List ℕ
     after a =
         if a then out
-        else after_write (written.Done (next_length c lens rank)) (next_fields node c rank) (prefix_of c.addresses.own) (next_payload c lens mem rank) out
+        else after_write (Ok (next_length c lens rank)) (next_fields node c rank) (prefix_of c.addresses.own) (next_payload c lens mem rank) out
 
     go : (a : Bool) → Refuses (by a) → ((by a).channel ≡ c) × (after a ≡ out)
     go true n = (refl, refl)

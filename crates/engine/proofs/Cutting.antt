@@ -8,7 +8,7 @@ use native.Mathlib.Omega.{arith}
 use lib.ListN.{take, drop, drop_of_length-le}
 use Rattle.engine.specs.Trace.{Entry, Records, is_whole, entry_of, after, records_from}
 use Rattle.engine.specs.Reading.{held_in, given, behind, joined, ReadOn, used_up, fed, ReadAll, at_end, piece_read, AnyCutting}
-use Rattle.engine.proofs.ReadingLaws.{head_held}
+use Rattle.engine.proofs.ReadingLaws.{held_on}
 
 -- what comes later is read behind what was left
 pub in_two : (held p q : List ℕ) → records_from held (p ++ q) ≡ behind (records_from held p).whole (records_from (records_from held p).left q)
@@ -40,4 +40,4 @@ over_pieces (piece_read {piece} {pieces} {held} {between} {left} {before} {buffe
     ∙ ap (behind es) (over_pieces others)
 
 pub any_cutting : AnyCutting
-any_cutting pieces before es left buffer R = ap (λ (n : ℕ). records_from (take n before) (joined pieces)) (sym (head_held 0 before (omega arith))) ∙ over_pieces R
+any_cutting pieces before es left buffer R = ap (λ (n : ℕ). records_from (take n before) (joined pieces)) (sym (held_on 0 before (omega arith))) ∙ over_pieces R

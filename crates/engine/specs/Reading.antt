@@ -1,5 +1,5 @@
 -- What the reader of a trace promises of one call, and of any number of calls over any pieces.
-use Rattle.std.specs.Prelude.{◌≡◌, true, false, List, [], ◌∷◌, ◌++◌, ℕ, ◌+◌, ◌-◌, ◌≤◌, ◌<◌, ltb, length, take, drop, if◌then◌else◌}
+use Rattle.std.specs.Prelude.{◌≡◌, List, [], ◌∷◌, ◌++◌, ℕ, ◌+◌, ◌-◌, ◌≤◌, ◌<◌, ltb, length, take, drop, if◌then◌else◌, Some, None, option_map, option_to_list}
 use Rattle.engine.specs.declared.reading.Fed.{Fed}
 use Rattle.engine.specs.Trace.{Entry, Records, little_at, records_from, records_of}
 
@@ -12,7 +12,7 @@ held_in held buffer = take (unfinished held buffer) buffer
 
 -- the record that a call gives, if it gives one
 abbrev pub given : Fed → List ℕ → List Entry
-given r buffer = if r.whole then record { kind = r.kind; body = take (r.held - 4) (drop 4 buffer) } ∷ [] else []
+given r buffer = option_to_list (option_map (λ (kind : ℕ). record { kind = kind; body = take (r.held - 4) (drop 4 buffer) }) r.kind)
 
 abbrev pub behind : List Entry → Records → Records
 behind es r = record { whole = es ++ r.whole; left = r.left }
@@ -22,15 +22,15 @@ pub record Feeds (before : List ℕ) (held : ℕ) (piece : List ℕ) (from : ℕ
   -- what was to be read is what it gives, and what is still to be read
   pub gives : records_from (held_in held before) (drop from piece) ≡ behind (given r buffer) (records_from (held_in r.held buffer) (drop r.next piece))
   -- without a record the piece is used up
-  pub ends : r.whole ≡ false → length piece ≤ r.next
+  pub ends : r.kind ≡ None → length piece ≤ r.next
   pub goes_on : from < length piece → (from < r.next) × (r.next ≤ length piece)
-  pub body_lies : r.whole ≡ true → (4 ≤ r.held) × (r.held ≤ length buffer)
+  pub body_lies : (kind : ℕ) → r.kind ≡ Some kind → (4 ≤ r.held) × (r.held ≤ length buffer)
   -- the octets behind those of the record stay
   pub stays : drop r.held buffer ≡ drop r.held before
 
 -- nothing was read
 abbrev pub unread : ℕ → ℕ → Fed
-unread held from = record { whole = false; kind = 0; held = held; next = from }
+unread held from = record { kind = None; held = held; next = from }
 
 -- ---- calls, one after another
 

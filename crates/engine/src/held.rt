@@ -30,15 +30,15 @@ pub fn serve_in(
 ) -> Kept
     ensures { leaves result.told result.table mem.new lens.new lines.new out.new ≡ serving t mem.old lens.old lines.old n x.now out.old }
 {
-    let mut u = t;
-    let a = serve(&mut u, mem, lens, lines, n, x, out);
-    Kept { told: a, table: u }
+    let mut table = t;
+    let told = serve(&mut table, mem, lens, lines, n, x, out);
+    Kept { told, table }
 }
 
 pub fn tick_in(t: [Channel; 2], mem: &[u8], lens: &[u16], lines: &mut [u8]) -> Kept
     ensures { changes result.told result.table lines.new ≡ telling (told_of (tick_index t mem.now lens.now lines.old)) (ticked t mem.now lens.now lines.old) }
 {
-    let mut u = t;
-    let a = tick(&mut u, mem, lens, lines);
-    Kept { told: a, table: u }
+    let mut table = t;
+    let told = tick(&mut table, mem, lens, lines);
+    Kept { told, table }
 }

@@ -7,7 +7,9 @@ use crate::held::{Kept, serve_in, tick_in};
 use crate::request::{TICK, octets_from, request_of};
 use channel::{Channel, Node};
 
-// By its kind and its body, with a lent buffer for what the call writes.
+// By its kind and its body, with a lent buffer for what the call writes. What is lent stays apart, each part by its name: `replayed` and the node's
+// door hold it so.
+#[tactic(auto, using(crate::proofs::RecordLaws::from_inside, crate::proofs::RecordLaws::replays_other, laws::proofs::Lists::tail_part))]
 pub fn step(
     t: [Channel; 2],
     mem: &mut [u8],

@@ -6,35 +6,34 @@ ghost use Rattle.channel.specs.Record.{made_of};
 use channel::record::{RECEIVES, SENDS, made};
 use channel::{Addresses, Channel, Limits, Prefix, Settings};
 
-// One channel's: k 4, slots 8, P 16, M 4, timeouts 4, retries 2; no prefixes, and no Heartbeat of its own.
+// Of each channel: k 4, slots 8, P 16, M 4, timeouts 4, retries 2; no Heartbeat of its own.
+pub const LIMITS: Limits = Limits {
+    window: 4,
+    slots: 8,
+    payload: 16,
+    segments: 4,
+    timeout: 4,
+    closing: 4,
+    retries: 2,
+    interval: 0,
+    flow: 0,
+    spare: 0,
+    lead: 0,
+};
+
+// One channel's, with no prefixes.
 fn settings_for(channel: u16, remote: u8, direction: u8) -> Settings
     ensures { result ≡ settings_for channel remote direction }
 {
-    let none = Prefix {
-        length: 0,
-        octets: [0; 15],
-    };
     Settings {
         addresses: Addresses {
             channel,
             remote,
             direction,
-            prefix: none,
-            own: none,
+            prefix: Prefix::NONE,
+            own: Prefix::NONE,
         },
-        limits: Limits {
-            window: 4,
-            slots: 8,
-            payload: 16,
-            segments: 4,
-            timeout: 4,
-            closing: 4,
-            retries: 2,
-            interval: 0,
-            flow: 0,
-            spare: 0,
-            lead: 0,
-        },
+        limits: LIMITS,
     }
 }
 
@@ -42,7 +41,8 @@ fn settings_for(channel: u16, remote: u8, direction: u8) -> Settings
 pub fn table_of(remote: u8, first: u16, second: u16) -> [Channel; 2]
     ensures { result ≡ map made_of (settings_of remote first second) }
 {
-    let a = made(settings_for(first, remote, SENDS));
-    let b = made(settings_for(second, remote, RECEIVES));
-    [a, b]
+    [
+        made(settings_for(first, remote, SENDS)),
+        made(settings_for(second, remote, RECEIVES)),
+    ]
 }

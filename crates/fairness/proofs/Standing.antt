@@ -12,7 +12,7 @@ use lib.Dec.{ltb, eqb}
 use lib.ListN.{length, set, length-set, length-map, take, drop}
 use lib.Seq.{get_or-set_same, get_or-set_other}
 use Rattle.laws.proofs.Choice.{either, either_way, chosen, passed_by, first_not}
-use Rattle.std.specs.Prelude.{if◌then◌else◌}
+use Rattle.std.specs.Prelude.{Result, Ok, Err, if◌then◌else◌}
 use Rattle.walks.specs.Serving.{Worked, Called, Changed}
 use Rattle.lines.specs.Lines.{stands, line_in, part_at, line_at, no_lines}
 use Rattle.lines.specs.Fit.{fit_lines}
@@ -24,14 +24,14 @@ use Rattle.channel.specs.declared.answer.Answer.{Answer}
 use Rattle.channel.specs.declared.answer.Answer.TheVariants.{Done, Repeated, Inactive, Refused}
 use Rattle.channel.specs.declared.answer.Refusal.{Refusal}
 use Rattle.channel.specs.declared.answer.Refusal.TheVariants as refusal
-use Rattle.channel.specs.Answers.{number_of}
+use Rattle.channel.specs.Answers.{number_of, refusal_of}
 use Rattle.channel.specs.Record.{sends, closed, opened}
 use Rattle.channel.specs.Lone.{is_ready}
 use Rattle.channel.specs.declared.record.Node.{Node}
 use Rattle.packet.specs.declared.fields.Fields.{Fields}
 use Rattle.channel.specs.Prefixes.{prefix_with}
-use Rattle.packet.specs.declared.reading.Read.{Read}
-use Rattle.packet.specs.declared.reading.Read.TheVariants.{Found, Short, Damaged, Lacking, Strange}
+use Rattle.packet.specs.declared.reading.Found.{Found}
+use Rattle.packet.specs.declared.reading.ReadError.{ReadError}
 use Rattle.packet.specs.Layout.{least, prefix_from}
 use Rattle.packet.specs.Reading.{read_of}
 use Rattle.sender_packets.proofs.HandLaws.{control_other}
@@ -178,19 +178,16 @@ pub arrival_not : (is : Sought → Bool) → ((f : Fields) (start x : ℕ) → i
 unfolding look_of
 arrival_not is not-packet not-nobody node packet room = by_room (ltb room least) (read_of packet)
   where
-    by_read : (r : Read) → is (look_by node packet r).sought ≡ false
-    by_read (Found f n start x) = by_ours (is_ours node f)
+    by_read : (r : Result Found ReadError) → is (look_by node packet r).sought ≡ false
+    by_read (Ok r) = by_ours (is_ours node r.fields)
       where
         by_ours : (b : Bool)
-            → is (if b then record { sought = Packet f start x; prefix = prefix_with n (take n (drop prefix_from packet)) } else seeking (Nobody refusal.Strange)).sought ≡ false
-        by_ours true = not-packet f start x
+            → is (if b then record { sought = Packet r.fields r.start r.length; prefix = prefix_with r.prefix (take r.prefix (drop prefix_from packet)) } else seeking (Nobody refusal.Strange)).sought ≡ false
+        by_ours true = not-packet r.fields r.start r.length
         by_ours false = not-nobody refusal.Strange
-    by_read Short = not-nobody refusal.Short
-    by_read Damaged = not-nobody refusal.Damaged
-    by_read Lacking = not-nobody refusal.Lacking
-    by_read Strange = not-nobody refusal.Strange
+    by_read (Err why) = not-nobody (refusal_of why)
 
-    by_room : (b : Bool) (r : Read) → is (if b then seeking (Nobody (refusal.Small least)) else look_by node packet r).sought ≡ false
+    by_room : (b : Bool) (r : Result Found ReadError) → is (if b then seeking (Nobody (refusal.Small least)) else look_by node packet r).sought ≡ false
     by_room true r = not-nobody (refusal.Small least)
     by_room false r = by_read r
 

@@ -1,10 +1,10 @@
 -- The answers of a packet alone, as C sees them: the number, and the values or zeros.
-use Rattle.std.specs.Prelude.{ℕ}
+use Rattle.std.specs.Prelude.{ℕ, Result, Ok, Err}
 use Rattle.packet.specs.declared.fields.Fields.{Fields}
-use Rattle.packet.specs.declared.reading.Read.{Read}
-use Rattle.packet.specs.declared.reading.Read.TheVariants.{Found, Short, Damaged, Lacking, Strange}
-use Rattle.packet.specs.declared.writing.Written.{Written}
-use Rattle.packet.specs.declared.writing.Written.TheVariants as written
+use Rattle.packet.specs.declared.reading.Found.{Found}
+use Rattle.packet.specs.declared.reading.ReadError.{ReadError}
+use Rattle.packet.specs.declared.writing.WriteError.{WriteError}
+use Rattle.packet.specs.declared.writing.WriteError.TheVariants as written
 use Rattle.packet.specs.Reading.{read_number}
 use Rattle.packet.specs.Writing.{written_number}
 use Rattle.host.specs.declared.packets.Reading.{Reading}
@@ -29,15 +29,12 @@ blank =
 abbrev pub refusal : ℕ → Reading
 refusal n = record { answer = n; fields = blank; prefix = 0; start = 0; length = 0 }
 
-abbrev pub reading_of : Read → Reading
-reading_of (Found f n start x) = record { answer = read_number (Found f n start x); fields = f; prefix = n; start = start; length = x }
-reading_of Short = refusal (read_number Short)
-reading_of Damaged = refusal (read_number Damaged)
-reading_of Lacking = refusal (read_number Lacking)
-reading_of Strange = refusal (read_number Strange)
+abbrev pub reading_of : Result Found ReadError → Reading
+reading_of (Ok r) = record { answer = read_number (Ok r); fields = r.fields; prefix = r.prefix; start = r.start; length = r.length }
+reading_of (Err why) = refusal (read_number (Err why))
 
-abbrev pub writing_of : Written → Writing
-writing_of (written.Done n) = record { answer = written_number (written.Done n); length = n }
-writing_of written.Lacking = record { answer = written_number written.Lacking; length = 0 }
-writing_of written.Strange = record { answer = written_number written.Strange; length = 0 }
-writing_of (written.Small n) = record { answer = written_number (written.Small n); length = n }
+abbrev pub writing_of : Result ℕ WriteError → Writing
+writing_of (Ok n) = record { answer = written_number (Ok n); length = n }
+writing_of (Err written.Lacking) = record { answer = written_number (Err written.Lacking); length = 0 }
+writing_of (Err written.Strange) = record { answer = written_number (Err written.Strange); length = 0 }
+writing_of (Err (written.Small n)) = record { answer = written_number (Err (written.Small n)); length = n }

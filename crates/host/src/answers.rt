@@ -4,7 +4,6 @@ ghost use Rattle.channel.specs.Answers.{reason_of};
 ghost use Rattle.host.specs.Said.{octets_told, said_of};
 
 use channel::Answer;
-use channel::answer::{confirmed, length, number, wanted};
 use table::Told;
 
 // What a call answers: document 01's number; with 0 and 15 the octets written, with 11 the octets that are wanted; with 0 the units confirmed, with 9 the
@@ -23,35 +22,29 @@ fn reason(a: Answer) -> u32
     ensures { result ≡ reason_of a }
 {
     match a {
-        Answer::Done {
-            length: _,
-            confirmed: _,
-        } => 0,
-        Answer::Repeated { length: _ } => 0,
-        Answer::Inactive(why) => why as u32,
-        Answer::Refused(_) => 0,
+        Answer::Inactive(why) => u32::from(why),
+        _ => 0,
     }
 }
 
-// No answer has both.
+// What a refusal wants, or what was written: no answer has both.
 fn octets(a: Answer) -> usize
     ensures { result ≡ octets_told a }
 {
-    if number(a) == 11 {
-        return wanted(a);
+    match a {
+        Answer::Refused(_) => a.wanted(),
+        _ => a.length(),
     }
-    length(a)
 }
 
 pub fn said_of(t: Told) -> Said
     ensures { result ≡ said_of t }
 {
-    let a = t.answer;
     Said {
-        number: number(a),
-        reason: reason(a),
-        length: octets(a),
-        confirmed: confirmed(a),
+        number: u32::from(t.answer),
+        reason: reason(t.answer),
+        length: octets(t.answer),
+        confirmed: t.answer.confirmed(),
         index: t.index,
     }
 }

@@ -3,17 +3,14 @@
 ghost use Rattle.std.specs.Prelude.{◌≡◌, [], length};
 ghost use Rattle.walks.specs.Serving.{leaves, changes};
 ghost use Rattle.node.specs.declared.request.Request.TheVariants as request;
-ghost use Rattle.node.specs.Calls.{served_index, open_call, close_call, transfer_call, question_call, take_call, reclaim_call, next_packet_call, arrival_call};
+ghost use Rattle.node.specs.Calls.{served, served_index, open_call, close_call, transfer_call, question_call, take_call, reclaim_call, next_packet_call, arrival_call};
 ghost use Rattle.ticks.specs.Ticks.{ticked, tick_index};
 ghost use Rattle.settings.specs.Configuring.{configured};
 ghost use Rattle.host.specs.Said.{said_at, told_at};
 
 use crate::answers::{Said, said_of};
-use crate::asking::{
-    arrival_asked, close_asked, next_asked, open_asked, reclaim_asked, take_asked, transfer_asked,
-    would_asked,
-};
 use channel::{Channel, Node, Settings};
+use node::Request;
 use node::door::serve;
 use settings::settings;
 use ticks::ticking::tick;
@@ -28,9 +25,22 @@ pub fn peat_settings(
 ) -> Said
     ensures { changes result t.new lines.new ≡ told_at (length t.old) (configured t.old mem.now lens.now lines.old s.now) }
 {
-    let a = settings(t, mem, lens, lines, s);
-    let r = said_of(a);
-    r
+    said_of(settings(t, mem, lens, lines, s))
+}
+
+// Whatever is asked of the door, with its answer as C sees it.
+fn serve_said(
+    t: &mut [Channel],
+    mem: &mut [u8],
+    lens: &mut [u16],
+    lines: &mut [u8],
+    n: Request,
+    x: &[u8],
+    out: &mut [u8],
+) -> Said
+    ensures { leaves result t.new mem.new lens.new lines.new out.new ≡ said_at (served_index t.old mem.old lens.old lines.old n x.now out.old) (served t.old mem.old lens.old lines.old n x.now out.old) }
+{
+    said_of(serve(t, mem, lens, lines, n, x, out))
 }
 
 // A directive leaves memory and lengths as they were.
@@ -43,12 +53,7 @@ pub fn peat_open(
 ) -> Said
     ensures { (changes result t.new lines.new ≡ told_at (served_index t.old mem.old lens.old lines.old (request.Open index) [] []) (open_call t.old mem.old lens.old lines.old index)) × (mem.new ≡ mem.old) × (lens.new ≡ lens.old) }
 {
-    let n = open_asked(index);
-    let x: [u8; 0] = [0; 0];
-    let mut out: [u8; 0] = [0; 0];
-    let a = serve(t, mem, lens, lines, n, &x, &mut out);
-    let r = said_of(a);
-    r
+    serve_said(t, mem, lens, lines, Request::Open(index), &[], &mut [])
 }
 
 pub fn peat_close(
@@ -60,12 +65,7 @@ pub fn peat_close(
 ) -> Said
     ensures { (changes result t.new lines.new ≡ told_at (served_index t.old mem.old lens.old lines.old (request.Close index) [] []) (close_call t.old mem.old lens.old lines.old index)) × (mem.new ≡ mem.old) × (lens.new ≡ lens.old) }
 {
-    let n = close_asked(index);
-    let x: [u8; 0] = [0; 0];
-    let mut out: [u8; 0] = [0; 0];
-    let a = serve(t, mem, lens, lines, n, &x, &mut out);
-    let r = said_of(a);
-    r
+    serve_said(t, mem, lens, lines, Request::Close(index), &[], &mut [])
 }
 
 pub fn peat_transfer(
@@ -78,11 +78,7 @@ pub fn peat_transfer(
 ) -> Said
     ensures { leaves result t.new mem.new lens.new lines.new [] ≡ said_at (served_index t.old mem.old lens.old lines.old (request.Transfer index) unit.now []) (transfer_call t.old mem.old lens.old lines.old index unit.now) }
 {
-    let n = transfer_asked(index);
-    let mut out: [u8; 0] = [0; 0];
-    let a = serve(t, mem, lens, lines, n, unit, &mut out);
-    let r = said_of(a);
-    r
+    serve_said(t, mem, lens, lines, Request::Transfer(index), unit, &mut [])
 }
 
 // A question: whatever it answers, all that is lent stays as it was.
@@ -96,12 +92,15 @@ pub fn peat_would_transfer(
 ) -> Said
     ensures { (changes result t.new lines.new ≡ told_at (served_index t.old mem.old lens.old lines.old (request.WouldTransfer index count) [] []) (question_call t.old mem.old lens.old lines.old index count)) × (t.new ≡ t.old) × (mem.new ≡ mem.old) × (lens.new ≡ lens.old) × (lines.new ≡ lines.old) }
 {
-    let n = would_asked(index, count);
-    let x: [u8; 0] = [0; 0];
-    let mut out: [u8; 0] = [0; 0];
-    let a = serve(t, mem, lens, lines, n, &x, &mut out);
-    let r = said_of(a);
-    r
+    serve_said(
+        t,
+        mem,
+        lens,
+        lines,
+        Request::WouldTransfer { index, count },
+        &[],
+        &mut [],
+    )
 }
 
 pub fn peat_take(
@@ -114,11 +113,7 @@ pub fn peat_take(
 ) -> Said
     ensures { (leaves result t.new mem.new lens.new lines.new out.new ≡ said_at (served_index t.old mem.old lens.old lines.old (request.Take index) [] out.old) (take_call t.old mem.old lens.old lines.old index out.old)) × (mem.new ≡ mem.old) × (lens.new ≡ lens.old) }
 {
-    let n = take_asked(index);
-    let x: [u8; 0] = [0; 0];
-    let a = serve(t, mem, lens, lines, n, &x, out);
-    let r = said_of(a);
-    r
+    serve_said(t, mem, lens, lines, Request::Take(index), &[], out)
 }
 
 pub fn peat_reclaim(
@@ -131,11 +126,7 @@ pub fn peat_reclaim(
 ) -> Said
     ensures { (leaves result t.new mem.new lens.new lines.new out.new ≡ said_at (served_index t.old mem.old lens.old lines.old (request.Reclaim index) [] out.old) (reclaim_call t.old mem.old lens.old lines.old index out.old)) × (mem.new ≡ mem.old) × (lens.new ≡ lens.old) }
 {
-    let n = reclaim_asked(index);
-    let x: [u8; 0] = [0; 0];
-    let a = serve(t, mem, lens, lines, n, &x, out);
-    let r = said_of(a);
-    r
+    serve_said(t, mem, lens, lines, Request::Reclaim(index), &[], out)
 }
 
 pub fn peat_next_packet(
@@ -148,11 +139,7 @@ pub fn peat_next_packet(
 ) -> Said
     ensures { (leaves result t.new mem.new lens.new lines.new out.new ≡ said_at (served_index t.old mem.old lens.old lines.old (request.NextPacket node) [] out.old) (next_packet_call t.old mem.old lens.old lines.old node out.old)) × (mem.new ≡ mem.old) × (lens.new ≡ lens.old) }
 {
-    let n = next_asked(node);
-    let x: [u8; 0] = [0; 0];
-    let a = serve(t, mem, lens, lines, n, &x, out);
-    let r = said_of(a);
-    r
+    serve_said(t, mem, lens, lines, Request::NextPacket(node), &[], out)
 }
 
 pub fn peat_arrival(
@@ -166,16 +153,11 @@ pub fn peat_arrival(
 ) -> Said
     ensures { leaves result t.new mem.new lens.new lines.new reply.new ≡ said_at (served_index t.old mem.old lens.old lines.old (request.Arrival node) packet.now reply.old) (arrival_call t.old mem.old lens.old lines.old node packet.now reply.old) }
 {
-    let n = arrival_asked(node);
-    let a = serve(t, mem, lens, lines, n, packet, reply);
-    let r = said_of(a);
-    r
+    serve_said(t, mem, lens, lines, Request::Arrival(node), packet, reply)
 }
 
 pub fn peat_tick(t: &mut [Channel], mem: &[u8], lens: &[u16], lines: &mut [u8]) -> Said
     ensures { changes result t.new lines.new ≡ told_at (tick_index t.old mem.now lens.now lines.old) (ticked t.old mem.now lens.now lines.old) }
 {
-    let a = tick(t, mem, lens, lines);
-    let r = said_of(a);
-    r
+    said_of(tick(t, mem, lens, lines))
 }

@@ -2,7 +2,6 @@
 #![tactic(auto)]
 
 pub mod answers;
-pub mod asking;
 pub mod calls;
 pub mod packets;
 

@@ -2,7 +2,7 @@
 ghost use Rattle.std.specs.Prelude.{◌≡◌};
 ghost use Rattle.host.specs.Packet.{reading_of, refusal, writing_of};
 
-use packet::{Fields, Read, Written};
+use packet::{Fields, Found, ReadError, WriteError, written_number};
 
 // What reading gives: the answer number, and with 0 the fields, how many octets the prefix has, which stand from octet 9 on, where the payload
 // begins and how many octets it has. A refusal has 0 in all of these.
@@ -24,26 +24,18 @@ pub struct Writing {
     pub length: usize,
 }
 
-pub fn reading_of(r: Read) -> Reading
+pub fn reading_of(r: Result<Found, ReadError>) -> Reading
     ensures { result ≡ reading_of r }
 {
     match r {
-        Read::Found {
-            fields,
-            prefix,
-            start,
-            length,
-        } => Reading {
+        Ok(found) => Reading {
             answer: 0,
-            fields,
-            prefix,
-            start,
-            length,
+            fields: found.fields,
+            prefix: found.prefix,
+            start: found.start,
+            length: found.length,
         },
-        Read::Short => refused(1),
-        Read::Damaged => refused(2),
-        Read::Lacking => refused(4),
-        Read::Strange => refused(3),
+        Err(why) => refused(u32::from(why)),
     }
 }
 
@@ -70,19 +62,15 @@ fn refused(answer: u32) -> Reading
     }
 }
 
-pub fn writing_of(w: Written) -> Writing
+pub fn writing_of(w: Result<usize, WriteError>) -> Writing
     ensures { result ≡ writing_of w }
 {
-    match w {
-        Written::Done(length) => Writing { answer: 0, length },
-        Written::Lacking => Writing {
-            answer: 4,
-            length: 0,
-        },
-        Written::Strange => Writing {
-            answer: 3,
-            length: 0,
-        },
-        Written::Small(length) => Writing { answer: 11, length },
+    let length = match w {
+        Ok(length) | Err(WriteError::Small(length)) => length,
+        Err(_) => 0,
+    };
+    Writing {
+        answer: written_number(w),
+        length,
     }
 }

@@ -8,10 +8,10 @@ use Prim.Native.Nat.{ℕ, zero, suc, ◌<◌}
 use native.Mathlib.Nat.{not-suc-le-zero, le_of_suc-le-suc}
 use lib.Dec.{ltb, eqb}
 use lib.ListN.{length, set, take, drop}
-use Rattle.std.specs.Prelude.{if◌then◌else◌}
+use Rattle.std.specs.Prelude.{Result, Ok, Err, if◌then◌else◌}
 use Rattle.laws.proofs.Choice.{chosen}
-use Rattle.packet.specs.declared.reading.Read.{Read}
-use Rattle.packet.specs.declared.reading.Read.TheVariants.{Found, Short, Damaged, Lacking, Strange}
+use Rattle.packet.specs.declared.reading.Found.{Found}
+use Rattle.packet.specs.declared.reading.ReadError.{ReadError}
 use Rattle.packet.specs.Reading.{read_of}
 use Rattle.walks.specs.Serving.{Called, Changed, works, leaves}
 use Rattle.channel.specs.declared.record.Node.{Node}
@@ -19,6 +19,7 @@ use Rattle.channel.specs.declared.record.Channel.{Channel}
 use Rattle.channel.specs.declared.answer.Answer.{Answer}
 use Rattle.channel.specs.declared.answer.Refusal.TheVariants as refusal
 use Rattle.channel.specs.declared.step.Stepped.{Stepped}
+use Rattle.channel.specs.Answers.{refusal_of}
 use Rattle.channel.specs.Record.{sends}
 use Rattle.channel.specs.Steps.{refusing}
 use Rattle.channel.specs.Pairs.{filed}
@@ -84,21 +85,18 @@ arrival_by_addresses : (node : Node) (s : List ℕ) (room : ℕ) → ByAddresses
 unfolding look_of
 arrival_by_addresses node s room = by_room (ltb room least) (read_of s)
   where
-    by_read : (r : Read) → ByAddresses (look_by node s r)
-    by_read (Found f n start x) = by_ours (is_ours node f)
+    by_read : (r : Result Found ReadError) → ByAddresses (look_by node s r)
+    by_read (Ok r) = by_ours (is_ours node r.fields)
       where
         q : Prefix
-        q = prefix_with n (take n (drop prefix_from s))
+        q = prefix_with r.prefix (take r.prefix (drop prefix_from s))
 
-        by_ours : (b : Bool) → ByAddresses (if b then record { sought = Packet f start x; prefix = q } else seeking (Nobody refusal.Strange))
-        by_ours true = packet_by_addresses f q start x
+        by_ours : (b : Bool) → ByAddresses (if b then record { sought = Packet r.fields r.start r.length; prefix = q } else seeking (Nobody refusal.Strange))
+        by_ours true = packet_by_addresses r.fields q r.start r.length
         by_ours false = nobody_by_addresses refusal.Strange
-    by_read Short = nobody_by_addresses refusal.Short
-    by_read Damaged = nobody_by_addresses refusal.Damaged
-    by_read Lacking = nobody_by_addresses refusal.Lacking
-    by_read Strange = nobody_by_addresses refusal.Strange
+    by_read (Err why) = nobody_by_addresses (refusal_of why)
 
-    by_room : (b : Bool) (r : Read) → ByAddresses (if b then seeking (Nobody (refusal.Small least)) else look_by node s r)
+    by_room : (b : Bool) (r : Result Found ReadError) → ByAddresses (if b then seeking (Nobody (refusal.Small least)) else look_by node s r)
     by_room true r = nobody_by_addresses (refusal.Small least)
     by_room false r = by_read r
 

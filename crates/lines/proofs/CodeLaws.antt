@@ -7,19 +7,21 @@ use mathlib.Core.List.{List, [], ◌∷◌, ◌++◌}
 use Prim.Native.Nat.{ℕ, zero, suc, ◌+◌, ◌-◌, ◌*◌, ◌≤◌, ◌<◌, min}
 use native.Mathlib.Numerals.{add-one}
 use native.Mathlib.Omega.{arith}
-use borrow.Author.Tests.{eq-eqb, ne_eqb, lt-ltb, le-ltb}
+use borrow.Author.Tests.{lt-ltb, le-ltb, le-leb}
 use lib.Dec.{eqb, ltb}
 use lib.ListN.{length, get_or, set, take, drop, replicate, length-set, length-drop, drop_of_length-le}
-use lib.Seq.{get_or-set_same, get_or-set_other, drop-cons, drop-drop, length-take-le, get_or-take, get_or-drop, take-length, take_all}
-use Rattle.std.proofs.Common.{◌==◌, cond, Some, None, position}
+use lib.Seq.{get_or-set_same, get_or-set_other, drop-cons, drop-drop, take-length, take_all}
+use Rattle.std.proofs.Common.{Option, ◌==◌, cond, Some, None, position}
+use Rattle.std.specs.Prelude.{is_some}
+use Rattle.std.specs.List.{list_all}
 use Rattle.std.specs.List.{position_or_len}
 use Rattle.std.proofs.lemmas.List.Recursion.{is_position_or_len}
 use Rattle.laws.proofs.Choice.{either_way, first_not, last_not}
 use Rattle.laws.proofs.Numbers.{lt_cases}
 use Rattle.slots.specs.Slots.{laid}
 use Rattle.lines.specs.Lines.{stands, joined, before, line_octets, line_in, part_at, line_at, with_line}
-use Rattle.lines.specs.Grades.{place_in, grade_in}
-use Rattle.lines.specs.Fit.{below, apart, blank, FitLine, Fit}
+use Rattle.lines.specs.Grades.{grade_in}
+use Rattle.lines.specs.Fit.{below, apart, blank, fit_line, FitLine, Fit}
 use Rattle.lines.proofs.LineLaws as line
 use Rattle.lines.proofs.OctetLaws as octets
 use Rattle.lines.proofs.FitLaws as fit
@@ -51,52 +53,43 @@ take_most n l =
     (lt_cases n (length l))
 
 -- the row that is searched: a count of more than 16 reads as 16
-module _ (o : List ℕ) (size : length o ≡ 17) (end : ℕ) (e : end ≡ min (get_or o 0 0) 16 + 1) (i : ℕ) where
-  row_line : take (end - 1) (drop 1 o) ≡ line_in o
-  unfolding line_in
-  row_line =
-      let n : end - 1 ≡ min (get_or o 0 0) (length (drop 1 o)) = omega (arith, length-drop 1 o) in
-      ap (λ (k : ℕ). take k (drop 1 o)) n ∙ take_most (get_or o 0 0) (drop 1 o)
+pub row_line : (o : List ℕ) → length o ≡ 17 → take (min (get_or o 0 0) 16 + 1 - 1) (drop 1 o) ≡ line_in o
+unfolding line_in
+row_line o size =
+    let n : min (get_or o 0 0) 16 + 1 - 1 ≡ min (get_or o 0 0) (length (drop 1 o)) = omega (arith, length-drop 1 o) in
+    ap (λ (k : ℕ). take k (drop 1 o)) n ∙ take_most (get_or o 0 0) (drop 1 o)
 
-  pub place_found : (k : ℕ) → Some k ≡ position (λ x. x == i) (take (end - 1) (drop 1 o)) → k ≡ place_in i (line_in o)
-  place_found k h =
-      let f : Some k ≡ position (λ x. x == i) (line_in o) = h ∙ ap (position (λ x. x == i)) row_line in
-      either_way (stands i (line_in o))
-      (λ s. let there = f ∙ search_there i (line_in o) s in cc (there, grade.place_there i (line_in o) s))
-      (λ s. let none = f ∙ search_none i (line_in o) s in absurd (cc none))
+-- what the answer says
+pub is_found : (i : ℕ) (l : List ℕ) → is_some (position (λ x. x == i) l) ≡ stands i l
+is_found i l =
+    either_way (stands i l) (λ s. ap is_some (search_there i l s) ∙ sym s) (λ s. ap is_some (search_none i l s) ∙ sym s)
 
-  pub place_missing : None ≡ position (λ x. x == i) (take (end - 1) (drop 1 o)) → 16 ≡ place_in i (line_in o)
-  place_missing h =
-      let f : None ≡ position (λ x. x == i) (line_in o) = h ∙ ap (position (λ x. x == i)) row_line in
-      either_way (stands i (line_in o))
-      (λ s. let there = f ∙ search_there i (line_in o) s in absurd (cc there))
-      (λ s. sym (grade.place_none i (line_in o) s))
+pub found : (i : ℕ) (l : List ℕ) (k : ℕ) → Some k ≡ position (λ x. x == i) l → (stands i l ≡ true) × (k ≡ before i l)
+found i l k e =
+    either_way (stands i l)
+    (λ s. let there = e ∙ search_there i l s in (s, cc there))
+    (λ s. let none = e ∙ search_none i l s in absurd (cc none))
+
+pub not_found : (i : ℕ) (l : List ℕ) → None ≡ position (λ x. x == i) l → stands i l ≡ false
+not_found i l e = sym (is_found i l) ∙ ap is_some (sym e)
+
+pub place_in_line : (o : List ℕ) → FitLine 16 o → (i k : ℕ) → Some k ≡ position (λ x. x == i) (line_in o) → k < get_or o 0 0
+place_in_line o f i k e =
+    let w = found i (line_in o) k e in
+    omega (arith, w.1, line.before_lt i (line_in o) w.0, fit.count_of 16 o f)
 
 -- where it joins there is room
-pub room_for : (o : List ℕ) → FitLine 16 o → (i : ℕ) → i < 16 → 16 ≤ place_in i (line_in o)
-    → (stands i (line_in o) ≡ false) × (get_or o 0 0 < 16)
-room_for o f i b h =
-    ⊎_elim
-    (λ w. absurd (omega (arith, w.2)))
-    (λ w. (w.0, omega (arith, fit.count_of 16 o f, line.room 16 i (line_in o) b f.line w.0)))
-    (grade.place_cases i (line_in o) (fit.short 16 o f))
+pub room_for : (o : List ℕ) → FitLine 16 o → (i : ℕ) → i < 16 → stands i (line_in o) ≡ false → get_or o 0 0 < 16
+room_for o f i b s = omega (arith, fit.count_of 16 o f, line.room 16 i (line_in o) b f.line s)
 
-pub stays : (o : List ℕ) → FitLine 16 o → (i : ℕ) → place_in i (line_in o) < 16 → o ≡ line_octets (joined i (line_in o))
-stays o f i h =
-    ⊎_elim
-    (λ w. f.written ∙ ap line_octets (sym (line.joined_stays i (line_in o) w.0)))
-    (λ w. absurd (omega (arith, w.1)))
-    (grade.place_cases i (line_in o) (fit.short 16 o f))
-
-pub at_tail : (o : List ℕ) → FitLine 16 o → (i : ℕ) → i < 16 → 16 ≤ place_in i (line_in o)
+pub at_tail : (o : List ℕ) → FitLine 16 o → (i : ℕ) → i < 16 → stands i (line_in o) ≡ false
     → set (set o (get_or o 0 0 + 1) i) 0 (get_or o 0 0 + 1) ≡ line_octets (joined i (line_in o))
-at_tail o f i b h =
-    let r = room_for o f i b h in
+at_tail o f i b s =
     let l = line_in o in
     ap (λ (k : ℕ). set (set o (k + 1) i) 0 (k + 1)) (fit.count_of 16 o f)
     ∙ ap (λ (t : List ℕ). set (set t (length l + 1) i) 0 (length l + 1)) f.written
-    ∙ octets.tail_set l i (omega (arith, fit.count_of 16 o f, r.1))
-    ∙ ap line_octets (sym (line.joined_tail i l r.0))
+    ∙ octets.tail_set l i (omega (arith, fit.count_of 16 o f, room_for o f i b s))
+    ∙ ap line_octets (sym (line.joined_tail i l s))
 
 -- ---- a part that is lent
 
@@ -107,9 +100,6 @@ module _ (s : List ℕ) (rank : ℕ) where
   pub lent : take (17 * rank + 17 - 17 * rank) (drop (17 * rank) s) ≡ part_at rank s
   unfolding part_at
   lent = ap (λ (k : ℕ). take k (drop (17 * rank) s)) width
-
-  pub lent_size : length s ≡ 51 → rank < 3 → length (take (17 * rank + 17 - 17 * rank) (drop (17 * rank) s)) ≡ 17
-  lent_size size h = length-take-le (17 * rank + 17 - 17 * rank) (drop (17 * rank) s) (omega (arith, length-drop (17 * rank) s)) ∙ width
 
   pub lent_fit : Fit 16 s → rank < 3 → FitLine 16 (take (17 * rank + 17 - 17 * rank) (drop (17 * rank) s))
   lent_fit f h = subst (FitLine 16) (sym lent) (f.each rank h)
@@ -124,68 +114,66 @@ module _ (s : List ℕ) (rank : ℕ) where
       (drop-drop (17 * rank + 17 - 17 * rank) (17 * rank) s ∙ ap (λ (k : ℕ). drop k s) n)
 
 -- the grade, from the place in the part that is lent
-module _ (s : List ℕ) (rank : ℕ) (i : ℕ) (ready : Bool) (r : ready ≡ true) (p : ℕ)
-    (e : p ≡ place_in i (line_in (take (17 * rank + 17 - 17 * rank) (drop (17 * rank) s)))) where
-  there : p ≡ place_in i (line_at rank s)
-  there = e ∙ ap (λ (t : List ℕ). place_in i (line_in t)) (lent s rank)
+module _ (s : List ℕ) (rank : ℕ) (i : ℕ) (ready : Bool) (r : ready ≡ true) where
+  abbrev search : List ℕ → Option ℕ
+  search o = position (λ x. x == i) (line_in o)
 
-  pub graded : p < 16 → rank * 16 + p ≡ grade_in rank i ready s
-  graded h =
-      ⊎_elim
-      (λ w. ap (λ (k : ℕ). rank * 16 + k) (there ∙ w.1) ∙ sym (grade.grade_waits rank i ready s r w.0))
-      (λ w. absurd (omega (arith, there, w.1)))
-      (grade.place_cases i (line_at rank s) (grade.short_line rank s))
+  pub graded : (p : ℕ) → Some p ≡ search (take (17 * rank + 17 - 17 * rank) (drop (17 * rank) s))
+      → (rank * 16 + p ≡ grade_in rank i ready s) × (p < 16)
+  graded p e =
+      let f = found i (line_at rank s) p (e ∙ ap search (lent s rank)) in (
+        ap (λ (k : ℕ). rank * 16 + k) f.1 ∙ sym (grade.grade_waits rank i ready s r f.0),
+        omega (arith, f.1, line.before_lt i (line_at rank s) f.0, grade.short_line rank s),
+      )
 
-  pub not_graded : 16 ≤ p → 48 ≡ grade_in rank i ready s
-  not_graded h =
-      ⊎_elim
-      (λ w. absurd (omega (arith, there, w.2)))
-      (λ w. sym (grade.grade_not rank i ready s (last_not ready (stands i (line_at rank s)) w.0)))
-      (grade.place_cases i (line_at rank s) (grade.short_line rank s))
+  pub not_graded : None ≡ search (take (17 * rank + 17 - 17 * rank) (drop (17 * rank) s)) → 48 ≡ grade_in rank i ready s
+  not_graded e =
+      let f = not_found i (line_at rank s) (e ∙ ap search (lent s rank)) in
+      sym (grade.grade_not rank i ready s (last_not ready (stands i (line_at rank s)) f))
 
 -- ---- what the test finds
 
-module _ (o : List ℕ) (k : ℕ) where
-  pub blank_stops : k < length o → (get_or o k 0 ≡ 0 → ⊥) → blank (drop k o) ≡ false
-  unfolding blank
-  blank_stops h n = ap blank (drop-cons o k 0 h) ∙ ap (λ (t : Bool). t && blank (drop (suc k) o)) (ne_eqb (get_or o k 0) 0 n)
+pub all_blank : (l : List ℕ) → blank l ≡ list_all (λ x. x == 0) l
+unfolding blank
+all_blank [] = refl
+all_blank (x ∷ l) = ap (λ (t : Bool). eqb x 0 && t) (all_blank l)
 
-  pub blank_goes_on : k < length o → get_or o k 0 ≡ 0 → blank (drop k o) ≡ blank (drop (k + 1) o)
-  unfolding blank
-  blank_goes_on h e =
-      ap blank (drop-cons o k 0 h)
-      ∙ ap (λ (t : Bool). t && blank (drop (suc k) o)) (eq-eqb (get_or o k 0) 0 e)
-      ∙ ap (λ (j : ℕ). blank (drop j o)) (sym (add-one k))
-
-  pub blank_ends : length o ≤ k → blank (drop k o) ≡ true
-  unfolding blank
-  blank_ends h = ap blank (drop_of_length-le o h)
+-- a line whose row passes is fit where what follows is blank
+pub row_passes : (n : ℕ) (o : List ℕ) → get_or o 0 0 ≤ 16
+    → (below n (take (get_or o 0 0 + 1 - 1) (drop 1 o)) && apart (take (get_or o 0 0 + 1 - 1) (drop 1 o))) ≡ true
+    → list_all (λ x. x == 0) (drop (get_or o 0 0 + 1) o) ≡ fit_line n o
+unfolding fit_line line_in
+row_passes n o few e =
+    let count = get_or o 0 0 in
+    let row : count + 1 - 1 ≡ count = omega arith in
+    let passes = sym (ap (λ (k : ℕ). below n (take k (drop 1 o)) && apart (take k (drop 1 o))) row) ∙ e in
+    sym (ap₂ (λ (u v : Bool). u && v && blank (drop (count + 1) o)) (le-leb count 16 few) passes ∙ all_blank (drop (count + 1) o))
 
 -- indexes below n, none twice, and none among those that are marked
-unfoldable pub fresh : List ℕ → ℕ → List ℕ → Bool
+unfoldable pub fresh : List Bool → ℕ → List ℕ → Bool
 fresh marks n [] = true
-fresh marks n (x ∷ l) = ltb x n && (eqb (get_or marks x 0) 0 && fresh (set marks x 1) n l)
+fresh marks n (x ∷ l) = ltb x n && (not (get_or marks x false) && fresh (set marks x true) n l)
 
-unfoldable unmarked : List ℕ → List ℕ → Bool
+unfoldable unmarked : List Bool → List ℕ → Bool
 unmarked marks [] = true
-unmarked marks (x ∷ l) = eqb (get_or marks x 0) 0 && unmarked marks l
+unmarked marks (x ∷ l) = not (get_or marks x false) && unmarked marks l
 
 and_swap : (a b c : Bool) → (a && (b && c)) ≡ (b && (a && c))
 and_swap true b c = refl
 and_swap false b c = sym (and-false b)
 
-mark_more : (marks : List ℕ) (x : ℕ) (l : List ℕ) → x < length marks → unmarked (set marks x 1) l ≡ (not (stands x l) && unmarked marks l)
+mark_more : (marks : List Bool) (x : ℕ) (l : List ℕ) → x < length marks → unmarked (set marks x true) l ≡ (not (stands x l) && unmarked marks l)
 unfolding unmarked stands
 mark_more marks x [] h = refl
 mark_more marks x (y ∷ l) h =
     ⊎_elim
     (λ e.
-    ap (λ (v : ℕ). eqb v 0 && unmarked (set marks x 1) l) (ap (λ (j : ℕ). get_or (set marks x 1) j 0) e ∙ get_or-set_same marks x 1 0 h)
-    ∙ ap (λ (t : Bool). not t && (eqb (get_or marks y 0) 0 && unmarked marks l)) (sym (line.stands_head y x l e)))
+    ap (λ (v : Bool). not v && unmarked (set marks x true) l) (ap (λ (j : ℕ). get_or (set marks x true) j false) e ∙ get_or-set_same marks x true false h)
+    ∙ ap (λ (t : Bool). not t && (not (get_or marks y false) && unmarked marks l)) (sym (line.stands_head y x l e)))
     (λ n.
-    ap₂ (λ (v : ℕ) (t : Bool). eqb v 0 && t) (get_or-set_other marks x y 1 0 n) (mark_more marks x l h)
-    ∙ and_swap (eqb (get_or marks y 0) 0) (not (stands x l)) (unmarked marks l)
-    ∙ ap (λ (t : Bool). not t && (eqb (get_or marks y 0) 0 && unmarked marks l)) (sym (line.stands_past y x l n)))
+    ap₂ (λ (v t : Bool). not v && t) (get_or-set_other marks x y true false n) (mark_more marks x l h)
+    ∙ and_swap (not (get_or marks y false)) (not (stands x l)) (unmarked marks l)
+    ∙ ap (λ (t : Bool). not t && (not (get_or marks y false) && unmarked marks l)) (sym (line.stands_past y x l n)))
     (line.same_or_not y x)
 
 sorted : (e b a n u : Bool) → (e && (b && (a && (n && u)))) ≡ (b && ((n && a) && (e && u)))
@@ -195,79 +183,67 @@ sorted true false a n u = refl
 sorted false true a n u = sym (and-false (n && a))
 sorted false false a n u = refl
 
-fresh_is : (marks : List ℕ) (n : ℕ) (l : List ℕ) → n ≤ length marks → fresh marks n l ≡ (below n l && (apart l && unmarked marks l))
+fresh_is : (marks : List Bool) (n : ℕ) (l : List ℕ) → n ≤ length marks → fresh marks n l ≡ (below n l && (apart l && unmarked marks l))
 unfolding fresh below apart unmarked
 fresh_is marks n [] h = refl
 fresh_is marks n (x ∷ l) h =
     ⊎_elim
     (λ b.
     let t = lt-ltb x n b in
-    let next = fresh_is (set marks x 1) n l (omega (arith, length-set marks x 1)) in
+    let next = fresh_is (set marks x true) n l (omega (arith, length-set marks x true)) in
     let marked = mark_more marks x l (omega arith) in
-    ap₂ (λ (p q : Bool). p && (eqb (get_or marks x 0) 0 && q)) t
+    ap₂ (λ (p q : Bool). p && (not (get_or marks x false) && q)) t
     (next ∙ ap (λ (q : Bool). below n l && (apart l && q)) marked)
-    ∙ sorted (eqb (get_or marks x 0) 0) (below n l) (apart l) (not (stands x l)) (unmarked marks l)
-    ∙ ap (λ (p : Bool). p && below n l && (not (stands x l) && apart l && (eqb (get_or marks x 0) 0 && unmarked marks l))) (sym t))
+    ∙ sorted (not (get_or marks x false)) (below n l) (apart l) (not (stands x l)) (unmarked marks l)
+    ∙ ap (λ (p : Bool). p && below n l && (not (stands x l) && apart l && (not (get_or marks x false) && unmarked marks l))) (sym t))
     (λ b.
     let t = le-ltb x n b in
-    ap (λ (p : Bool). p && (eqb (get_or marks x 0) 0 && fresh (set marks x 1) n l)) t
-    ∙ ap (λ (p : Bool). p && below n l && (not (stands x l) && apart l && (eqb (get_or marks x 0) 0 && unmarked marks l))) (sym t))
+    ap (λ (p : Bool). p && (not (get_or marks x false) && fresh (set marks x true) n l)) t
+    ∙ ap (λ (p : Bool). p && below n l && (not (stands x l) && apart l && (not (get_or marks x false) && unmarked marks l))) (sym t))
     (lt_cases x n)
 
-no_mark : (m x : ℕ) → ◌≡◌ {A = ℕ} (get_or (replicate m 0) x 0) 0
+no_mark : (m x : ℕ) → get_or (replicate m false) x false ≡ false
 no_mark zero x = refl
 no_mark (suc m) zero = refl
 no_mark (suc m) (suc x) = no_mark m x
 
-none_marked : (m : ℕ) (l : List ℕ) → unmarked (replicate m 0) l ≡ true
+none_marked : (m : ℕ) (l : List ℕ) → unmarked (replicate m false) l ≡ true
 unfolding unmarked
 none_marked m [] = refl
-none_marked m (x ∷ l) = ap₂ (λ (a b : Bool). a && b) (eq-eqb (get_or (replicate m 0) x 0) 0 (no_mark m x)) (none_marked m l)
+none_marked m (x ∷ l) = ap₂ (λ (a b : Bool). not a && b) (no_mark m x) (none_marked m l)
 
-pub fresh_all : (n : ℕ) (l : List ℕ) → n ≤ 16 → fresh (replicate 16 0) n l ≡ (below n l && apart l)
+pub fresh_all : (n : ℕ) (l : List ℕ) → n ≤ 16 → fresh (replicate 16 false) n l ≡ (below n l && apart l)
 fresh_all n l h =
-    fresh_is (replicate 16 0) n l h
+    fresh_is (replicate 16 false) n l h
     ∙ ap (λ (t : Bool). below n l && t) (ap (λ (t : Bool). apart l && t) (none_marked 16 l) ∙ and-true (apart l))
 
--- one index on, from the octets
-pub line_length : (o : List ℕ) → length o ≡ 17 → get_or o 0 0 ≤ 16 → length (line_in o) ≡ get_or o 0 0
-unfolding line_in
-line_length o size h = length-take-le (get_or o 0 0) (drop 1 o) (omega (arith, length-drop 1 o))
-
-index_at : (o : List ℕ) (k : ℕ) → k < get_or o 0 0 → get_or (line_in o) k 0 ≡ get_or o (k + 1) 0
-unfolding line_in
-index_at o k h =
-    let e : 1 + k ≡ k + 1 = omega arith in
-    get_or-take (get_or o 0 0) (drop 1 o) k 0 h ∙ get_or-drop 1 o k 0 ∙ ap (λ (j : ℕ). get_or o j 0) e
-
-module _ (o : List ℕ) (size : length o ≡ 17) (few : get_or o 0 0 ≤ 16) (marks : List ℕ) (n k : ℕ) where
-  pub fresh_ends : get_or o 0 0 ≤ k → fresh marks n (drop k (line_in o)) ≡ true
+-- one index on
+module _ (row : List ℕ) (marks : List Bool) (n k : ℕ) where
+  pub fresh_ends : length row ≤ k → fresh marks n (drop k row) ≡ true
   unfolding fresh
-  fresh_ends h = ap (fresh marks n) (drop_of_length-le (line_in o) {i = k} (omega (arith, line_length o size few)))
+  fresh_ends h = ap (fresh marks n) (drop_of_length-le row {i = k} h)
 
-  module _ (h : k < get_or o 0 0) where
+  module _ (h : k < length row) where
     abbrev x : ℕ
-    x = get_or o (k + 1) 0
+    x = get_or row k 0
 
     abbrev rest : Bool
-    rest = fresh (set marks x 1) n (drop (suc k) (line_in o))
+    rest = fresh (set marks x true) n (drop (suc k) row)
 
-    opened : fresh marks n (drop k (line_in o)) ≡ (ltb x n && (eqb (get_or marks x 0) 0 && rest))
+    opened : fresh marks n (drop k row) ≡ (ltb x n && (not (get_or marks x false) && rest))
     unfolding fresh
-    opened =
-        ap (fresh marks n) (drop-cons (line_in o) k 0 (omega (arith, line_length o size few)))
-        ∙ ap (λ (y : ℕ). fresh marks n (y ∷ drop (suc k) (line_in o))) (index_at o k h)
+    opened = ap (fresh marks n) (drop-cons row k 0 h)
 
-    pub too_high : n ≤ get_or o (k + 1) 0 → fresh marks n (drop k (line_in o)) ≡ false
-    too_high b = opened ∙ first_not (ltb x n) (eqb (get_or marks x 0) 0 && rest) (le-ltb x n b)
+    pub too_high : n ≤ get_or row k 0 → fresh marks n (drop k row) ≡ false
+    too_high b = opened ∙ first_not (ltb x n) (not (get_or marks x false) && rest) (le-ltb x n b)
 
-    pub twice : (get_or marks (get_or o (k + 1) 0) 0 ≡ 0 → ⊥) → fresh marks n (drop k (line_in o)) ≡ false
+    pub twice : get_or marks (get_or row k 0) false ≡ true → fresh marks n (drop k row) ≡ false
     twice b =
-        opened ∙ last_not (ltb x n) (eqb (get_or marks x 0) 0 && rest) (first_not (eqb (get_or marks x 0) 0) rest (ne_eqb (get_or marks x 0) 0 b))
+        opened ∙ last_not (ltb x n) (not (get_or marks x false) && rest) (first_not (not (get_or marks x false)) rest (ap not b))
 
-    pub goes_on : get_or o (k + 1) 0 < n → get_or marks (get_or o (k + 1) 0) 0 ≡ 0
-        → fresh marks n (drop k (line_in o)) ≡ fresh (set marks (get_or o (k + 1) 0) 1) n (drop (k + 1) (line_in o))
+    pub goes_on : get_or row k 0 < n → get_or marks (get_or row k 0) false ≡ false
+        → fresh marks n (drop k row) ≡ fresh (set marks (get_or row k 0) true) n (drop (k + 1) row)
     goes_on b z =
         opened
-        ∙ ap₂ (λ (p q : Bool). p && (q && rest)) (lt-ltb x n b) (eq-eqb (get_or marks x 0) 0 z)
-        ∙ ap (λ (j : ℕ). fresh (set marks x 1) n (drop j (line_in o))) (sym (add-one k))
+        ∙ ap₂ (λ (p q : Bool). p && (not q && rest)) (lt-ltb x n b) z
+        ∙ ap (λ (j : ℕ). fresh (set marks x true) n (drop j row)) (sym (add-one k))

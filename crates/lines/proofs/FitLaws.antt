@@ -1,17 +1,17 @@
 -- The test of the lines and the facts are one; whatever a call does keeps them; and what the lines are afterwards.
 -- Assumes nothing.
 use mathlib.Core.Path.{◌≡◌, refl, sym, ap, ap₂, ◌∙◌, subst}
-use mathlib.Core.Bool.{Bool, true, false, ◌&&◌}
+use mathlib.Core.Bool.{Bool, true, ◌&&◌}
 use mathlib.Core.Logic.{⊎_elim}
 use mathlib.Core.List.{List, [], ◌∷◌, ◌++◌}
 use Prim.Native.Nat.{ℕ, zero, suc, ◌+◌, ◌-◌, ◌≤◌, ◌<◌}
 use native.Mathlib.Numerals.{add-one}
 use native.Mathlib.Omega.{arith}
-use borrow.Author.Tests.{lt-ltb, le-ltb, le-leb, leb-true, eq-eqb, eqb-true}
+use borrow.Author.Tests.{lt-ltb, le-leb, leb-true, eq-eqb, eqb-true}
 use lib.Dec.{eqb, leb, ltb}
 use lib.ListN.{length, get_or, take, drop, replicate, take-append-drop, length-drop}
 use lib.Seq.{length-take-le, drop-append_seam}
-use Rattle.laws.proofs.Choice.{both, chosen, passed_by, first_not, last_not}
+use Rattle.laws.proofs.Choice.{both, chosen}
 use Rattle.lines.specs.Lines.{stands, without, relisted, line_octets, line_in, part_at, line_at, with_line, no_lines, relist_in, left_from, of_rank, relist_all, served_from}
 use Rattle.lines.specs.Fit.{below, apart, blank, fit_line, fit_lines, relist_fit, Line, FitLine, Fit}
 use Rattle.lines.proofs.LineLaws as line
@@ -277,14 +277,6 @@ serve_keeps n s rank i r0 r1 r2 known b e =
 -- ---- octets that may be no lines
 
 module _ (i : ℕ) (r0 r1 r2 : Bool) (s : List ℕ) where
-  pub listed_beyond : 16 ≤ i → relist_fit i r0 r1 r2 s ≡ s
-  unfolding relist_fit
-  listed_beyond h = passed_by (ltb i 16 && fit_lines 16 s) (relist_all i r0 r1 r2 s) s (first_not (ltb i 16) (fit_lines 16 s) (le-ltb i 16 h))
-
-  pub listed_none : fit_lines 16 s ≡ false → relist_fit i r0 r1 r2 s ≡ s
-  unfolding relist_fit
-  listed_none e = passed_by (ltb i 16 && fit_lines 16 s) (relist_all i r0 r1 r2 s) s (last_not (ltb i 16) (fit_lines 16 s) e)
-
   pub listed_lines : i < 16 → fit_lines 16 s ≡ true → relist_fit i r0 r1 r2 s ≡ relist_all i r0 r1 r2 s
   unfolding relist_fit
   listed_lines h e =

@@ -8,7 +8,7 @@ use Prim.Native.Nat.{ℕ, zero, suc, ◌≤◌, ◌<◌, zero-le}
 use native.Mathlib.Omega.{arith}
 use borrow.Author.Tests.{lt-ltb, ltb-true, eq-eqb, ne_eqb, eqb-true, eqb-false, not-true}
 use lib.Dec.{eqb, ltb}
-use lib.ListN.{length}
+use lib.ListN.{length, take, drop}
 use Rattle.std.specs.Prelude.{if◌then◌else◌}
 use Rattle.laws.proofs.Choice.{either_way, both, chosen, passed_by, by_test}
 use Rattle.laws.proofs.Lists.{length_snoc}
@@ -228,12 +228,6 @@ apart_without i (x ∷ l) a =
     ∙ apart_cons x (without i l) (others_stand_without x i l (λ q. m (sym q)) ∙ k.0) (apart_without i l k.1))
     (same_or_not x i)
 
-pub apart_relisted : (i : ℕ) (ready : Bool) (l : List ℕ) → apart l ≡ true → apart (relisted i ready l) ≡ true
-apart_relisted i ready l a =
-    by_relisting (λ t. apart t ≡ true) i ready l
-    (λ r. by_joining (λ t. apart t ≡ true) i l (λ e. a) (λ e. apart_tail i l e a))
-    (λ r. apart_without i l a)
-
 -- who leaves, and whoever of the table is relisted, keeps that
 pub line_without : (n i : ℕ) (l : List ℕ) → Line n l → Line n (without i l)
 line_without n i l h = record { inside = below_without n i l h.inside; once = apart_without i l h.once }
@@ -323,12 +317,32 @@ before_tail i (x ∷ l) e =
     (λ n. before_past x i (l ++ (i ∷ [])) n ∙ ap suc (before_tail i l (sym (stands_past x i l n) ∙ e)))
     (same_or_not x i)
 
--- the test by the place
-pub stands_there : (i : ℕ) (l : List ℕ) → before i l < length l → stands i l ≡ true
-stands_there i l h = either_way (stands i l) (λ e. e) (λ e. absurd (omega (arith, before_all i l e)))
+-- it stands there
+pub cut : (i : ℕ) (l : List ℕ) → stands i l ≡ true → l ≡ take (before i l) l ++ (i ∷ drop (suc (before i l)) l)
+unfolding stands
+cut i [] e = absurd (false≢true e)
+cut i (x ∷ l) e =
+    let at = λ (k : ℕ). take k (x ∷ l) ++ (i ∷ drop (suc k) (x ∷ l)) in
+    ⊎_elim
+    (λ q. ap (λ (y : ℕ). y ∷ l) q ∙ sym (ap at (before_head x i l q)))
+    (λ n. ap (λ (t : List ℕ). x ∷ t) (cut i l (sym (stands_past x i l n) ∙ e)) ∙ sym (ap at (before_past x i l n)))
+    (same_or_not x i)
 
-pub stands_nowhere : (i : ℕ) (l : List ℕ) → length l ≤ before i l → stands i l ≡ false
-stands_nowhere i l h = either_way (stands i l) (λ e. absurd (omega (arith, before_lt i l e))) (λ e. e)
+-- and without it those before and behind it are left, where none stands twice
+pub cut_out : (i : ℕ) (l : List ℕ) → apart l ≡ true → stands i l ≡ true → without i l ≡ take (before i l) l ++ drop (suc (before i l)) l
+unfolding stands
+cut_out i [] a e = absurd (false≢true e)
+cut_out i (x ∷ l) a e =
+    let k = apart_head x l a in
+    let left = λ (k : ℕ). take k (x ∷ l) ++ drop (suc k) (x ∷ l) in
+    ⊎_elim
+    (λ q.
+    without_head x i l q ∙ without_none i l (ap (λ (t : ℕ). stands t l) (sym q) ∙ k.0) ∙ sym (ap left (before_head x i l q)))
+    (λ n.
+    without_past x i l n
+    ∙ ap (λ (t : List ℕ). x ∷ t) (cut_out i l k.1 (sym (stands_past x i l n) ∙ e))
+    ∙ sym (ap left (before_past x i l n)))
+    (same_or_not x i)
 
 -- no two stand at one place
 pub places_apart : (i j : ℕ) (l : List ℕ) → stands i l ≡ true → before i l ≡ before j l → i ≡ j

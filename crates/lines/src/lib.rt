@@ -6,4 +6,4 @@ mod line;
 pub mod ranks;
 
 pub use fit::is_fit;
-pub use ranks::{clear, grade, read, relist, relisted, serve, write};
+pub use ranks::{Ranks, clear, grade, read, relist, relisted, serve, write};

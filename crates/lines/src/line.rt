@@ -1,74 +1,49 @@
-// One line: 17 octets, how many stand in it, and their indexes from the head on.
-ghost use Rattle.std.specs.Prelude.{◌≡◌, ◌+◌, ◌<◌, ◌==◌, min, length, position};
+// One line: 17 octets, how many stand in it, and their indexes from the head on. The count stands beside them and no slice has their length: the octets
+// are lent, and the definition `fit_lines` lays them out so.
+ghost use Rattle.std.specs.Prelude.{◌≡◌, ◌<◌, ◌==◌, length, position};
 ghost use Rattle.lines.specs.Lines.{joined, without, relisted, line_octets, line_in};
-ghost use Rattle.lines.specs.Grades.{place_in};
 ghost use Rattle.lines.specs.Fit.{FitLine};
 
-// The place of one that does not stand in the line.
-pub const NOWHERE: usize = 16;
-
-// Where those who stand end; no more than 16 do.
-fn end_of(count: u8) -> usize
-    ensures { result ≡ min count 16 + 1 }
-{
-    if count < 16 { count as usize + 1 } else { 17 }
-}
-
-// Where the first i of a row stands.
-fn find(row: &[u8], i: u8) -> Option<usize>
-    ensures { result ≡ position (λ x. x == i) row.now }
-{
-    row.iter().position(|x| *x == i)
-}
-
-// How many stand before i.
-pub fn place(line: &[u8], i: u8) -> usize
+// How many stand before i, if it stands in the line; no more than 16 do.
+pub fn place(line: &[u8], i: u8) -> Option<usize>
     requires { length line.now ≡ 17 }
-    ensures { result ≡ place_in i (line_in line.now) }
+    ensures { result ≡ position (λ x. x == i) (line_in line.now) }
 {
-    let end = end_of(line[0]);
-    match find(&line[1..end], i) {
-        Some(before) => before,
-        None => NOWHERE,
-    }
+    let end = (line[0] as usize).min(16) + 1;
+    line[1..end].iter().position(|x| *x == i)
 }
 
 // i joins at the tail, unless it stands there.
+#[tactic(auto, using(crate::proofs::FitLaws::counted))]
 pub fn join(line: &mut [u8], i: u8)
     requires fit_line { FitLine 16 line.old }
     requires i_bound { i < 16 }
     ensures { line.new ≡ line_octets (joined i (line_in line.old)) }
 {
-    if place(line, i) < NOWHERE {
+    if place(line, i).is_some() {
         return;
     }
     let tail = line[0] + 1;
-    let at = tail as usize;
-    line[at] = i;
+    line[tail as usize] = i;
     line[0] = tail;
 }
 
-// i leaves, and those behind it move up.
+// i leaves, and those behind it move up, with the zeros behind them.
+#[tactic(auto, using(crate::proofs::FitLaws::counted, crate::proofs::CodeLaws::place_in_line))]
 pub fn leave(line: &mut [u8], i: u8)
     requires { FitLine 16 line.old }
     ensures { line.new ≡ line_octets (without i (line_in line.old)) }
 {
-    let count = line[0] as usize;
-    let mut kept: usize = 0;
-    let mut k: usize = 0;
-    while k < count {
-        k += 1;
-        let x = line[k];
-        line[k] = 0;
-        if x != i {
-            kept += 1;
-            line[kept] = x;
-        }
+    if let Some(before) = place(line, i) {
+        let left = line[0] - 1;
+        line.copy_within(before + 2.., before + 1);
+        line[16] = 0;
+        line[0] = left;
     }
-    line[0] = kept as u8;
 }
 
 // i joins if it is ready, and leaves if not.
+#[tactic(auto, unfolding(crate::specs::Lines::relisted))]
 pub fn relist_line(line: &mut [u8], i: u8, ready: bool)
     requires fit_line { FitLine 16 line.old }
     requires i_bound { i < 16 }

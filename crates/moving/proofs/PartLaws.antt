@@ -3,7 +3,7 @@
 use mathlib.Core.Path.{◌≡◌, sym, ap, ap₂, ◌∙◌, subst, subst₂}
 use mathlib.Core.Logic.{◌⊎◌}
 use mathlib.Core.List.{List, ◌++◌}
-use Prim.Native.Nat.{ℕ, ◌+◌, ◌≤◌}
+use Prim.Native.Nat.{ℕ, ◌+◌, ◌-◌, ◌≤◌}
 use native.Mathlib.Omega.{arith}
 use lib.ListN.{length, take, drop}
 use Rattle.slots.specs.Slots.{Sized, laid}
@@ -12,6 +12,8 @@ use Rattle.channel.specs.Places.{slot_in}
 use Rattle.channel.specs.Pairs.{again}
 use Rattle.store.specs.Store.{EachFits, octets_in}
 use Rattle.table.specs.Lent.{area_of, part_of}
+use Rattle.table.proofs.Parts.{put_laid}
+use borrow.Rule.Slice.PartMut.{put_mid}
 use Rattle.moving.specs.declared.refiling.Lot.{Lot}
 use Rattle.moving.specs.declared.refiling.Unit as held
 use Rattle.moving.specs.Refiling.{own_of, lens_of, Lies, Apart, unit_in, Holds}
@@ -51,34 +53,46 @@ module _ (m0 : List ℕ) (at n : ℕ) (within : at + n ≤ length m0) (m : List 
         ap (drop (at + length p)) filed ∙ laid_after m0 at (part_of at n m) inside (at + length p) (omega (arith, whole)) in
         is ∙ ap₂ (λ (a b : List ℕ). a ++ (p ++ b)) front back ∙ ap (laid m0 at) (sym turn_own)
 
--- ---- the parts as code cuts them out, j octets and k lengths
-module _ (mem lens : List ℕ) (j k : ℕ) where
-  module _ (lot : Lot) (octets : j ≡ area_of lot.limits) (slots : k ≡ lot.limits.slots) where
-    pub cut_octets : take j (drop lot.octet mem) ≡ own_of lot mem
-    cut_octets = ap (λ (n : ℕ). take n (drop lot.octet mem)) octets
+-- ---- a part as code cuts it out: the octets from o up to e, the lengths from s up to t
+module _ (mem lens : List ℕ) (o e s t : ℕ) where
+  module _ (lot : Lot) (octets : (o ≡ lot.octet) × (e ≡ lot.octet + area_of lot.limits)) (lengths : (s ≡ lot.slot) × (t ≡ lot.slot + lot.limits.slots)) where
+    pub cut_octets : take (e - o) (drop o mem) ≡ own_of lot mem
+    cut_octets = let n : e - o ≡ area_of lot.limits = omega (arith, octets.0, octets.1) in ap₂ (λ (k j : ℕ). take k (drop j mem)) n octets.0
 
-    pub cut_lens : take k (drop lot.slot lens) ≡ lens_of lot lens
-    cut_lens = ap (λ (n : ℕ). take n (drop lot.slot lens)) slots
+    pub cut_lens : take (t - s) (drop s lens) ≡ lens_of lot lens
+    cut_lens = let n : t - s ≡ lot.limits.slots = omega (arith, lengths.0, lengths.1) in ap₂ (λ (k j : ℕ). take k (drop j lens)) n lengths.0
 
-    pub cut_sized : Lies lot mem lens → Sized lot.limits.slots lot.limits.payload (take j (drop lot.octet mem)) (take k (drop lot.slot lens))
+    pub cut_sized : Lies lot mem lens → Sized lot.limits.slots lot.limits.payload (take (e - o) (drop o mem)) (take (t - s) (drop s lens))
     cut_sized lies = subst₂ (Sized lot.limits.slots lot.limits.payload) (sym cut_octets) (sym cut_lens) lies.sized
 
-  module _ (u : held.Unit) (octets : j ≡ area_of u.lot.limits) (slots : k ≡ u.lot.limits.slots) where
-    pub cut_each : Holds u mem lens → EachFits (slot_in u.lot.limits) u.lot.limits.payload (take k (drop u.lot.slot lens)) u.lot.limits.slots u.count u.from
+    -- and put back, with other octets and lengths in it
+    pub put_octets : (q : List ℕ) → length q ≡ area_of lot.limits → put_mid o (e - o) mem q ≡ laid mem lot.octet q
+    put_octets q long =
+        let n : e - o ≡ area_of lot.limits = omega (arith, octets.0, octets.1) in
+        put_laid mem o (e - o) (area_of lot.limits) q n long ∙ ap (λ (k : ℕ). laid mem k q) octets.0
+
+    pub put_lens : (q : List ℕ) → length q ≡ lot.limits.slots → put_mid s (t - s) lens q ≡ laid lens lot.slot q
+    put_lens q long =
+        let n : t - s ≡ lot.limits.slots = omega (arith, lengths.0, lengths.1) in
+        put_laid lens s (t - s) lot.limits.slots q n long ∙ ap (λ (k : ℕ). laid lens k q) lengths.0
+
+  module _ (u : held.Unit) (octets : (o ≡ u.lot.octet) × (e ≡ u.lot.octet + area_of u.lot.limits))
+      (lengths : (s ≡ u.lot.slot) × (t ≡ u.lot.slot + u.lot.limits.slots)) where
+    pub cut_each : Holds u mem lens → EachFits (slot_in u.lot.limits) u.lot.limits.payload (take (t - s) (drop s lens)) u.lot.limits.slots u.count u.from
     cut_each holds =
         subst (λ (l : List ℕ). EachFits (slot_in u.lot.limits) u.lot.limits.payload l u.lot.limits.slots u.count u.from)
-        (sym (cut_lens u.lot octets slots))
+        (sym (cut_lens u.lot octets lengths))
         holds.each
 
-    pub cut_unit : octets_in (slot_in u.lot.limits) u.lot.limits.payload (take j (drop u.lot.octet mem)) (take k (drop u.lot.slot lens)) u.lot.limits.slots u.count u.from
+    pub cut_unit : octets_in (slot_in u.lot.limits) u.lot.limits.payload (take (e - o) (drop o mem)) (take (t - s) (drop s lens)) u.lot.limits.slots u.count u.from
         ≡ unit_in u mem lens
     cut_unit =
         ap₂ (λ (m l : List ℕ). octets_in (slot_in u.lot.limits) u.lot.limits.payload m l u.lot.limits.slots u.count u.from)
-        (cut_octets u.lot octets slots)
-        (cut_lens u.lot octets slots)
+        (cut_octets u.lot octets lengths)
+        (cut_lens u.lot octets lengths)
 
     pub cut_size : Holds u mem lens
-        → u.size ≡ length (again (octets_in (slot_in u.lot.limits) u.lot.limits.payload (take j (drop u.lot.octet mem)) (take k (drop u.lot.slot lens)) u.lot.limits.slots u.count u.from))
+        → u.size ≡ length (again (octets_in (slot_in u.lot.limits) u.lot.limits.payload (take (e - o) (drop o mem)) (take (t - s) (drop s lens)) u.lot.limits.slots u.count u.from))
     cut_size holds = holds.size ∙ ap (λ (w : List ℕ). length (again w)) (sym cut_unit)
 
 -- ---- a unit, while segments go to another part

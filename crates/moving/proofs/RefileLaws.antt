@@ -1,17 +1,17 @@
 -- Laws of a unit that is filed anew: its segments, and the part that it is filed in.
 -- Assumes nothing.
-use mathlib.Core.Path.{◌≡◌, sym, ap, ◌∙◌}
+use mathlib.Core.Path.{◌≡◌, refl, sym, ap, ◌∙◌}
 use mathlib.Core.Logic.{⊎_elim}
-use mathlib.Core.List.{List, ◌∷◌}
+use mathlib.Core.List.{List, ◌∷◌, ◌++◌}
 use Prim.Native.Nat.{ℕ, suc, min, ◌+◌, ◌-◌, ◌*◌, ◌≤◌, ◌<◌}
 use native.Mathlib.Nat.{zero-mul}
 use native.Mathlib.Omega.{arith}
-use lib.ListN.{length, set, take, drop, length-drop, length-take}
-use lib.Seq.{take_all, drop-drop}
+use lib.ListN.{length, take, drop, length-drop, length-take}
+use lib.Seq.{take_all, take-append-le, drop-drop}
 use Rattle.laws.proofs.Numbers.{lt_cases}
 use Rattle.slots.specs.Slots.{laid}
 use Rattle.slots.specs.Units.{segments_of, segment_cut}
-use Rattle.slots.proofs.SlotLaws.{laid_here, laid_led}
+use Rattle.slots.proofs.SlotLaws.{laid_here, laid_length}
 use Rattle.slots.proofs.Units.{cut_later}
 use Rattle.channel.specs.Pairs.{again}
 use Rattle.store.proofs.Laws.{segment_starts, past_front}
@@ -63,9 +63,18 @@ module _ (most : ℕ) (u : List ℕ) (size i len : ℕ) (is : size ≡ length (a
 
 -- ---- octets at the front of a buffer
 
-pub front_laid : (m p : List ℕ) (len : ℕ) → len ≡ length p → len ≤ length m → take len (laid m 0 p) ≡ p
+front_laid : (m p : List ℕ) (len : ℕ) → len ≡ length p → len ≤ length m → take len (laid m 0 p) ≡ p
 front_laid m p len e h =
     ap (λ (k : ℕ). take k (laid m 0 p)) e ∙ laid_here m 0 p (omega (arith, e))
 
-pub front_led : (m p : List ℕ) (x len : ℕ) → len ≡ suc (length p) → len ≤ length m → take len (laid (set m 0 x) 1 p) ≡ x ∷ p
-front_led m p x len e h = ap (take len) (laid_led m 0 x p (omega (arith, e))) ∙ front_laid m (x ∷ p) len e h
+-- of a part q of it, which was laid over m, with `rest` behind it
+pub front_filled : (m p q rest : List ℕ) (len : ℕ) → q ≡ laid m 0 p → len ≡ length p → len ≤ length m → take len (q ++ rest) ≡ p
+front_filled m p q rest len is e h =
+    take-append-le len q rest (omega (arith, h, ap length is, laid_length m 0 p (omega (arith, e, h))))
+    ∙ ap (take len) is
+    ∙ front_laid m p len e h
+
+-- and behind one octet
+pub front_led : (m p q rest : List ℕ) (x len : ℕ) → q ≡ laid m 0 p → len ≡ suc (length p) → length p ≤ length m → take len (x ∷ (q ++ rest)) ≡ x ∷ p
+front_led m p q rest x len is e h =
+    ap (λ (k : ℕ). take k (x ∷ (q ++ rest))) e ∙ ap (λ (l : List ℕ). x ∷ l) (front_filled m p q rest (length p) is refl h)

@@ -19,12 +19,15 @@ use Rattle.table.specs.Surveying.{begun, surveyed, decided, told_roles, placed, 
 use Rattle.table.proofs.ServeLaws.{decision_of, may_serve, look_stays, agreed_told}
 
 -- the decision that is made of a survey
-pub decided_is : (look : Look) (t : List Channel) (mem lens lines : List ℕ) (a v : Survey) (d : Decision)
-    → a ≡ begun look lines
+pub decided_is : (look : Look) (t : List Channel) (mem lens lines : List ℕ) (l : Look) (a v : Survey) (d : Decision)
+    → l ≡ look
+    → a ≡ begun l lines
     → v ≡ surveyed t lens a
     → d ≡ decided v (length t) (length mem) (length lens)
     → d ≡ decision_of look t mem lens lines
-decided_is look t mem lens lines a v d ea ev ed = ed ∙ ap (λ (w : Survey). decided w (length t) (length mem) (length lens)) (ev ∙ ap (surveyed t lens) ea)
+decided_is look t mem lens lines l a v d el ea ev ed =
+    ed
+    ∙ ap (λ (w : Survey). decided w (length t) (length mem) (length lens)) (ev ∙ ap (surveyed t lens) (ea ∙ ap (λ (k : Look). begun k lines) el))
 
 module _ (look : Look) (t : List Channel) (mem lens lines : List ℕ) (any : Channel) where
   -- what the step asks

@@ -11,17 +11,19 @@ use Rattle.channel.specs.declared.record.Channel.{Channel}
 use Rattle.channel.specs.declared.step.Stepped.{Stepped}
 use Rattle.channel.specs.Record.{sends}
 use Rattle.table.specs.declared.deciding.Decision.{Decision}
-use Rattle.sender_packets.specs.declared.handing.Ranks.{Ranks}
+use Rattle.lines.specs.declared.ranks.Ranks.{Ranks}
 use Rattle.table.specs.Waiting.{waiting_of, rank_in, moved_with, may_move, moved}
-use Rattle.table.specs.Serving.{Step, alone, told_of}
+use Rattle.table.specs.Serving.{alone, told_of}
 use Rattle.table.specs.Surveying.{stepping, placed}
 use Rattle.table.proofs.Parts.{quiet}
 use Rattle.requests.specs.Requests.{transfer_for}
+use Rattle.node.specs.declared.request.Request.{Request}
+use Rattle.node.specs.Calls.{step_for}
 
 module _ (c : Channel) (d : Decision) (mem lens out : List ℕ) where
-  -- one step for another that is equal
-  pub likewise : (step other : Step) → step ≡ other → stepping other c d mem lens out ≡ stepping step c d mem lens out
-  likewise step other e = ap (λ (s : Step). stepping s c d mem lens out) (sym e)
+  -- the step of a request is that of its kind
+  pub likewise : (n k : Request) (x : List ℕ) → n ≡ k → stepping (step_for k x) c d mem lens out ≡ stepping (step_for n x) c d mem lens out
+  likewise n k x e = ap (λ (m : Request). stepping (step_for m x) c d mem lens out) (sym e)
 
   -- a step that changes the record alone
   pub by_value : (made : Channel → Stepped) (r : Stepped) → r ≡ made c → works r mem lens out ≡ stepping (alone made) c d mem lens out

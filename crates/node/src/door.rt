@@ -15,16 +15,9 @@ use table::beginning::survey;
 use table::deciding::decide;
 use table::surveying::begin;
 use table::waiting::{move_lines, rank_in, waiting};
-use table::{Decision, Placed, Survey, Told};
+use table::{Decision, Placed, Told};
 
-// A packet is read before the table is surveyed; what that says counts after the test for 13.
-fn serve_begin(lines: &[u8], n: Request, x: &[u8], room: usize) -> Survey
-    ensures { result ≡ begun (look_in n x.now room) lines.now }
-{
-    begin(look_in(n, x, room), lines)
-}
-
-// What is asked of the channel that was found.
+// What is asked of the channel that was found. Each arm takes other parts of what is lent, so that a closure for each would be no plainer.
 fn step_for(
     c: Channel,
     d: Decision,
@@ -41,7 +34,7 @@ fn step_for(
         Request::Open(_) => open_step(c),
         Request::Close(_) => close_step(c),
         Request::Transfer(_) => transfer_step(c, d, mem, lens, x),
-        Request::WouldTransfer { index: _, count } => ask_step(c, count),
+        Request::WouldTransfer { count, .. } => ask_step(c, count),
         Request::Take(_) => take_step(c, d, mem, lens, out),
         Request::Reclaim(_) => reclaim_step(c, d, mem, lens, out),
         Request::Arrival(node) => arrive_step(c, d, node, mem, lens, x, out),
@@ -65,22 +58,24 @@ fn serve_step(
     ensures { performs result mem.new lens.new lines.new out.new ≡ placed d lines.old (stepping (step_for n x.now) c d mem.old lens.old out.old) }
 {
     let s = step_for(c, d, n, mem, lens, x, out);
-    let channel = s.channel;
-    let answer = s.answer;
-    let w = waiting(channel);
-    let look = d.look;
-    let sought = look.sought;
-    move_lines(lines, sought, rank_in(d.spot.grade), d.spot.at, answer, w);
+    move_lines(
+        lines,
+        d.look.sought,
+        rank_in(d.spot.grade),
+        d.spot.at,
+        s.answer,
+        waiting(s.channel),
+    );
     Placed {
-        channel,
+        channel: s.channel,
         told: Told {
-            answer,
-            index: d.told.index,
+            answer: s.answer,
+            ..d.told
         },
     }
 }
 
-// The call, over a lent table.
+// The call, over a lent table. A packet is read before the table is surveyed; what that says counts after the test for 13.
 pub fn serve(
     t: &mut [Channel],
     mem: &mut [u8],
@@ -92,8 +87,7 @@ pub fn serve(
 ) -> Told
     ensures { leaves result t.new mem.new lens.new lines.new out.new ≡ saying (told_of (served_index t.old mem.old lens.old lines.old n x.now out.old)) (served t.old mem.old lens.old lines.old n x.now out.old) }
 {
-    let a = serve_begin(lines, n, x, out.len());
-    let v = survey(t, lens, a);
+    let v = survey(t, lens, begin(look_in(n, x, out.len()), lines));
     let d = decide(v, t.len(), mem.len(), lens.len());
     if d.at < t.len() {
         let s = serve_step(t[d.at], d, n, mem, lens, lines, x, out);

@@ -32,12 +32,12 @@ pub fn look_in(n: Request, x: &[u8], room: usize) -> Look
     ensures { result ≡ look_in n x.now room }
 {
     match n {
-        Request::Open(index) => seek(Sought::Index(index)),
-        Request::Close(index) => seek(Sought::Index(index)),
-        Request::Transfer(index) => seek(Sought::Index(index)),
-        Request::WouldTransfer { index, count: _ } => seek(Sought::Question(index)),
-        Request::Take(index) => seek(Sought::Index(index)),
-        Request::Reclaim(index) => seek(Sought::Index(index)),
+        Request::Open(index)
+        | Request::Close(index)
+        | Request::Transfer(index)
+        | Request::Take(index)
+        | Request::Reclaim(index) => seek(Sought::Index(index)),
+        Request::WouldTransfer { index, .. } => seek(Sought::Question(index)),
         Request::Arrival(node) => look_of(node, x, room),
         Request::NextPacket(_) => seek(Sought::Ready),
         Request::Unknown => seek(Sought::Nobody(Refusal::NoChannel)),

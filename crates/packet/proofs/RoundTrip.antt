@@ -10,15 +10,14 @@ use native.Mathlib.Omega.{arith}
 use borrow.Author.Tests.{eq-eqb}
 use lib.ListN.{length, get_or, take, drop, take-append-drop, length-drop, length-append}
 use lib.Seq.{take_at, drop_at, get_or_at, get_or-append-add, take-suc, take-add, take_all, length-take-le}
+use Rattle.std.specs.Prelude.{Ok}
 use Rattle.laws.specs.Octets.{Octets, octets_of, pair_of, pair_at}
 use Rattle.laws.proofs.Lists.{firsts}
 use Rattle.crc.specs.Crc.{crc_of}
 use Rattle.packet.specs.declared.fields.Fields.{Fields}
-use Rattle.packet.specs.declared.reading.Read.TheVariants.{Found}
-use Rattle.packet.specs.declared.writing.Written.TheVariants as written
 use Rattle.packet.specs.Layout.{least, prefix_from, source_at, payload_at, whole_length, front_of, head_of, body_of, packet_of, fields_at, prefix_at, prefix_in, length_at, payload_in}
 use Rattle.packet.specs.Tests.{short, damaged, lacking, strange, Sound}
-use Rattle.packet.specs.Reading.{read_of}
+use Rattle.packet.specs.Reading.{finds, read_of}
 use Rattle.packet.specs.Writing.{after_write}
 use Rattle.packet.specs.RoundTrip.{WrittenThenRead, ReadThenWritten}
 use Rattle.packet.proofs.Tests.{long, whole, sourced, not_short, undamaged, sound}
@@ -79,7 +78,7 @@ sum_back f q p =
 packet_read : (f : Fields) (q p : List ℕ)
     → lacking f (length q) ≡ false
     → strange f (length p) ≡ false
-    → read_of (packet_of f q p) ≡ Found f (length q) (payload_at (length q)) (length p)
+    → read_of (packet_of f q p) ≡ finds f (length q) (payload_at (length q)) (length p)
 packet_read f q p l t =
     let s = packet_of f q p in
     let w = sound f (length q) (length p) l t in
@@ -197,7 +196,7 @@ read_then_written s out f n start x octets e room =
           write_done f (length q) (length p) (length out) (ap₂ lacking (sym a.fields) (lq ∙ sym a.prefix) ∙ a.base)
           (ap₂ strange (sym a.fields) (lp ∙ sym a.payload) ∙ a.plain)
           (omega arith)
-          ∙ ap written.Done (ap₂ whole_length lq lp ∙ sym count);
+          ∙ ap Ok (ap₂ whole_length lq lp ∙ sym count);
       octets = ap (λ (l : List ℕ). l ++ drop (length s) out) same;
       count = count ∙ sym (ap₂ whole_length lq lp);
     }

@@ -10,12 +10,13 @@ use borrow.Author.Tests.{lt-ltb, le-ltb, ltb-false}
 use lib.Dec.{ltb}
 use lib.ListN.{length, get_or, take, drop, set, length-append}
 use lib.Seq.{sets-eq, set_at, take_at, drop_at, drop-cons, drop-append-add, drop-drop}
+use Rattle.std.specs.Prelude.{Result, Ok, Err}
 use Rattle.laws.specs.Octets.{octets_of}
 use Rattle.laws.proofs.Choice.{not_first}
 use Rattle.crc.specs.Crc.{crc_of}
 use Rattle.packet.specs.declared.fields.Fields.{Fields}
-use Rattle.packet.specs.declared.writing.Written.{Written}
-use Rattle.packet.specs.declared.writing.Written.TheVariants.{Done, Lacking, Strange, Small}
+use Rattle.packet.specs.declared.writing.WriteError.{WriteError}
+use Rattle.packet.specs.declared.writing.WriteError.TheVariants.{Lacking, Strange, Small}
 use Rattle.packet.specs.Layout.{prefix_from, source_at, payload_at, whole_length, front_of, head_of, body_of, packet_of}
 use Rattle.packet.specs.Tests.{lacking, strange}
 use Rattle.packet.specs.Writing.{written_of, written_number}
@@ -23,19 +24,19 @@ use Rattle.packet.specs.Writing.{written_of, written_number}
 -- ---- the answer from the tests
 
 module _ (f : Fields) (n x room : ℕ) where
-  pub write_lacking : lacking f n ≡ true → written_of f n x room ≡ Lacking
+  pub write_lacking : lacking f n ≡ true → written_of f n x room ≡ Err Lacking
   unfolding written_of
   write_lacking a = rw a
 
-  pub write_strange : lacking f n ≡ false → strange f x ≡ true → written_of f n x room ≡ Strange
+  pub write_strange : lacking f n ≡ false → strange f x ≡ true → written_of f n x room ≡ Err Strange
   unfolding written_of
   write_strange a b = rw (a, b)
 
-  pub write_small : lacking f n ≡ false → strange f x ≡ false → room < whole_length n x → written_of f n x room ≡ Small (whole_length n x)
+  pub write_small : lacking f n ≡ false → strange f x ≡ false → room < whole_length n x → written_of f n x room ≡ Err (Small (whole_length n x))
   unfolding written_of
   write_small a b c = rw (a, b, lt-ltb room (whole_length n x) c)
 
-  pub write_done : lacking f n ≡ false → strange f x ≡ false → whole_length n x ≤ room → written_of f n x room ≡ Done (whole_length n x)
+  pub write_done : lacking f n ≡ false → strange f x ≡ false → whole_length n x ≤ room → written_of f n x room ≡ Ok (whole_length n x)
   unfolding written_of
   write_done a b c = rw (a, b, le-ltb room (whole_length n x) c)
 
@@ -49,16 +50,16 @@ pub record Writable (f : Fields) (n x given told : ℕ) : Type 0 where
   pub count : whole_length n x ≡ told
 
 -- a refusal writes nothing
-undone : {w : Written} (k : ℕ) → (written_number w ≡ 0 → ⊥) → w ≡ Done k → ⊥
+undone : {w : Result ℕ WriteError} (k : ℕ) → (written_number w ≡ 0 → ⊥) → w ≡ Ok k → ⊥
 undone k n e = n (ap written_number e)
 
-pub writable : (f : Fields) (n x room count : ℕ) → written_of f n x room ≡ Done count → Writable f n x room count
+pub writable : (f : Fields) (n x room count : ℕ) → written_of f n x room ≡ Ok count → Writable f n x room count
 unfolding written_of
 writable f n x room count e =
     let a = not_first (lacking f n) _ _ _ e (undone count (λ z. omega arith)) in
     let b = not_first (strange f x) _ _ _ a.1 (undone count (λ z. omega arith)) in
     let c = not_first (ltb room (whole_length n x)) _ _ _ b.1 (undone count (λ z. omega arith)) in
-    let done : Done (whole_length n x) ≡ Done count = c.1 in
+    let done : Ok (whole_length n x) ≡ Ok count = c.1 in
     record { base = a.0; plain = b.0; room = ltb-false _ _ c.0; count = cc }
 
 -- ---- lengths

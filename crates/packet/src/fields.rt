@@ -3,7 +3,7 @@ ghost use Rattle.std.specs.Prelude.{◌≡◌};
 ghost use Rattle.packet.specs.Kinds.{carried};
 ghost use Rattle.packet.specs.Tests.{lacking, flags_allowed, payload_allowed, strange};
 
-use crate::kinds::{Kind, is_data, kind_of, most_carried};
+use crate::kinds::{Kind, is_data, most_carried};
 
 // As 000, 4.2.3, names and orders them, each subfield a number of its own, so that a caller can also say what is refused.
 // The lengths of the prefix and of the payload are not among them: they are the prefix's and the payload's own.
@@ -45,70 +45,52 @@ pub const WHOLE: u8 = 3;
 pub const VERSION: u8 = 1;
 
 // A secondary header, a prefix of more octets than can be counted, or a type that is not carried.
+#[tactic(auto, unfolding(crate::specs::Tests::lacking))]
 pub fn is_lacking(f: Fields, prefix: usize) -> bool
     ensures { result ≡ lacking f prefix }
 {
-    if f.secondary != 0 {
-        return true;
-    }
-    if MOST_PREFIX < prefix {
-        return true;
-    }
-    !is_carried(kind_of(f.kind))
+    f.secondary != 0 || MOST_PREFIX < prefix || !is_carried(Kind::from(f.kind))
 }
 
 // Another header field unexpected, with a payload of so many octets.
+#[tactic(auto, unfolding(crate::specs::Tests::strange))]
 pub fn is_strange(f: Fields, length: usize) -> bool
     ensures { result ≡ strange f length }
 {
-    if f.version != VERSION {
-        return true;
-    }
-    if f.reserved != 0 {
-        return true;
-    }
-    let kind = kind_of(f.kind);
-    if !allows_flags(kind, f.flags) {
-        return true;
-    }
-    !allows_payload(kind, f.flags, length)
+    let kind = Kind::from(f.kind);
+    f.version != VERSION
+        || f.reserved != 0
+        || !allows_flags(kind, f.flags)
+        || !allows_payload(kind, f.flags, length)
 }
 
 // The kinds that are carried.
 fn is_carried(kind: Kind) -> bool
     ensures { result ≡ carried kind }
 {
-    match kind {
-        Kind::Data => true,
-        Kind::DataAck => true,
-        Kind::Open => true,
-        Kind::Close => true,
-        Kind::Heartbeat => true,
-        Kind::HeartbeatAck => true,
-        Kind::FlowControl => true,
-        Kind::ControlAck => true,
-        Kind::Lacking(_) => false,
-    }
+    !matches!(kind, Kind::Lacking(_))
 }
 
 fn allows_flags(kind: Kind, flags: u8) -> bool
     ensures { result ≡ flags_allowed kind flags }
 {
     if is_data(kind) {
-        return flags <= WHOLE;
+        flags <= WHOLE
+    } else {
+        flags == WHOLE
     }
-    flags == WHOLE
 }
 
 // No empty middles: a segment that does not end its unit carries something.
 fn allows_payload(kind: Kind, flags: u8, length: usize) -> bool
     ensures { result ≡ payload_allowed kind flags length }
 {
-    if is_data(kind) {
-        if length == 0 {
-            return LAST <= flags;
-        }
-        return length <= 65535;
+    if !is_data(kind) {
+        return length <= most_carried(kind);
     }
-    length <= most_carried(kind)
+    if length == 0 {
+        LAST <= flags
+    } else {
+        length <= 65535
+    }
 }

@@ -2,7 +2,7 @@
 ghost use Rattle.std.specs.Prelude.{◌≡◌};
 ghost use Rattle.packet.specs.Kinds.{is_data, code_of, kind_of, most_carried};
 
-#[derive(Clone, Copy)]
+#[derive(Clone, Copy, PartialEq, Eq, Debug)]
 pub enum Kind {
     Data,
     DataAck,
@@ -33,66 +33,47 @@ const FLOW_CONTROL: u8 = 6;
 
 const CONTROL_ACK: u8 = 7;
 
-pub fn code_of(kind: Kind) -> u8
-    ensures { result ≡ code_of kind }
-{
-    match kind {
-        Kind::Data => DATA,
-        Kind::DataAck => DATA_ACK,
-        Kind::Open => OPEN,
-        Kind::Close => CLOSE,
-        Kind::Heartbeat => HEARTBEAT,
-        Kind::HeartbeatAck => HEARTBEAT_ACK,
-        Kind::FlowControl => FLOW_CONTROL,
-        Kind::ControlAck => CONTROL_ACK,
-        Kind::Lacking(code) => code,
+impl From<Kind> for u8 {
+    ghost from_gives = { λ kind code. code ≡ code_of kind };
+
+    fn from(kind: Kind) -> u8 {
+        match kind {
+            Kind::Data => DATA,
+            Kind::DataAck => DATA_ACK,
+            Kind::Open => OPEN,
+            Kind::Close => CLOSE,
+            Kind::Heartbeat => HEARTBEAT,
+            Kind::HeartbeatAck => HEARTBEAT_ACK,
+            Kind::FlowControl => FLOW_CONTROL,
+            Kind::ControlAck => CONTROL_ACK,
+            Kind::Lacking(code) => code,
+        }
     }
 }
 
-pub fn kind_of(code: u8) -> Kind
-    ensures { result ≡ kind_of code }
-{
-    if code == DATA {
-        return Kind::Data;
+impl From<u8> for Kind {
+    ghost from_gives = { λ code kind. kind ≡ kind_of code };
+
+    #[tactic(auto, unfolding(crate::specs::Kinds::kind_of))]
+    fn from(code: u8) -> Kind {
+        match code {
+            DATA => Kind::Data,
+            DATA_ACK => Kind::DataAck,
+            OPEN => Kind::Open,
+            CLOSE => Kind::Close,
+            HEARTBEAT => Kind::Heartbeat,
+            HEARTBEAT_ACK => Kind::HeartbeatAck,
+            FLOW_CONTROL => Kind::FlowControl,
+            CONTROL_ACK => Kind::ControlAck,
+            _ => Kind::Lacking(code),
+        }
     }
-    if code == DATA_ACK {
-        return Kind::DataAck;
-    }
-    if code == OPEN {
-        return Kind::Open;
-    }
-    if code == CLOSE {
-        return Kind::Close;
-    }
-    if code == HEARTBEAT {
-        return Kind::Heartbeat;
-    }
-    if code == HEARTBEAT_ACK {
-        return Kind::HeartbeatAck;
-    }
-    if code == FLOW_CONTROL {
-        return Kind::FlowControl;
-    }
-    if code == CONTROL_ACK {
-        return Kind::ControlAck;
-    }
-    Kind::Lacking(code)
 }
 
 pub fn is_data(kind: Kind) -> bool
     ensures { result ≡ is_data kind }
 {
-    match kind {
-        Kind::Data => true,
-        Kind::DataAck => false,
-        Kind::Open => false,
-        Kind::Close => false,
-        Kind::Heartbeat => false,
-        Kind::HeartbeatAck => false,
-        Kind::FlowControl => false,
-        Kind::ControlAck => false,
-        Kind::Lacking(_) => false,
-    }
+    matches!(kind, Kind::Data)
 }
 
 // How many octets a packet other than Data carries at most: where a number is stated, that one.
@@ -100,14 +81,7 @@ pub fn most_carried(kind: Kind) -> usize
     ensures { result ≡ most_carried kind }
 {
     match kind {
-        Kind::Data => 0,
-        Kind::DataAck => 1,
-        Kind::Open => 0,
-        Kind::Close => 0,
-        Kind::Heartbeat => 0,
-        Kind::HeartbeatAck => 0,
-        Kind::FlowControl => 1,
-        Kind::ControlAck => 1,
-        Kind::Lacking(_) => 0,
+        Kind::DataAck | Kind::FlowControl | Kind::ControlAck => 1,
+        _ => 0,
     }
 }

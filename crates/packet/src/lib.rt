@@ -9,5 +9,5 @@ pub mod writing;
 
 pub use fields::Fields;
 pub use kinds::Kind;
-pub use reading::{Read, read_number, read_packet};
-pub use writing::{Written, write_packet, written_number};
+pub use reading::{Found, ReadError, read_number, read_packet};
+pub use writing::{WriteError, write_packet, written_number};

@@ -1,21 +1,23 @@
 // A packet is read where it lies: the answer says where its payload is.
-ghost use Rattle.std.specs.Prelude.{◌≡◌, ◌≤◌, length};
-ghost use Rattle.laws.specs.Octets.{pair_of};
+ghost use Rattle.std.specs.Prelude.{◌≡◌, ◌+◌, ◌≤◌, Err, length};
+ghost use Rattle.laws.specs.Octets.{pair_at};
 ghost use Rattle.packet.specs.Layout.{least, most_prefix, whole_length, fields_at, prefix_at, length_at};
 ghost use Rattle.packet.specs.Tests.{short, damaged};
 ghost use Rattle.packet.specs.Reading.{read_of, read_number};
 
 use crate::fields::{FRONT, Fields, HEAD, LEAST, is_lacking, is_strange};
 
+// The fields, how many octets the prefix has, where the payload begins, and how many octets it has.
 #[derive(Clone, Copy)]
-pub enum Read {
-    // The fields, how many octets the prefix has, where the payload begins, and how many octets it has.
-    Found {
-        fields: Fields,
-        prefix: usize,
-        start: usize,
-        length: usize,
-    },
+pub struct Found {
+    pub fields: Fields,
+    pub prefix: usize,
+    pub start: usize,
+    pub length: usize,
+}
+
+#[derive(Clone, Copy, PartialEq, Eq, Debug)]
+pub enum ReadError {
     Short,
     Damaged,
     Lacking,
@@ -23,67 +25,71 @@ pub enum Read {
 }
 
 // Whatever is given: tests 1, 2, 4, 3 in this order, else the packet.
-pub fn read_packet(packet: &[u8]) -> Read
+pub fn read_packet(packet: &[u8]) -> Result<Found, ReadError>
     ensures { result ≡ read_of packet.now }
 {
     if is_short(packet) {
-        return Read::Short;
+        return Err(ReadError::Short);
     }
     if is_damaged(packet) {
-        return Read::Damaged;
+        return Err(ReadError::Damaged);
     }
     let prefix = prefix_at(packet);
     let fields = fields_at(packet, prefix);
     if is_lacking(fields, prefix) {
-        return Read::Lacking;
+        return Err(ReadError::Lacking);
     }
     let length = length_at(packet);
     if is_strange(fields, length) {
-        return Read::Strange;
+        return Err(ReadError::Strange);
     }
-    Read::Found {
+    Ok(Found {
         fields,
         prefix,
         start: HEAD + prefix,
         length,
-    }
+    })
 }
 
-// The answer number of document 01.
-pub fn read_number(r: Read) -> u32
+// The answer number of document 01. Of a result it is a function: `Result` is none of this crate's types, so it can have no `From` here.
+pub fn read_number(r: Result<Found, ReadError>) -> u32
     ensures { result ≡ read_number r }
 {
     match r {
-        Read::Found {
-            fields: _,
-            prefix: _,
-            start: _,
-            length: _,
-        } => 0,
-        Read::Short => 1,
-        Read::Damaged => 2,
-        Read::Lacking => 4,
-        Read::Strange => 3,
+        Ok(_) => 0,
+        Err(why) => u32::from(why),
+    }
+}
+
+impl From<ReadError> for u32 {
+    ghost from_gives = { λ why number. number ≡ read_number (Err why) };
+
+    fn from(why: ReadError) -> u32 {
+        match why {
+            ReadError::Short => 1,
+            ReadError::Damaged => 2,
+            ReadError::Lacking => 4,
+            ReadError::Strange => 3,
+        }
     }
 }
 
 // Under 12 octets, or not 12 + N + X.
+#[tactic(auto, unfolding(crate::specs::Tests::short))]
 fn is_short(packet: &[u8]) -> bool
     ensures { result ≡ short packet.now }
 {
-    if packet.len() < LEAST {
-        return true;
-    }
-    packet.len() != LEAST + prefix_at(packet) + length_at(packet)
+    packet.len() < LEAST || packet.len() != LEAST + prefix_at(packet) + length_at(packet)
 }
 
 // The last two octets are not the check sum of those before.
+#[tactic(auto, unfolding(crate::specs::Tests::damaged))]
 fn is_damaged(packet: &[u8]) -> bool
     requires { least ≤ length packet.now }
     ensures { result ≡ damaged packet.now }
 {
     let end = packet.len() - 2;
-    crc::crc_of(&packet[..end]) != pair(packet[end], packet[end + 1])
+    crc::crc_of(&packet[..end]) != pair(packet, end)
 }
 
 // With a prefix of so many octets.
@@ -93,8 +99,6 @@ fn fields_at(packet: &[u8], prefix: usize) -> Fields
 {
     let control = packet[2];
     let address = packet[8];
-    let channel = pair(packet[5], packet[6]);
-    let source = FRONT + prefix;
     Fields {
         destination: packet[0],
         protocol: packet[1],
@@ -102,10 +106,10 @@ fn fields_at(packet: &[u8], prefix: usize) -> Fields
         secondary: control / 32 % 2,
         flags: control / 8 % 4,
         kind: control % 8,
-        channel,
+        channel: pair(packet, 5),
         number: packet[7],
         reserved: address / 16,
-        source: packet[source],
+        source: packet[FRONT + prefix],
     }
 }
 
@@ -113,19 +117,20 @@ fn prefix_at(packet: &[u8]) -> usize
     requires { least ≤ length packet.now }
     ensures { (result ≡ prefix_at packet.now) × (result ≤ most_prefix) }
 {
-    (packet[8] % 16) as usize
+    usize::from(packet[8] % 16)
 }
 
 fn length_at(packet: &[u8]) -> usize
     requires { least ≤ length packet.now }
     ensures { (result ≡ length_at packet.now) × (result ≤ 65535) }
 {
-    pair(packet[3], packet[4]) as usize
+    usize::from(pair(packet, 3))
 }
 
-// Two octets, the most significant first.
-fn pair(hi: u8, lo: u8) -> u16
-    ensures { result ≡ pair_of hi lo }
+// The two octets from a place on, the most significant first.
+fn pair(packet: &[u8], at: usize) -> u16
+    requires { at + 2 ≤ length packet.now }
+    ensures { result ≡ pair_at packet.now at }
 {
-    (hi as u16) * 256 + (lo as u16)
+    u16::from_be_bytes([packet[at], packet[at + 1]])
 }

@@ -9,8 +9,8 @@ use lib.ListN.{length, drop}
 use lib.Seq.{length-take-le}
 use native.Mathlib.Omega.{arith}
 use Rattle.packet.specs.declared.fields.Fields.{Fields}
-use Rattle.packet.specs.declared.writing.Written.{Written}
-use Rattle.packet.specs.declared.writing.Written.TheVariants as written
+use Rattle.std.specs.Prelude.{Result, Ok}
+use Rattle.packet.specs.declared.writing.WriteError.{WriteError}
 use Rattle.packet.specs.Kinds.{most_carried}
 use Rattle.packet.specs.Layout.{most_prefix, packet_of}
 use Rattle.packet.specs.Tests.{lacking, strange, flags_whole}
@@ -155,7 +155,7 @@ module _ (node : Node) (a : Addresses) (number : ℕ) (fits : fit_prefix a.own �
   ack_plain acked.Heartbeat x h = simp (le-leb x 0 h)
   ack_plain acked.Flow x h = simp (le-leb x 1 h)
 
-  pub ack_written : (of : Acked) (kind : Kind) (f : Fields) (w : Written) (p out s : List ℕ)
+  pub ack_written : (of : Acked) (kind : Kind) (f : Fields) (w : Result ℕ WriteError) (p out s : List ℕ)
       → kind ≡ ack_kind of
       → f ≡ outgoing_of node a kind flags_whole number
       → w ≡ written_of f a.own.length (length p) (length out)
@@ -168,11 +168,11 @@ module _ (node : Node) (a : Addresses) (number : ℕ) (fits : fit_prefix a.own �
       let g = outgoing_of node a (ack_kind of) flags_whole number in
       let q = prefix_of a.own in
       let same : f ≡ g = ef ∙ ap (λ (x : Kind). outgoing_of node a x flags_whole number) ek in
-      let done : w ≡ written.Done (outgoing_length a (length p)) =
+      let done : w ≡ Ok (outgoing_length a (length p)) =
       ew
       ∙ ap (λ (x : Fields). written_of x a.own.length (length p) (length out)) same
       ∙ write_done g a.own.length (length p) (length out) (ack_base of) (ack_plain of (length p) few) h in
-      es ∙ ap (λ (x : Written). after_write x f q p out) done ∙ ap (λ (x : Fields). packet_of x q p ++ drop (outgoing_length a (length p)) out) same
+      es ∙ ap (λ (x : Result ℕ WriteError). after_write x f q p out) done ∙ ap (λ (x : Fields). packet_of x q p ++ drop (outgoing_length a (length p)) out) same
 
 -- ---- what an ack carries
 

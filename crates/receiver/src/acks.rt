@@ -28,8 +28,7 @@ fn ack_kind(of: Acked) -> Kind
 {
     match of {
         Acked::Data => Kind::DataAck,
-        Acked::Open => Kind::ControlAck,
-        Acked::Close => Kind::ControlAck,
+        Acked::Open | Acked::Close => Kind::ControlAck,
         Acked::Heartbeat => Kind::HeartbeatAck,
         Acked::Flow => Kind::FlowControl,
     }
@@ -39,21 +38,15 @@ fn ack_kind(of: Acked) -> Kind
 pub fn stated_count(l: Limits) -> usize
     ensures { result ≡ stated_count l }
 {
-    if l.flow == 0 {
-        return 0;
-    }
-    1
+    if l.flow == 0 { 0 } else { 1 }
 }
 
 pub fn carries(of: Acked, l: Limits) -> usize
     ensures { result ≡ carries of l }
 {
     match of {
-        Acked::Data => stated_count(l),
-        Acked::Open => stated_count(l),
-        Acked::Close => stated_count(l),
-        Acked::Heartbeat => 0,
-        Acked::Flow => 0,
+        Acked::Data | Acked::Open | Acked::Close => stated_count(l),
+        Acked::Heartbeat | Acked::Flow => 0,
     }
 }
 
@@ -63,11 +56,9 @@ pub fn stated_by(of: Acked, l: Limits, w: Window) -> u8
     ensures { result ≡ stated_by of l w }
 {
     match of {
-        Acked::Data => number_stated(l, w),
-        Acked::Open => number_stated(l, w),
+        Acked::Data | Acked::Open => number_stated(l, w),
         Acked::Close => l.window as u8,
-        Acked::Heartbeat => 0,
-        Acked::Flow => 0,
+        Acked::Heartbeat | Acked::Flow => 0,
     }
 }
 
@@ -84,5 +75,5 @@ pub fn acknowledge(
     ensures { reply.new ≡ packet_of (outgoing_of node a (ack_kind of) flags_whole number) (prefix_of a.own) payload.now ++ drop (outgoing_length a (length payload.now)) reply.old }
 {
     let fields = outgoing(node, a, ack_kind(of), WHOLE, number);
-    write_outgoing(a, fields, payload, reply);
+    let _ = write_outgoing(a, fields, payload, reply);
 }

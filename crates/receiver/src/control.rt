@@ -16,18 +16,10 @@ pub fn open_step(c: Channel) -> Stepped
     if c.phase.state != CLOSED {
         return refused(c, Refusal::State);
     }
-    if c.window.behind != 0 {
+    if c.window.behind != 0 || c.window.ahead != 0 {
         return refused(c, Refusal::Untaken);
     }
-    if c.window.ahead != 0 {
-        return refused(c, Refusal::Untaken);
-    }
-    let none = Lone {
-        state: 0,
-        timer: 0,
-        tries: 0,
-    };
-    done(enabled(c, none), 0)
+    done(enabled(c, Lone::NONE), 0)
 }
 
 // A Close directive: only a sender closes.
@@ -43,20 +35,17 @@ fn open_arrives(c: Channel) -> Stepped
     requires { Ringed c.limits c.window }
     ensures { result ≡ open_arrives c }
 {
-    if c.phase.state == ENABLED {
-        let pulse = pulse::start(c.limits);
-        let mut d = c;
-        d.phase.state = OPEN;
-        d.pulse = pulse;
-        return done(d, ack_length(c.addresses, c.limits));
+    match c.phase.state {
+        ENABLED => {
+            let mut d = c;
+            d.phase.state = OPEN;
+            d.pulse = pulse::start(c.limits);
+            done(d, ack_length(c.addresses, c.limits))
+        }
+        OPEN if c.phase.accepted == 0 => repeated(c),
+        OPEN => failed(c, LATE_OPEN),
+        _ => refused(c, Refusal::State),
     }
-    if c.phase.state != OPEN {
-        return refused(c, Refusal::State);
-    }
-    if c.phase.accepted == 0 {
-        return repeated(c);
-    }
-    failed(c, LATE_OPEN)
 }
 
 // A Close arrives.
@@ -65,17 +54,18 @@ fn close_arrives(c: Channel) -> Stepped
     requires { Ringed c.limits c.window }
     ensures { result ≡ close_arrives c }
 {
-    if c.phase.state == OPEN {
-        let d = leave(c, CLOSING, c.limits.closing);
-        return done(d, ack_length(c.addresses, c.limits));
+    match c.phase.state {
+        OPEN => done(
+            leave(c, CLOSING, c.limits.closing),
+            ack_length(c.addresses, c.limits),
+        ),
+        CLOSING => repeated(c),
+        _ => refused(c, Refusal::State),
     }
-    if c.phase.state == CLOSING {
-        return repeated(c);
-    }
-    refused(c, Refusal::State)
 }
 
-// An Open or a Close arrives, with its number.
+// An Open, or else a Close, arrives, with its number. `opens` and no enum: the definition `control_step` tells the two by it, and `arrive_as` of
+// `arrivals` gives it.
 #[tactic(auto, unfolding(crate::specs::Receiving::control_step))]
 pub fn control_step(c: Channel, opens: bool, number: u8) -> Stepped
     requires { Ringed c.limits c.window }
@@ -88,7 +78,8 @@ pub fn control_step(c: Channel, opens: bool, number: u8) -> Stepped
         return failed(c, CONTROL_NUMBER);
     }
     if opens {
-        return open_arrives(c);
+        open_arrives(c)
+    } else {
+        close_arrives(c)
     }
-    close_arrives(c)
 }

@@ -7,18 +7,19 @@ ghost use Rattle.receiver.specs.Receiving.{stated_count, ack_length, leaving, sh
 
 use crate::acks::stated_count;
 use channel::record::CLOSED;
-use channel::{Addresses, Answer, Channel, Limits, Stepped, pulse};
-use packet::fields::LEAST;
+use channel::step::{outgoing_length, unchanged};
+use channel::{Addresses, Answer, Channel, Limits, Pulse, Stepped};
 use slots::ring;
 
 // The octets of an ack of Data or Control: it carries the own prefix, and where Flow Control is used the number stated.
 pub fn ack_length(a: Addresses, l: Limits) -> usize
     ensures { result ≡ outgoing_length a (stated_count l) }
 {
-    LEAST + (a.own.length as usize) + stated_count(l)
+    outgoing_length(a, stated_count(l))
 }
 
 // Into another state, with the close timer at so many ticks. What is kept ends where the unit on the way begins.
+#[tactic(auto, using(slots::proofs::RingLaws::back_lt), unfolding(crate::specs::Receiving::leaving))]
 pub fn leave(c: Channel, state: u8, ticks: u16) -> Channel
     requires { Ringed c.limits c.window }
     ensures { result ≡ leaving c state ticks }
@@ -26,18 +27,15 @@ pub fn leave(c: Channel, state: u8, ticks: u16) -> Channel
     let slots = c.limits.slots;
     let kept = c.window.behind - c.window.way;
     let place = ring::back(slots, c.window.place, c.window.way);
-    let held = c.marks;
-    let marks = ring::clear(held, slots, slots - kept, place);
-    let pulse = pulse::none();
     let mut d = c;
     d.phase.state = state;
-    d.pulse = pulse;
+    d.pulse = Pulse::NONE;
     d.window.start = 1;
     d.window.place = place;
     d.window.behind = kept;
     d.window.way = 0;
     d.timers.closing = ticks;
-    d.marks = marks;
+    d.marks = ring::clear(c.marks, slots, slots - kept, place);
     d
 }
 
@@ -56,9 +54,8 @@ pub fn failed(c: Channel, why: u8) -> Stepped
     requires { Ringed c.limits c.window }
     ensures { result ≡ failing (shut_for c why) why }
 {
-    let d = shut(c, why);
     Stepped {
-        channel: d,
+        channel: shut(c, why),
         answer: Answer::Inactive(why),
     }
 }
@@ -67,9 +64,10 @@ pub fn failed(c: Channel, why: u8) -> Stepped
 pub fn repeated(c: Channel) -> Stepped
     ensures { result ≡ repeating c (ack_length c) }
 {
-    let length = ack_length(c.addresses, c.limits);
-    Stepped {
-        channel: c,
-        answer: Answer::Repeated { length },
-    }
+    unchanged(
+        c,
+        Answer::Repeated {
+            length: ack_length(c.addresses, c.limits),
+        },
+    )
 }

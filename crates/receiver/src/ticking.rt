@@ -15,14 +15,12 @@ fn close_tick(c: Channel) -> Channel
     ensures { result ≡ close_tick c }
 {
     let mut d = c;
-    let ticks = c.timers.closing;
-    if 2 <= ticks {
-        let left = ticks - 1;
-        d.timers.closing = left;
-        return d;
+    if 2 <= c.timers.closing {
+        d.timers.closing -= 1;
+    } else {
+        d.timers.closing = 0;
+        d.phase.state = CLOSED;
     }
-    d.timers.closing = 0;
-    d.phase.state = CLOSED;
     d
 }
 
@@ -38,11 +36,11 @@ fn beat_tick(c: Channel) -> Ticked
             inactive: true,
         };
     }
-    let pulse = beaten.pulse;
-    let mut d = c;
-    d.pulse = pulse;
     Ticked {
-        channel: d,
+        channel: Channel {
+            pulse: beaten.pulse,
+            ..c
+        },
         inactive: false,
     }
 }
@@ -59,11 +57,8 @@ fn flow_tick(c: Channel) -> Ticked
             inactive: true,
         };
     }
-    let packet = fallen.lone;
-    let pulse = with_flow(c.pulse, with_packet(c.pulse.flow, packet));
-    let mut d = c;
-    d.pulse = pulse;
-    beat_tick(d)
+    let pulse = with_flow(c.pulse, with_packet(c.pulse.flow, fallen.lone));
+    beat_tick(Channel { pulse, ..c })
 }
 
 #[tactic(auto, unfolding(crate::specs::Receiving::tick_step))]
@@ -71,17 +66,15 @@ pub fn tick_step(c: Channel) -> Ticked
     requires { Ringed c.limits c.window }
     ensures { result ≡ tick_step c }
 {
-    if c.phase.state == OPEN {
-        return flow_tick(c);
-    }
-    if c.phase.state == CLOSING {
-        return Ticked {
+    match c.phase.state {
+        OPEN => flow_tick(c),
+        CLOSING => Ticked {
             channel: close_tick(c),
             inactive: false,
-        };
-    }
-    Ticked {
-        channel: c,
-        inactive: false,
+        },
+        _ => Ticked {
+            channel: c,
+            inactive: false,
+        },
     }
 }

@@ -13,11 +13,6 @@ use Rattle.channel.specs.Asked.{Ringed}
 use Rattle.receiver_data.specs.Moving.{fitting, way_after, passed, moved_by, moved_of}
 
 module _ (slots most : ℕ) (marks : List ℕ) where
-  -- every slot is kept
-  pub move_none : (w : Window) → slots ≤ w.behind → moved_by slots most marks (slots - w.behind) w ≡ record { window = w; broken = false }
-  unfolding moved_by
-  move_none w h = let e : slots - w.behind ≡ 0 = omega arith in rw e
-
   -- the next number is not held
   pub move_stop : (w : Window) (n : ℕ) → get_or marks w.place 0 ≡ 0 → moved_by slots most marks n w ≡ record { window = w; broken = false }
   unfolding moved_by

@@ -31,13 +31,9 @@ fn accept(c: Channel, place: usize, flags: u8) -> Stepped
     requires { (Ringed c.limits c.window) × (place < 128) × (flags < 4) }
     ensures { result ≡ accept_step c place flags }
 {
-    let limits = c.limits;
-    let window = c.window;
     let mut d = mark(c, place, flags);
-    let marks = d.marks;
-    let moved = move_start(limits, marks, window);
-    let after = moved.window;
-    d.window = after;
+    let moved = move_start(c.limits, d.marks, c.window);
+    d.window = moved.window;
     if moved.broken {
         return failed(d, BROKEN_FLAGS);
     }
@@ -45,6 +41,7 @@ fn accept(c: Channel, place: usize, flags: u8) -> Stepped
 }
 
 // A new segment, d past the start: filed and accepted, or refused where it lies as many slots or more past the oldest one kept.
+#[tactic(auto, using(channel::proofs::StandingLaws::ringed, slots::proofs::RingLaws::round_lt))]
 fn take_new(
     c: Channel,
     d: usize,
@@ -68,6 +65,7 @@ fn take_new(
 
 // A Data packet arrives, with its number, its flags and its payload where it lies in the packet. A repeat is acknowledged, and
 // the first copy stays.
+#[tactic(auto, using(channel::proofs::StandingLaws::ringed))]
 pub fn data_step(
     c: Channel,
     number: u8,
@@ -83,14 +81,9 @@ pub fn data_step(
         return refused(c, Refusal::State);
     }
     let d = away(number, c.window.start) as usize;
-    let limits = c.limits;
-    let window = c.window;
-    let marks = c.marks;
-    let sort = sort_at(limits, window, marks, d);
-    match sort {
+    match sort_at(c.limits, c.window, c.marks, d) {
         Sort::New => take_new(c, d, flags, part, mem, lens),
-        Sort::Held => repeated(c),
-        Sort::Behind => repeated(c),
+        Sort::Held | Sort::Behind => repeated(c),
         Sort::Other => failed(c, DATA_NUMBER),
     }
 }

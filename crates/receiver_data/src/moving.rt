@@ -8,67 +8,34 @@ ghost use Rattle.receiver_data.specs.Moving.{fitting, way_after, passed, moved_o
 use channel::{Limits, Window};
 use slots::ring;
 
-// The window after the move, and whether the flags broke it off.
+// The window after the move, and whether the flags broke it off. Both count at a break: the record keeps the window, as `accept_step` has it.
 #[derive(Clone, Copy)]
 pub struct Moved {
     pub window: Window,
     pub broken: bool,
 }
 
-// A unit begins where none is on the way, and only there.
-fn is_next(way: usize, mark: u8) -> bool
-    ensures { result ≡ (if nat_eq way 0 then begins mark else not (begins mark)) }
-{
-    if way == 0 {
-        return mark % 2 == 0;
-    }
-    mark % 2 != 0
-}
-
-// The next segment in order fits the unit on the way, which has so many already; a unit's M-th segment ends it.
+// The next segment in order fits the unit on the way, which has so many already: it begins a unit where none is on the way, and only there; and a
+// unit's M-th segment ends it.
+#[tactic(auto, unfolding(crate::specs::Moving::fitting))]
 fn fits(most: usize, way: usize, mark: u8) -> bool
     requires { way ≤ 128 }
     ensures { result ≡ fitting most way mark }
 {
-    if !is_next(way, mark) {
-        return false;
-    }
-    if 3 <= mark {
-        return true;
-    }
-    way + 1 < most
+    (way == 0) == (mark % 2 == 0) && (3 <= mark || way + 1 < most)
 }
 
-// What the unit on the way has after a segment.
-fn way_after(way: usize, mark: u8) -> usize
-    requires { way ≤ 128 }
-    ensures { result ≡ way_after way mark }
-{
-    if 3 <= mark { 0 } else { way + 1 }
-}
-
-// The number after a number. 0 follows 255 also for Data: it is not kept for Control.
-fn number_after(number: u8) -> u8
-    ensures { result ≡ (number + 1) % 256 }
-{
-    if number == 255 { 0 } else { number + 1 }
-}
-
-// The start past one segment.
+// The start past one segment. The number 0 follows 255 also for Data: it is not kept for Control.
 fn pass(slots: usize, w: Window, mark: u8) -> Window
     requires { (w.place ≤ 128) × (w.behind ≤ 128) × (w.way ≤ 128) }
     ensures { result ≡ passed slots w mark }
 {
-    let place = ring::round(w.place + 1, slots);
-    let way = way_after(w.way, mark);
-    let start = number_after(w.start);
     Window {
-        start,
-        place,
+        start: w.start.wrapping_add(1),
+        place: ring::round(w.place + 1, slots),
         behind: w.behind + 1,
-        ahead: w.ahead,
-        flight: w.flight,
-        way,
+        way: if 3 <= mark { 0 } else { w.way + 1 },
+        ..w
     }
 }
 
@@ -78,22 +45,17 @@ pub fn move_start(l: Limits, marks: [u8; 128], w: Window) -> Moved
     requires { Ringed l w }
     ensures { result ≡ moved_of l marks w }
 {
-    let slots = l.slots;
-    let most = l.segments;
-    let n = ring::run(&marks, slots, slots - w.behind, w.place);
+    let n = ring::run(&marks, l.slots, l.slots - w.behind, w.place);
     let mut at = w;
-    let mut i: usize = 0;
-    while i < n {
-        let place = at.place;
-        let mark = marks[place];
-        if !fits(most, at.way, mark) {
+    for _i in 0..n {
+        let mark = marks[at.place];
+        if !fits(l.segments, at.way, mark) {
             return Moved {
                 window: at,
                 broken: true,
             };
         }
-        at = pass(slots, at, mark);
-        i += 1;
+        at = pass(l.slots, at, mark);
     }
     Moved {
         window: at,

@@ -18,35 +18,34 @@ pub enum Sort {
 pub fn away(number: u8, start: u8) -> u8
     ensures { result ≡ distance number start }
 {
-    std::num::wrapping_sub_u8(number, start)
+    number.wrapping_sub(start)
 }
 
 // The d-th number of the window is held. Where there is no room for it, its place is an older segment's, whose mark says nothing
 // of it.
+#[tactic(auto, using(slots::proofs::RingLaws::round_lt), unfolding(crate::specs::Sorting::is_held))]
 fn is_held(l: Limits, w: Window, marks: [u8; 128], d: usize) -> bool
     requires { (Ringed l w) × (d < 256) }
     ensures { result ≡ is_held l w marks d }
 {
-    if l.slots <= w.behind + d {
-        return false;
-    }
-    let place = ring::round(w.place + d, l.slots);
-    marks[place] != 0
+    w.behind + d < l.slots && marks[ring::round(w.place + d, l.slots)] != 0
 }
 
 // A repeat behind the window is told from a number that was never sent: it is acknowledged again, for its ack may be lost.
+#[tactic(auto, unfolding(crate::specs::Sorting::sort_at))]
 pub fn sort_at(l: Limits, w: Window, marks: [u8; 128], d: usize) -> Sort
     requires { (Ringed l w) × (d < 256) }
     ensures { result ≡ sort_at l w marks d }
 {
     if d < l.window {
         if is_held(l, w, marks, d) {
-            return Sort::Held;
+            Sort::Held
+        } else {
+            Sort::New
         }
-        return Sort::New;
+    } else if 256 - l.window <= d {
+        Sort::Behind
+    } else {
+        Sort::Other
     }
-    if 256 - l.window <= d {
-        return Sort::Behind;
-    }
-    Sort::Other
 }

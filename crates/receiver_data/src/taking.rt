@@ -10,33 +10,30 @@ use channel::{Channel, Refusal, Stepped};
 use slots::ring;
 
 // The oldest n segments are gone, and their slots are free.
+#[tactic(auto, using(slots::proofs::RingLaws::back_lt))]
 fn drop_oldest(c: Channel, n: usize, from: usize) -> Channel
     requires { (Ringed c.limits c.window) × (n ≤ c.window.behind) × (from ≡ oldest_of c.limits.slots c.window) }
     ensures { result ≡ dropped c n }
 {
-    let held = c.marks;
-    let marks = ring::clear(held, c.limits.slots, n, from);
-    let behind = c.window.behind - n;
     let mut d = c;
-    d.window.behind = behind;
-    d.marks = marks;
+    d.window.behind -= n;
+    d.marks = ring::clear(c.marks, c.limits.slots, n, from);
     d
 }
 
 // The octets of the oldest complete unit go to the front of `out`, one segment after another; the octets past them stay. A
 // buffer too small for them all gets none, and the unit stays.
+#[tactic(auto, using(channel::proofs::StandingLaws::ringed, slots::proofs::RingLaws::back_lt))]
 pub fn take_step(c: Channel, mem: &[u8], lens: &[u16], out: &mut [u8]) -> Stepped
     requires { Asked c mem.now lens.now }
     ensures { (result ≡ take_step c lens.now (length out.old)) × (out.new ≡ take_out c lens.now mem.now out.old) }
 {
-    let slots = c.limits.slots;
     let complete = c.window.behind - c.window.way;
     if complete == 0 {
         return refused(c, Refusal::Nothing);
     }
-    let marks = c.marks;
-    let from = ring::back(slots, c.window.place, c.window.behind);
-    let n = store::unit_of(marks, slots, complete, from);
+    let from = ring::back(c.limits.slots, c.window.place, c.window.behind);
+    let n = store::unit_of(c.marks, c.limits.slots, complete, from);
     let size = store::size_in(c.limits, lens, n, from);
     if out.len() < size {
         return refused(c, Refusal::Small(size));

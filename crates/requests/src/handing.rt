@@ -9,7 +9,6 @@ ghost use Rattle.requests.specs.Handing.{next_for};
 
 use channel::{Channel, Node, Stepped};
 use table::Decision;
-use table::surveying::area;
 use table::waiting::rank_in;
 
 #[inline(never)]
@@ -24,15 +23,11 @@ pub fn next_step(
     requires { (Served c d mem.now lens.now) × (d.look ≡ seeking Ready) }
     ensures { works result mem.now lens.now out.new ≡ stepping (next_for node) c d mem.now lens.now out.old }
 {
-    let octet = d.spot.octet;
-    let slot = d.spot.slot;
-    let octets = octet + area(c.limits);
-    let slots = slot + c.limits.slots;
     sender_packets::hand_step(
         node,
         c,
-        &mem[octet..octets],
-        &lens[slot..slots],
+        &mem[d.spot.octets(c.limits)],
+        &lens[d.spot.slots(c.limits)],
         rank_in(d.spot.grade),
         out,
     )

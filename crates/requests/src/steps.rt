@@ -10,30 +10,33 @@ use channel::record::{RECEIVES, SENDS};
 use channel::step::{refused, unchanged};
 use channel::{Channel, Refusal, Stepped};
 use table::Decision;
-use table::surveying::area;
 
 // An Open directive.
+#[tactic(auto, unfolding(crate::specs::Requests::opened_by))]
 #[inline(never)]
 pub fn open_step(c: Channel) -> Stepped
     requires { Ringed c.limits c.window }
     ensures { result ≡ opened_by c }
 {
-    if c.addresses.direction != SENDS {
-        return receiver::open_step(c);
+    if c.addresses.direction == SENDS {
+        sender::open_step(c)
+    } else {
+        receiver::open_step(c)
     }
-    sender::open_step(c)
 }
 
 // A Close directive.
+#[tactic(auto, unfolding(crate::specs::Requests::closed_by))]
 #[inline(never)]
 pub fn close_step(c: Channel) -> Stepped
     requires { Ringed c.limits c.window }
     ensures { result ≡ closed_by c }
 {
-    if c.addresses.direction != SENDS {
-        return receiver::close_step(c);
+    if c.addresses.direction == SENDS {
+        sender::close_step(c)
+    } else {
+        receiver::close_step(c)
     }
-    sender::close_step(c)
 }
 
 // A unit is handed over to be sent.
@@ -51,14 +54,16 @@ pub fn transfer_step(
     if c.addresses.direction != SENDS {
         return refused(c, Refusal::State);
     }
-    let octet = d.spot.octet;
-    let slot = d.spot.slot;
-    let octets = octet + area(c.limits);
-    let slots = slot + c.limits.slots;
-    sender_units::transfer_step(c, unit, &mut mem[octet..octets], &mut lens[slot..slots])
+    sender_units::transfer_step(
+        c,
+        unit,
+        &mut mem[d.spot.octets(c.limits)],
+        &mut lens[d.spot.slots(c.limits)],
+    )
 }
 
 // What a transfer of so many octets would answer. It is a question: nothing is changed.
+#[tactic(auto, unfolding(crate::specs::Requests::asked_by))]
 #[inline(never)]
 pub fn ask_step(c: Channel, count: usize) -> Stepped
     requires { Ringed c.limits c.window }
@@ -67,8 +72,7 @@ pub fn ask_step(c: Channel, count: usize) -> Stepped
     if c.addresses.direction != SENDS {
         return refused(c, Refusal::State);
     }
-    let answer = sender_units::would_file(c, count);
-    unchanged(c, answer)
+    unchanged(c, sender_units::would_file(c, count))
 }
 
 // The oldest complete unit is taken.
@@ -80,11 +84,12 @@ pub fn take_step(c: Channel, d: Decision, mem: &[u8], lens: &[u16], out: &mut [u
     if c.addresses.direction != RECEIVES {
         return refused(c, Refusal::State);
     }
-    let octet = d.spot.octet;
-    let slot = d.spot.slot;
-    let octets = octet + area(c.limits);
-    let slots = slot + c.limits.slots;
-    receiver_data::take_step(c, &mem[octet..octets], &lens[slot..slots], out)
+    receiver_data::take_step(
+        c,
+        &mem[d.spot.octets(c.limits)],
+        &lens[d.spot.slots(c.limits)],
+        out,
+    )
 }
 
 // The oldest unit that is held is reclaimed.
@@ -96,9 +101,10 @@ pub fn reclaim_step(c: Channel, d: Decision, mem: &[u8], lens: &[u16], out: &mut
     if c.addresses.direction != SENDS {
         return refused(c, Refusal::State);
     }
-    let octet = d.spot.octet;
-    let slot = d.spot.slot;
-    let octets = octet + area(c.limits);
-    let slots = slot + c.limits.slots;
-    sender_units::reclaim_step(c, &mem[octet..octets], &lens[slot..slots], out)
+    sender_units::reclaim_step(
+        c,
+        &mem[d.spot.octets(c.limits)],
+        &lens[d.spot.slots(c.limits)],
+        out,
+    )
 }

@@ -11,8 +11,10 @@ use lib.ListN.{length}
 use Rattle.laws.proofs.Choice.{either, either_way, by_test}
 use Rattle.packet.specs.declared.kinds.Kind as packets
 use Rattle.packet.specs.Kinds.{kind_of}
-use Rattle.packet.specs.declared.reading.Read.{Read}
-use Rattle.packet.specs.declared.reading.Read.TheVariants as read
+use Rattle.std.specs.Prelude.{Result, Ok, Err}
+use Rattle.packet.specs.declared.reading.Found.{Found}
+use Rattle.packet.specs.declared.reading.ReadError.{ReadError}
+use Rattle.packet.specs.declared.reading.ReadError.TheVariants as read
 use Rattle.packet.specs.Layout.{least, fields_at, length_at, payload_in}
 use Rattle.packet.specs.Reading.{read_of}
 use Rattle.walks.specs.Serving.{Worked}
@@ -59,12 +61,12 @@ look_other node u room = either Otherwise (ltb room least) _ _ (λ e. omega (ari
     Otherwise : Look → Type 0
     Otherwise k = refusal_number (missing k.sought) ≡ 8 → ⊥
 
-    by : (r : Read) → Otherwise (look_by node u r)
-    by (read.Found g k start x) = either Otherwise (is_ours node g) _ _ (λ e. omega (arith, e)) (λ e. omega (arith, e))
-    by read.Short = λ e. omega (arith, e)
-    by read.Damaged = λ e. omega (arith, e)
-    by read.Lacking = λ e. omega (arith, e)
-    by read.Strange = λ e. omega (arith, e)
+    by : (r : Result Found ReadError) → Otherwise (look_by node u r)
+    by (Ok r) = either Otherwise (is_ours node r.fields) _ _ (λ e. omega (arith, e)) (λ e. omega (arith, e))
+    by (Err read.Short) = λ e. omega (arith, e)
+    by (Err read.Damaged) = λ e. omega (arith, e)
+    by (Err read.Lacking) = λ e. omega (arith, e)
+    by (Err read.Strange) = λ e. omega (arith, e)
 
 -- the record does it: OPEN, with a new segment of the window for which there is no slot
 module _ (c : Channel) (u : List ℕ) where

@@ -18,11 +18,10 @@ fn main(rt: HostRuntime) -> io::Result<()> {
 fn say_runs(rt: &HostRuntime, slots: usize) -> io::Result<()>
     requires { (65 ≤ slots) × (slots ≤ 128) }
 {
-    say_run(rt, slots, 0)?;
-    say_run(rt, slots, 1)?;
-    say_run(rt, slots, 63)?;
-    say_run(rt, slots, 64)?;
-    say_run(rt, slots, 65)
+    for n in [0, 1, 63, 64, 65] {
+        say_run(rt, slots, n)?;
+    }
+    Ok(())
 }
 
 fn say_run(rt: &HostRuntime, slots: usize, n: usize) -> io::Result<()>
@@ -36,14 +35,9 @@ fn say_run(rt: &HostRuntime, slots: usize, n: usize) -> io::Result<()>
 fn right_offsets(slots: usize, n: usize) -> usize
     requires { (n ≤ slots) × (slots ≤ 128) }
 {
-    let mut from: usize = 0;
-    while from < slots {
-        if !is_right(slots, n, from) {
-            return from;
-        }
-        from += 1;
-    }
-    from
+    (0..slots)
+        .find(|from| !is_right(slots, n, *from))
+        .unwrap_or(slots)
 }
 
 // Alone on the ring, and with every mark set but the next, those past the ring too; asked for a turn, for two, and for just so many.
@@ -52,20 +46,12 @@ fn is_right(slots: usize, n: usize, from: usize) -> bool
 {
     let turns = if n == slots { slots * 2 } else { n };
     let alone = marks_of(slots, n, from, false);
-    if ring::run(&alone, slots, slots, from) != n {
-        return false;
-    }
-    if ring::run(&alone, slots, slots * 2, from) != turns {
-        return false;
-    }
     let others = marks_of(slots, n, from, true);
-    if ring::run(&others, slots, slots, from) != n {
-        return false;
-    }
-    if ring::run(&others, slots, slots * 2, from) != turns {
-        return false;
-    }
-    ring::run(&others, slots, n, from) == n
+    ring::run(&alone, slots, slots, from) == n
+        && ring::run(&alone, slots, slots * 2, from) == turns
+        && ring::run(&others, slots, slots, from) == n
+        && ring::run(&others, slots, slots * 2, from) == turns
+        && ring::run(&others, slots, n, from) == n
 }
 
 // The n marks from a place on, and the others too or not, but for the one that follows the run. Each mark has another value than the last.
@@ -73,12 +59,10 @@ fn marks_of(slots: usize, n: usize, from: usize, others: bool) -> [u8; 128]
     requires { (from < slots) × (slots ≤ 128) }
 {
     let mut marks = [0u8; 128];
-    let mut i: usize = 0;
-    while i < 128 {
+    for (i, mark) in marks.iter_mut().enumerate() {
         if is_set(slots, n, from, others, i) {
-            marks[i] = (i * 37 % 255 + 1) as u8;
+            *mark = (i * 37 % 255 + 1) as u8;
         }
-        i += 1;
     }
     marks
 }
@@ -90,8 +74,5 @@ fn is_set(slots: usize, n: usize, from: usize, others: bool, i: usize) -> bool
         return others;
     }
     let on = ring::round(i + (slots - from), slots);
-    if on == n {
-        return false;
-    }
-    if on < n { true } else { others }
+    on < n || others && on != n
 }

@@ -1,43 +1,23 @@
 -- Laws of acks: what each step answers in each case.
 -- Assumes nothing.
-use Rattle.std.proofs.Common.{◌≡◌, ℕ, ◌+◌, ◌<◌, ◌≤◌, Bool, true, false, not, ◌||◌, eqb, ltb, List, get_or, sym, refl, ap, ◌∙◌, ap₂, ltb-true, le-ltb, lt-ltb, eq-eqb, ne_eqb}
+use Rattle.std.proofs.Common.{◌≡◌, ℕ, ◌+◌, ◌-◌, ◌%◌, arith, ◌<◌, ◌≤◌, Bool, true, false, eqb, ltb, List, get_or, sym, refl, ap, ◌∙◌, ap₂, ltb-true, le-ltb, lt-ltb, eq-eqb, ne_eqb}
 use mathlib.Core.Bool.{false≢true}
 use Rattle.std.specs.Prelude.{if◌then◌else◌}
-use Rattle.laws.proofs.Choice.{chosen, passed_by}
-use Rattle.slots.specs.Ring.{round_of, run_of, cleared}
+use Rattle.slots.specs.Ring.{round_of, run_of}
 use Rattle.store.specs.Store.{ends_in, last_end_in}
 use Rattle.channel.specs.declared.record.Window.{Window}
 use Rattle.channel.specs.declared.record.Channel.{Channel}
 use Rattle.channel.specs.declared.step.Stepped.{Stepped}
 use Rattle.channel.specs.declared.answer.Answer.TheVariants.{Done}
 use Rattle.channel.specs.declared.answer.Refusal.TheVariants as refusal
-use Rattle.channel.specs.Record.{closed, enabled, opened, closing, no_lone, with_state, with_control, with_pulse, with_window, with_marks}
-use Rattle.channel.specs.Pulse.{started_pulse}
-use Rattle.channel.specs.Standing.{oldest_of}
-use Rattle.channel.specs.Steps.{refusing, doing}
-use Rattle.channel.specs.Lone.{ready_lone, is_out}
-use Rattle.sender.specs.Directives.{place_at, parked}
-use Rattle.sender_acks.specs.Acks.{control_acked, control_ack_step, away_of, is_awaited, recorded, run_at, confirmed_at, whole_at, moved_window, freed_marks, advanced, data_ack_step}
+use Rattle.channel.specs.Record.{opened, with_window, with_marks}
+use Rattle.channel.specs.Steps.{refusing}
+use Rattle.sender.specs.Directives.{place_at}
+use Rattle.sender_acks.specs.Acks.{away_of, is_awaited, recorded, run_at, confirmed_at, whole_at, moved_window, freed_marks, advanced, data_ack_step}
 
 -- ---- acks
 
 module _ (c : Channel) where
-  pub acked_closing : c.phase.state ≡ closing → control_acked c ≡ parked c closed no_lone
-  acked_closing h = simp (eq-eqb _ _ h)
-
-  pub acked_kept : (c.phase.state ≡ closing → ⊥) → (c.phase.kept ≡ 0 → ⊥) → control_acked c ≡ parked c closing ready_lone
-  acked_kept h k = simp (ne_eqb _ _ h, ne_eqb _ _ k)
-
-  pub acked_open : (c.phase.state ≡ closing → ⊥) → c.phase.kept ≡ 0 → control_acked c ≡ with_pulse (with_control (with_state c opened) no_lone) (started_pulse c.limits)
-  acked_open h k = simp (ne_eqb _ _ h, eq-eqb _ _ k)
-
-  pub freed_none : (done : ℕ) → done ≡ 0 → freed_marks c done ≡ c.marks
-  freed_none done h = chosen (eqb done 0) _ _ (eq-eqb _ _ h)
-
-  pub freed_some : (done : ℕ) → (done ≡ 0 → ⊥)
-      → freed_marks c done ≡ cleared c.marks c.limits.slots (c.window.behind + done) (oldest_of c.limits.slots c.window)
-  freed_some done h = passed_by (eqb done 0) _ _ (ne_eqb _ _ h)
-
   -- the move, from what the calls gave
   pub advanced_is : (n done place : ℕ) (w : Window) (marks : List ℕ)
       → n ≡ run_at c
@@ -55,27 +35,6 @@ module _ (c : Channel) where
       (em ∙ ap (freed_marks c) whole)
 
 module _ (c : Channel) (number : ℕ) where
-  pub control_ack_state : (eqb c.phase.state enabled || eqb c.phase.state closing) ≡ false → control_ack_step c number ≡ refusing c refusal.State
-  unfolding control_ack_step
-  control_ack_state h = chosen (not (eqb c.phase.state enabled || eqb c.phase.state closing)) _ _ (ap not h)
-
-  module _ (h : (eqb c.phase.state enabled || eqb c.phase.state closing) ≡ true) where
-    pub control_ack_number : (number ≡ 0 → ⊥) → control_ack_step c number ≡ refusing c refusal.Ignored
-    unfolding control_ack_step
-    control_ack_number k = passed_by (not (eqb c.phase.state enabled || eqb c.phase.state closing)) _ _ (ap not h) ∙ simp (ne_eqb _ _ k)
-
-    pub control_ack_early : number ≡ 0 → is_out c.phase.control ≡ false → control_ack_step c number ≡ refusing c refusal.Ignored
-    unfolding control_ack_step
-    control_ack_early k o =
-        passed_by (not (eqb c.phase.state enabled || eqb c.phase.state closing)) _ _ (ap not h)
-        ∙ simp (eq-eqb _ _ k) (chosen (not (is_out c.phase.control)) _ _ (ap not o))
-
-    pub control_ack_done : number ≡ 0 → is_out c.phase.control ≡ true → control_ack_step c number ≡ doing (control_acked c) 0
-    unfolding control_ack_step
-    control_ack_done k o =
-        passed_by (not (eqb c.phase.state enabled || eqb c.phase.state closing)) _ _ (ap not h)
-        ∙ simp (eq-eqb _ _ k) (passed_by (not (is_out c.phase.control)) _ _ (ap not o))
-
   pub data_ack_state : (c.phase.state ≡ opened → ⊥) → data_ack_step c number ≡ refusing c refusal.State
   unfolding data_ack_step
   data_ack_state h = simp (ne_eqb _ _ h)
@@ -109,6 +68,10 @@ module _ (c : Channel) (number : ℕ) where
       eu ∙ ap₂ (λ (x : Channel) (m : ℕ). ends_in x.marks c.limits.slots m c.window.place) noted run in
       ap₂ (λ (x : Channel) (y : ℕ). record { channel = x; answer = Done 0 y }) (er ∙ ap advanced noted) units
       ∙ sym (data_ack_done h (ap (is_awaited c) (sym ed) ∙ a))
+
+-- how far a number lies past the start, as the machine takes it
+pub away_is : (number start : ℕ) → start ≤ 256 → (number + (256 - start)) % 256 ≡ (number + 256 - start) % 256
+away_is number start h = ap (λ (k : ℕ). k % 256) (omega (arith, h))
 
 module _ (c : Channel) (d : ℕ) where
   pub awaited_sent : is_awaited c d ≡ true → d < c.window.flight

@@ -1,15 +1,15 @@
 -- Laws of the hand-out: which packet is ready, and what its hand-out answers in each case.
 -- Assumes nothing.
-use Rattle.std.proofs.Common.{◌≡◌, ℕ, zero, suc, ◌+◌, ◌-◌, ◌<◌, ◌≤◌, Bool, true, false, ◌&&◌, ◌||◌, eqb, ltb, List, [], ◌∷◌, length, get_or, take, sym, refl, ap, ◌∙◌, subst, add-one, arith, length-take-le, ltb-true, le-ltb, lt-ltb, eq-eqb, ne_eqb, eqb-true, le-leb}
+use Rattle.std.proofs.Common.{◌≡◌, ℕ, zero, suc, ◌+◌, ◌-◌, ◌<◌, ◌≤◌, Bool, true, false, ◌&&◌, ◌||◌, eqb, ltb, List, [], ◌∷◌, length, get_or, take, sym, refl, ap, ◌∙◌, subst, add-one, arith, length-take-le, ltb-true, le-ltb, ne_eqb, eqb-true, le-leb}
 use mathlib.Core.Bool.{false≢true}
-use Rattle.std.specs.Prelude.{if◌then◌else◌}
+use mir.Val.{bool_byte}
+use Rattle.std.specs.Prelude.{Ok, if◌then◌else◌}
 use Rattle.laws.proofs.Choice.{chosen, passed_by, both, either, either_way}
 use Rattle.slots.specs.Ring.{round_of}
 use Rattle.slots.specs.Slots.{segment_in}
 use Rattle.channel.specs.Places.{slot_of}
 use Rattle.packet.specs.declared.fields.Fields.{Fields}
 use Rattle.packet.specs.declared.kinds.Kind.TheVariants.{Data, Open, Close, Heartbeat, FlowControl}
-use Rattle.packet.specs.declared.writing.Written.TheVariants as written
 use Rattle.packet.specs.Kinds.{kind_of}
 use Rattle.packet.specs.Layout.{most_prefix}
 use Rattle.packet.specs.Tests.{lacking, strange, flags_last, flags_whole}
@@ -17,24 +17,17 @@ use Rattle.packet.specs.Writing.{after_write}
 use Rattle.channel.specs.declared.record.Node.{Node}
 use Rattle.channel.specs.declared.record.Addresses.{Addresses}
 use Rattle.channel.specs.declared.record.Channel.{Channel}
-use Rattle.channel.specs.declared.answer.Refusal.TheVariants as refusal
 use Rattle.channel.specs.Record.{enabled, opened, closing}
 use Rattle.channel.specs.Prefixes.{prefix_of, fit_prefix}
 use Rattle.channel.proofs.PrefixLaws.{prefix_short}
-use Rattle.channel.specs.Steps.{refusing, doing, outgoing_of, outgoing_length}
-use Rattle.channel.specs.Flow.{stated, may_follow}
+use Rattle.channel.specs.Steps.{doing, outgoing_of, outgoing_length}
+use Rattle.channel.specs.Flow.{stated}
 use Rattle.sender_packets.specs.Asked.{Plain}
 use Rattle.sender.specs.Directives.{place_at}
-use Rattle.sender_packets.specs.HandingOut.{again_in, again_at, ready_control, ready_beside, ready_open, ready_single, ready_again, next_in_window, ready_new, ready, ranks_of, single_fields, single_count, single_payload, single_out, again_out, new_out, is_flow, data_fields, next_fields, next_payload, next_out, sent_step, sent_out, hand_step, hand_out}
+use Rattle.sender_packets.specs.HandingOut.{again_in, again_at, ready_open, ready_single, ready_again, next_in_window, ready_new, ready, single_fields, single_count, single_payload, single_out, again_out, new_out, is_flow, data_fields, next_fields, next_payload, next_out, sent_step, sent_out, hand_step, hand_out}
 
 -- the control packet is looked at in ENABLED and CLOSING
 module _ (state : ℕ) (b : Bool) where
-  pub control_enabled : state ≡ enabled → ((eqb state enabled || eqb state closing) && b) ≡ b
-  control_enabled h = simp (eq-eqb state enabled h)
-
-  pub control_closing : (state ≡ enabled → ⊥) → state ≡ closing → ((eqb state enabled || eqb state closing) && b) ≡ b
-  control_closing h k = simp (ne_eqb state enabled h, eq-eqb state closing k)
-
   pub control_other : (state ≡ enabled → ⊥) → (state ≡ closing → ⊥) → ((eqb state enabled || eqb state closing) && b) ≡ false
   control_other h k = simp (ne_eqb state enabled h, ne_eqb state closing k)
 
@@ -69,21 +62,6 @@ module _ (c : Channel) where
   unfolding ready
   ready_beside_lem e = let q = both (eqb c.phase.state opened) _ e in simp q.0 q.1
 
-  -- ---- the ranks together: outside OPEN Control alone may be ready
-
-  pub ranks_closed : (c.phase.state ≡ opened → ⊥) → ranks_of c ≡ record { control = ready_control c; again = false; fresh = false }
-  unfolding ready
-  ranks_closed k = simp (ne_eqb c.phase.state opened k)
-
-  pub ranks_open : c.phase.state ≡ opened
-      → ranks_of c ≡ record {
-        control = ready_beside c;
-        again = ltb (again_at c) c.window.flight;
-        fresh = next_in_window c.limits c.window && may_follow c.limits c.window c.pulse.flow.recorded;
-      }
-  unfolding ready
-  ranks_open k = simp (eq-eqb c.phase.state opened k)
-
 -- ---- segments that wait to be resent: at one that does, at one that does not, and at their end
 
 module _ (acked left : List ℕ) (slots : ℕ) where
@@ -108,18 +86,17 @@ module _ (acked left : List ℕ) (slots : ℕ) where
 -- ---- a packet that goes out
 
 module _ (before after : Channel) (x n : ℕ) where
-  pub sent_small : n < outgoing_length before.addresses x → sent_step before after x n ≡ refusing before (refusal.Small (outgoing_length before.addresses x))
-  sent_small h = chosen (ltb n (outgoing_length before.addresses x)) _ _ (lt-ltb _ _ h)
-
   pub sent_done : outgoing_length before.addresses x ≤ n → sent_step before after x n ≡ doing after (outgoing_length before.addresses x)
   sent_done h = passed_by (ltb n (outgoing_length before.addresses x)) _ _ (le-ltb _ _ h)
 
 module _ (a : Addresses) (f : Fields) (p out : List ℕ) where
-  pub out_small : length out < outgoing_length a (length p) → sent_out a f p out ≡ out
-  out_small h = chosen (ltb (length out) (outgoing_length a (length p))) _ _ (lt-ltb _ _ h)
-
-  pub out_done : outgoing_length a (length p) ≤ length out → sent_out a f p out ≡ after_write (written.Done (outgoing_length a (length p))) f (prefix_of a.own) p out
+  pub out_done : outgoing_length a (length p) ≤ length out → sent_out a f p out ≡ after_write (Ok (outgoing_length a (length p))) f (prefix_of a.own) p out
   out_done h = passed_by (ltb (length out) (outgoing_length a (length p))) _ _ (le-ltb _ _ h)
+
+-- a flag as a number
+pub one_if : (flow : Bool) → bool_byte flow ≡ (if flow then 1 else 0)
+one_if true = refl
+one_if false = refl
 
 -- its writer never refuses it
 module _ (node : Node) (a : Addresses) (fits : fit_prefix a.own ≡ true) where
@@ -222,12 +199,12 @@ module _ (node : Node) (c : Channel) (lens mem out : List ℕ) where
 
   -- the buffer, where the segment in the slot has the slot's length
   sized_out : (f : Fields) (p : List ℕ) (x : ℕ) → length p ≡ x
-      → (if ltb (length out) (outgoing_length c.addresses x) then out else after_write (written.Done (outgoing_length c.addresses x)) f (prefix_of c.addresses.own) p out)
+      → (if ltb (length out) (outgoing_length c.addresses x) then out else after_write (Ok (outgoing_length c.addresses x)) f (prefix_of c.addresses.own) p out)
       ≡ sent_out c.addresses f p out
   sized_out f p x e =
       ap
       (λ (k : ℕ).
-      if ltb (length out) (outgoing_length c.addresses k) then out else after_write (written.Done (outgoing_length c.addresses k)) f (prefix_of c.addresses.own) p out)
+      if ltb (length out) (outgoing_length c.addresses k) then out else after_write (Ok (outgoing_length c.addresses k)) f (prefix_of c.addresses.own) p out)
       (sym e)
 
   pub out_single : hand_out node c lens mem 0 out ≡ sent_out c.addresses (single_fields node c) (single_payload c) out

@@ -1,14 +1,13 @@
 -- Of which ranks a packet of a channel is ready, and the hand-out of that of a rank (document 01, Sending: Control, resent Data, new Data; within a
 -- channel the lowest segment; document 02, A2: a Heartbeat ranks with Control; A5: so does Flow Control, last in a channel, and new Data asks the
 -- number recorded).
-use Rattle.std.specs.Prelude.{ℕ, zero, suc, ◌+◌, ◌-◌, ◌%◌, Bool, false, not, ◌&&◌, ◌||◌, List, [], ◌∷◌, length, take, ◌==◌, nat_eq, nat_lt, slice_index, slice_set, if◌then◌else◌}
+use Rattle.std.specs.Prelude.{ℕ, zero, suc, ◌+◌, ◌-◌, ◌%◌, Bool, false, not, ◌&&◌, ◌||◌, List, [], ◌∷◌, Ok, length, take, ◌==◌, nat_eq, nat_lt, slice_index, slice_set, if◌then◌else◌}
 use Rattle.slots.specs.Ring.{round_of}
 use Rattle.slots.specs.Slots.{segment_in}
 use Rattle.channel.specs.Places.{slot_of}
 use Rattle.packet.specs.declared.fields.Fields.{Fields}
 use Rattle.packet.specs.declared.kinds.Kind.{Kind}
 use Rattle.packet.specs.declared.kinds.Kind.TheVariants.{Data, Open, Close, Heartbeat, FlowControl}
-use Rattle.packet.specs.declared.writing.Written.TheVariants as written
 use Rattle.packet.specs.Tests.{flags_whole}
 use Rattle.packet.specs.Writing.{after_write}
 use Rattle.channel.specs.declared.record.Node.{Node}
@@ -27,7 +26,7 @@ use Rattle.channel.specs.Pulse.{after_sending}
 use Rattle.channel.specs.Flow.{stated, flow_number, flow_out, last_is, may_follow}
 use Rattle.channel.specs.declared.record.Lone.{Lone}
 use Rattle.sender.specs.Directives.{place_at}
-use Rattle.sender_packets.specs.declared.handing.Ranks.{Ranks}
+use Rattle.lines.specs.declared.ranks.Ranks.{Ranks}
 
 -- ---- ready packets, by rank: 0 Control, the Heartbeat or Flow Control, 1 resent Data, 2 new Data
 
@@ -185,7 +184,7 @@ sent_step before after x n =
 -- the buffer afterwards
 abbrev pub sent_out : Addresses → Fields → List ℕ → List ℕ → List ℕ
 sent_out a f p out =
-    if nat_lt (length out) (outgoing_length a (length p)) then out else after_write (written.Done (outgoing_length a (length p))) f (prefix_of a.own) p out
+    if nat_lt (length out) (outgoing_length a (length p)) then out else after_write (Ok (outgoing_length a (length p))) f (prefix_of a.own) p out
 
 -- the answer for a rank that is ready, with a buffer of n octets: 11 if the packet does not fit, and nothing changes
 unfoldable pub hand_step : Channel → List ℕ → ℕ → ℕ → Stepped
@@ -197,4 +196,4 @@ hand_step c lens rank n =
 unfoldable pub hand_out : Node → Channel → List ℕ → List ℕ → ℕ → List ℕ → List ℕ
 hand_out node c lens mem rank out =
     if nat_lt (length out) (next_length c lens rank) then out
-    else after_write (written.Done (next_length c lens rank)) (next_fields node c rank) (prefix_of c.addresses.own) (next_payload c lens mem rank) out
+    else after_write (Ok (next_length c lens rank)) (next_fields node c rank) (prefix_of c.addresses.own) (next_payload c lens mem rank) out

@@ -1,5 +1,6 @@
 // Of which ranks a packet of a channel is ready (Control, the Heartbeat or Flow Control, resent Data, new Data), of each the lowest segment; and the hand-out of that of
 // a rank, whole or not at all.
+// What is marked `inline(never)` stays a function of its own when it is compiled, so that a call takes the stack of its own step alone.
 ghost use Rattle.std.specs.Prelude.{◌≡◌, ◌+◌, ◌-◌, ◌<◌, ◌≤◌, true, not, ◌&&◌, ◌||◌, length, ◌==◌, slice_index, if◌then◌else◌};
 ghost use Rattle.channel.specs.Record.{receives, enabled, opened, closing};
 ghost use Rattle.channel.specs.Flow.{stated, flow_number, may_follow};
@@ -18,131 +19,83 @@ use channel::lone::{hand_out, is_ready};
 use channel::places::slot_of;
 use channel::pulse::sent;
 use channel::record::{CLOSING, ENABLED, OPEN, RECEIVES};
-use channel::step::{done, outgoing, refused, write_outgoing};
-use channel::{Channel, Flow, Limits, Lone, Node, Pulse, Refusal, Stepped, Timers, Window, flow};
-use packet::fields::{LEAST, WHOLE};
+use channel::step::{done, outgoing, outgoing_length, refused, write_outgoing};
+use channel::{Channel, Flow, Limits, Lone, Node, Pulse, Refusal, Stepped, Window, flow};
+use lines::Ranks;
+use packet::fields::WHOLE;
 use packet::{Fields, Kind};
-use sender::ticking::lower;
 use slots::ring;
 
-// A segment in flight that is not acknowledged and whose timer has ended waits to be resent.
-fn is_again(acked: u8, left: u16) -> bool
-    ensures { result ≡ (acked == 0 && left == 0) }
+// Of the n segments from a place on, how many there are before the first that waits to be resent, one that is not acknowledged and whose timer has ended;
+// n if none does. No ring has a place past the 128th; what is looked for there reads as 0, and so as one that waits.
+fn again_in(acked: &[u8; 128], left: &[u16; 128], slots: usize, n: usize, from: usize) -> usize
+    ensures { result ≡ again_in acked.now left.now slots n from }
 {
-    if acked != 0 {
-        return false;
-    }
-    left == 0
-}
-
-// Of the n segments from a place on, how many there are before the first that waits to be resent; n if none does. No ring has a place past the
-// 128th; what is looked for there reads as 0, and so as one that waits.
-fn again_in(acked: [u8; 128], left: [u16; 128], slots: usize, n: usize, from: usize) -> usize
-    ensures { result ≡ again_in acked left slots n from }
-{
-    let mut count: usize = 0;
     let mut s = from;
-    while count < n {
-        if 128 <= s {
-            return count;
+    for i in 0..n {
+        if 128 <= s || acked[s] == 0 && left[s] == 0 {
+            return i;
         }
-        if is_again(acked[s], left[s]) {
-            return count;
-        }
-        count += 1;
         s = ring::round(s + 1, slots);
     }
-    count
+    n
 }
 
 // The lowest segment that waits to be resent, counted from the start; as many as are in flight if none does.
-fn again_at(c: Channel) -> usize
-    ensures { result ≡ again_at c }
+fn again_at(c: &Channel) -> usize
+    ensures { result ≡ again_at c.now }
 {
-    let acked = c.acked;
-    let left = c.timers.left;
-    again_in(acked, left, c.limits.slots, c.window.flight, c.window.place)
+    again_in(
+        &c.acked,
+        &c.timers.left,
+        c.limits.slots,
+        c.window.flight,
+        c.window.place,
+    )
 }
 
 fn is_control_ready(state: u8, control: Lone) -> bool
     ensures { result ≡ ((state == enabled || state == closing) && is_ready control) }
 {
-    if state == ENABLED {
-        return is_ready(control);
-    }
-    if state == CLOSING {
-        return is_ready(control);
-    }
-    false
+    (state == ENABLED || state == CLOSING) && is_ready(control)
 }
 
 // The Heartbeat, and of a receiver Flow Control.
 fn is_beside_ready(direction: u8, p: Pulse) -> bool
     ensures { result ≡ (is_ready p.beat || (direction == receives && is_ready p.flow.packet)) }
 {
-    if is_ready(p.beat) {
-        return true;
-    }
-    if direction != RECEIVES {
-        return false;
-    }
-    is_ready(p.flow.packet)
+    is_ready(p.beat) || direction == RECEIVES && is_ready(p.flow.packet)
 }
 
 // These are for OPEN, at either end.
 pub fn is_open_ready(c: Channel) -> bool
     ensures { result ≡ ready_open c }
 {
-    if c.phase.state != OPEN {
-        return false;
-    }
-    is_beside_ready(c.addresses.direction, c.pulse)
+    c.phase.state == OPEN && is_beside_ready(c.addresses.direction, c.pulse)
 }
 
-// Only the k numbers from the window start may be sent.
-fn is_new_ready(l: Limits, w: Window) -> bool
-    ensures { result ≡ next_in_window l w }
-{
-    if w.ahead <= w.flight {
-        return false;
-    }
-    w.flight < l.window
-}
-
-// And no number past the one recorded, where Flow Control is used.
+// Only the k numbers from the window start may be sent, and no number past the one recorded, where Flow Control is used.
 fn is_new_allowed(l: Limits, w: Window, recorded: u8) -> bool
     ensures { result ≡ (next_in_window l w && may_follow l w recorded) }
 {
-    if !is_new_ready(l, w) {
-        return false;
-    }
-    may_follow(l, w, recorded)
+    w.flight < w.ahead && w.flight < l.window && may_follow(l, w, recorded)
 }
 
-// Of which ranks a packet is ready: Control, the Heartbeat or Flow Control, resent Data, new Data.
-#[derive(Clone, Copy)]
-pub struct Ranks {
-    pub control: bool,
-    pub again: bool,
-    pub fresh: bool,
-}
-
+// Of which ranks a packet is ready: of rank 0 it is the Heartbeat or Flow Control in OPEN, and else Control.
+#[tactic(auto, unfolding(crate::specs::HandingOut::ready))]
 pub fn ranks_of(c: Channel) -> Ranks
     ensures { result ≡ ranks_of c }
 {
     if c.phase.state != OPEN {
         return Ranks {
             control: is_control_ready(c.phase.state, c.phase.control),
-            again: false,
-            fresh: false,
+            ..Ranks::NONE
         };
     }
-    let again = again_at(c) < c.window.flight;
-    let fresh = is_new_allowed(c.limits, c.window, c.pulse.flow.recorded);
     Ranks {
         control: is_beside_ready(c.addresses.direction, c.pulse),
-        again,
-        fresh,
+        again: again_at(&c) < c.window.flight,
+        fresh: is_new_allowed(c.limits, c.window, c.pulse.flow.recorded),
     }
 }
 
@@ -152,26 +105,11 @@ fn start_timer(c: Channel, place: usize, tries: u16) -> Channel
     requires { place < 128 }
     ensures { result ≡ timed_at c place tries }
 {
-    let mut left = c.timers.left;
-    left[place] = c.limits.timeout;
-    let mut resends = c.timers.tries;
-    resends[place] = tries;
-    let timers = Timers {
-        closing: c.timers.closing,
-        left,
-        tries: resends,
-    };
-    let pulse = sent(c.phase.state, c.limits, c.pulse);
     let mut d = c;
-    d.timers = timers;
-    d.pulse = pulse;
+    d.timers.left[place] = c.limits.timeout;
+    d.timers.tries[place] = tries;
+    d.pulse = sent(c.phase.state, c.limits, c.pulse);
     d
-}
-
-fn lone_sent(l: Limits, x: Lone) -> Lone
-    ensures { result ≡ lone_sent l x }
-{
-    hand_out(x, l.timeout, l.retries)
 }
 
 // In OPEN the Heartbeat goes out, or else Flow Control. Either is then the last packet sent.
@@ -179,17 +117,17 @@ fn beside_out(l: Limits, now: u8, p: Pulse) -> Pulse
     ensures { result ≡ beside_out l now p }
 {
     if is_ready(p.beat) {
-        return Pulse {
-            left: p.left,
-            beat: lone_sent(l, p.beat),
+        Pulse {
+            beat: hand_out(p.beat, l.timeout, l.retries),
             flow: last_is(0, p.flow),
-        };
-    }
-    let beat = p.beat;
-    Pulse {
-        left: l.interval,
-        beat,
-        flow: flow::out(l, now, p.flow),
+            ..p
+        }
+    } else {
+        Pulse {
+            left: l.interval,
+            flow: flow::out(l, now, p.flow),
+            ..p
+        }
     }
 }
 
@@ -198,41 +136,35 @@ fn single_out(c: Channel, now: u8) -> Channel
     requires { now ≡ stated c.limits c.window }
     ensures { result ≡ single_out c }
 {
-    if c.phase.state == OPEN {
-        let pulse = beside_out(c.limits, now, c.pulse);
-        let mut d = c;
-        d.pulse = pulse;
-        return d;
-    }
-    let control = lone_sent(c.limits, c.phase.control);
-    let mut phase = c.phase;
-    phase.control = control;
     let mut d = c;
-    d.phase = phase;
+    if c.phase.state == OPEN {
+        d.pulse = beside_out(c.limits, now, c.pulse);
+    } else {
+        d.phase.control = hand_out(c.phase.control, c.limits.timeout, c.limits.retries);
+    }
     d
 }
 
 // The i-th segment from the start on is handed out again: one resend less is left to it.
+#[inline(never)]
 fn again_out(c: Channel, i: usize) -> Channel
     requires { (Ringed c.limits c.window) × (i ≡ again_at c) × (i < c.window.flight) }
     ensures { result ≡ again_out c }
 {
     let place = ring::round(c.window.place + i, c.limits.slots);
-    let tries = c.timers.tries;
-    let left = lower(tries[place]);
-    start_timer(c, place, left)
+    start_timer(c, place, c.timers.tries[place].saturating_sub(1))
 }
 
 // The next segment is handed out for the first time: all resends are left to it, no ack is known of it, and one more is in flight. So an ack
 // that stands where nothing was sent, in a record that was overwritten, is never taken for this segment's.
+#[inline(never)]
 fn new_out(c: Channel) -> Channel
     requires { (Ringed c.limits c.window) × (c.window.flight < c.window.ahead) }
     ensures { result ≡ new_out c }
 {
     let place = ring::round(c.window.place + c.window.flight, c.limits.slots);
-    let flight = c.window.flight + 1;
     let mut d = start_timer(c, place, c.limits.retries);
-    d.window.flight = flight;
+    d.window.flight = c.window.flight + 1;
     d.acked[place] = 0;
     d
 }
@@ -242,12 +174,11 @@ fn send(before: Channel, after: Channel, fields: Fields, payload: &[u8], out: &m
     requires { Plain before.addresses fields (length payload.now) }
     ensures { (result ≡ sent_step before after (length payload.now) (length out.old)) × (out.new ≡ sent_out before.addresses fields payload.now out.old) }
 {
-    let addresses = before.addresses;
-    let n = LEAST + (addresses.own.length as usize) + payload.len();
+    let n = outgoing_length(before.addresses, payload.len());
     if out.len() < n {
         return refused(before, Refusal::Small(n));
     }
-    write_outgoing(addresses, fields, payload, out);
+    let _ = write_outgoing(before.addresses, fields, payload, out);
     done(after, n)
 }
 
@@ -255,48 +186,30 @@ fn send(before: Channel, after: Channel, fields: Fields, payload: &[u8], out: &m
 fn is_flow(state: u8, beat: Lone) -> bool
     ensures { result ≡ (state == opened && not (is_ready beat)) }
 {
-    if state != OPEN {
-        return false;
-    }
-    !is_ready(beat)
+    state == OPEN && !is_ready(beat)
 }
 
 // An Open in ENABLED, a Heartbeat or Flow Control in OPEN, a Close in CLOSING.
 fn single_kind(state: u8, flow: bool) -> Kind
     ensures { result ≡ (if flow then FlowControl else if state == enabled then Open else if state == opened then Heartbeat else Close) }
 {
-    if flow {
-        return Kind::FlowControl;
+    match (state, flow) {
+        (_, true) => Kind::FlowControl,
+        (ENABLED, _) => Kind::Open,
+        (OPEN, _) => Kind::Heartbeat,
+        _ => Kind::Close,
     }
-    if state == ENABLED {
-        return Kind::Open;
-    }
-    if state == OPEN {
-        return Kind::Heartbeat;
-    }
-    Kind::Close
 }
 
 // Numbered 0, but for Flow Control.
 fn single_number(flow: bool, f: Flow) -> u8
     ensures { result ≡ (if flow then flow_number f else 0) }
 {
-    if flow {
-        return flow_number(f);
-    }
-    0
+    if flow { flow_number(f) } else { 0 }
 }
 
-// With no payload, but for Flow Control.
-fn single_count(flow: bool) -> usize
-    ensures { result ≡ (if flow then 1 else 0) }
-{
-    if flow {
-        return 1;
-    }
-    0
-}
-
+// It has no payload, but Flow Control states a number.
+#[inline(never)]
 fn hand_single(node: Node, c: Channel, out: &mut [u8]) -> Stepped
     requires { (fit_prefix c.addresses.own ≡ true) × (c.limits.window ≤ 128) }
     ensures { (result ≡ sent_step c (single_out c) (single_count c) (length out.old)) × (out.new ≡ sent_out c.addresses (single_fields node c) (single_payload c) out.old) }
@@ -306,9 +219,9 @@ fn hand_single(node: Node, c: Channel, out: &mut [u8]) -> Stepped
     let number = single_number(flow, c.pulse.flow);
     let fields = outgoing(node, c.addresses, kind, WHOLE, number);
     let stated = number_stated(c.limits, c.window);
-    let n = single_count(flow);
-    let octet: [u8; 1] = [stated];
-    send(c, single_out(c, stated), fields, &octet[..n], out)
+    let octet = [stated];
+    let payload = &octet[..usize::from(flow)];
+    send(c, single_out(c, stated), fields, payload, out)
 }
 
 // The i-th segment from the start on goes out, its payload read where it lies in its slot.
@@ -326,15 +239,16 @@ fn hand_data(
 {
     let place = ring::round(c.window.place + i, c.limits.slots);
     let slot = slot_of(c.limits, place);
-    let marks = c.marks;
-    let number = std::num::wrapping_add_u8(c.window.start, i as u8);
-    let fields = outgoing(node, c.addresses, Kind::Data, marks[place] - 1, number);
+    let number = c.window.start.wrapping_add(i as u8);
+    let fields = outgoing(node, c.addresses, Kind::Data, c.marks[place] - 1, number);
     let from = slot * c.limits.payload;
-    let end = from + lens[slot] as usize;
+    let end = from + usize::from(lens[slot]);
     send(c, after, fields, &mem[from..end], out)
 }
 
-// The packet of a rank that is ready is handed out into a lent buffer, or refused whole if it does not fit.
+// The packet of a rank that is ready is handed out into a lent buffer, or refused whole if it does not fit. A rank is a number and no enum: the
+// definitions `ready` and `hand_step` take it so, and lines and grades are counted by it (a line begins at 17 times the rank, a grade is 16 times the
+// rank and the place).
 pub fn hand_step(
     node: Node,
     c: Channel,
@@ -346,13 +260,12 @@ pub fn hand_step(
     requires { (Asked c mem.now lens.now) × (Ready c rank) }
     ensures { (result ≡ hand_step c lens.now rank (length out.old)) × (out.new ≡ hand_out node c lens.now mem.now rank out.old) }
 {
-    if rank == 0 {
-        return hand_single(node, c, out);
+    match rank {
+        0 => hand_single(node, c, out),
+        1 => {
+            let i = again_at(&c);
+            hand_data(node, c, again_out(c, i), mem, lens, i, out)
+        }
+        _ => hand_data(node, c, new_out(c), mem, lens, c.window.flight, out),
     }
-    if rank == 1 {
-        let i = again_at(c);
-        return hand_data(node, c, again_out(c, i), mem, lens, i, out);
-    }
-    let i = c.window.flight;
-    hand_data(node, c, new_out(c), mem, lens, i, out)
 }

@@ -4,4 +4,4 @@
 
 pub mod handing;
 
-pub use handing::{Ranks, hand_step, is_open_ready, ranks_of};
+pub use handing::{hand_step, is_open_ready, ranks_of};

@@ -1,4 +1,4 @@
--- Laws of units filed and reclaimed: what each step answers in each case.
+-- Laws of units filed, and of what is reclaimed: what a transfer answers in each case, and that a unit's segments fit.
 -- Assumes nothing.
 use mathlib.Core.Path.{◌≡◌, refl, sym, ap, ap₂, ◌∙◌}
 use mathlib.Core.Bool.{Bool, true, false, not, false≢true}
@@ -12,23 +12,21 @@ use lib.ListN.{length}
 use Rattle.std.specs.Prelude.{if◌then◌else◌}
 use Rattle.laws.proofs.Choice.{either_way, chosen, passed_by}
 use Rattle.slots.specs.Ring.{cleared}
-use Rattle.slots.specs.Slots.{laid}
 use Rattle.channel.specs.Places.{slot_of}
 use Rattle.slots.specs.Units.{segments_of}
 use Rattle.slots.proofs.Units.{segments_cover, segments_over}
-use Rattle.store.specs.Store.{size_in, octets_in, filed_mem, filed_lens, filed_marks, EachFits}
+use Rattle.store.specs.Store.{filed_mem, filed_lens, filed_marks, EachFits}
 use Rattle.channel.specs.declared.record.Channel.{Channel}
 use Rattle.channel.specs.declared.answer.Answer.{Answer}
 use Rattle.channel.specs.declared.answer.Answer.TheVariants.{Done, Refused}
 use Rattle.channel.specs.declared.answer.Refusal.TheVariants as refusal
 use Rattle.channel.specs.Answers.{number_of}
-use Rattle.channel.specs.Record.{closed, opened, held_in, with_window, with_marks, with_acked}
-use Rattle.channel.specs.Steps.{answered, refusing, doing}
+use Rattle.channel.specs.Record.{opened, held_in, with_window, with_marks, with_acked}
+use Rattle.channel.specs.Steps.{answered, doing}
 use Rattle.channel.specs.Asked.{Ringed, Asked}
 use Rattle.channel.specs.Pairs.{filed, filed_count}
 use Rattle.channel.proofs.PairLaws.{filed_length}
 use Rattle.sender_units.specs.Transfer.{would_transfer, is_accepted, longer, filed_unit, transfer_step, transfer_mem, transfer_lens, free_at}
-use Rattle.sender_units.specs.Reclaiming.{unit_at, size_at, dropped, reclaim_step, reclaim_out}
 use Rattle.sender.proofs.AskedLaws.{mark_fits}
 
 -- ---- transfer
@@ -51,23 +49,10 @@ pub would_state : (c : Channel) (n : ℕ) → (c.phase.state ≡ opened → ⊥)
 unfolding would_transfer
 would_state c n h = simp (ne_eqb _ _ h)
 
--- the answer to a unit, as what is filed of it is asked
-pub filed_would : (c : Channel) (u : List ℕ) (a : Answer) → a ≡ would_transfer c (filed_count c.limits (length u))
-    → a ≡ would_transfer c (length (filed c.limits u))
-filed_would c u a e = e ∙ ap (would_transfer c) (sym (filed_length c.limits u))
-
 -- whether it is accepted, by what it is answered
 pub accepted_by_lem : (c : Channel) (n : ℕ) (a : Answer) → would_transfer c n ≡ a → is_accepted c n ≡ eqb (number_of a) 0
 unfolding is_accepted
 accepted_by_lem c n a e = ap (λ (x : Answer). eqb (number_of x) 0) e
-
--- the same, by the answer's number
-module _ (c : Channel) (n : ℕ) (a : Answer) (k : ℕ) (would : a ≡ would_transfer c n) (is : k ≡ number_of a) where
-  pub number_accepts : k ≡ 0 → is_accepted c n ≡ true
-  number_accepts e = accepted_by_lem c n a (sym would) ∙ eq-eqb _ _ (sym is ∙ e)
-
-  pub number_refuses : (k ≡ 0 → ⊥) → is_accepted c n ≡ false
-  number_refuses e = accepted_by_lem c n a (sym would) ∙ ne_eqb _ _ (λ z. e (is ∙ z))
 
 pub accepted_is : (c : Channel) (n : ℕ) → is_accepted c n ≡ true
     → (c.phase.state ≡ opened) × (segments_of c.limits.payload n ≤ c.limits.segments) × (held_in c.window + segments_of c.limits.payload n ≤ c.limits.slots)
@@ -155,6 +140,25 @@ module _ (c : Channel) (r : Ringed c.limits c.window) where
       ∙ ap (λ (k : ℕ). min k top) (sym (filed_length c.limits u))
       ∙ min-eq_left (omega (arith, accepted_short (length (filed c.limits u)) e))
 
+  -- what is asked of a unit, by how many octets are filed of it
+  module _ (u : List ℕ) (size top : ℕ) (h : 131072 < top) (is : size ≡ min (filed_count c.limits (length u)) top) where
+    pub would_filed : would_transfer c size ≡ would_transfer c (length (filed c.limits u))
+    would_filed =
+        ap (would_transfer c) is
+        ∙ would_capped (filed_count c.limits (length u)) top h
+        ∙ ap (would_transfer c) (sym (filed_length c.limits u))
+
+    pub accepted_filed : is_accepted c (length (filed c.limits u)) ≡ is_accepted c size
+    unfolding is_accepted
+    accepted_filed = ap (λ (a : Answer). eqb (number_of a) 0) (sym would_filed)
+
+    -- accepted, in so many segments
+    pub filing : (count : ℕ) → would_transfer c size ≡ Done 0 0 → count ≡ segments_of c.limits.payload size
+        → (is_accepted c (length (filed c.limits u)) ≡ true) × (count ≡ segments_of c.limits.payload (length (filed c.limits u)))
+    filing count e n =
+        let taken : is_accepted c (length (filed c.limits u)) ≡ true = accepted_filed ∙ accepted_by_lem c size (Done 0 0) e in
+        (taken, n ∙ ap (segments_of c.limits.payload) (filed_size u size top h taken is))
+
 -- the unit filed, from what the calls gave
 pub filed_is : (c : Channel) (n count from ahead : ℕ) (marks acked : List ℕ)
     → count ≡ segments_of c.limits.payload n
@@ -174,53 +178,6 @@ filed_is c n count from ahead marks acked ec ef ea em ek =
     ec
 
 -- ---- a unit reclaimed
-
-module _ (c : Channel) (lens mem out : List ℕ) where
-  pub reclaim_state : (c.phase.state ≡ closed → ⊥) → reclaim_step c lens (length out) ≡ refusing c refusal.State
-  unfolding reclaim_step
-  reclaim_state h = simp (ne_eqb _ _ h)
-
-  pub reclaim_state_out : (c.phase.state ≡ closed → ⊥) → reclaim_out c lens mem out ≡ out
-  unfolding reclaim_out
-  reclaim_state_out h = simp (ne_eqb _ _ h)
-
-  module _ (h : c.phase.state ≡ closed) where
-    pub reclaim_none : c.window.ahead ≡ 0 → reclaim_step c lens (length out) ≡ refusing c refusal.Nothing
-    unfolding reclaim_step
-    reclaim_none k = simp (eq-eqb _ _ h, eq-eqb _ _ k)
-
-    pub reclaim_none_out : c.window.ahead ≡ 0 → reclaim_out c lens mem out ≡ out
-    unfolding reclaim_out
-    reclaim_none_out k = simp (eq-eqb _ _ h, eq-eqb _ _ k)
-
-    module _ (k : c.window.ahead ≡ 0 → ⊥) (n size : ℕ) (en : n ≡ unit_at c) (es : size ≡ size_in (slot_of c) lens c.limits.slots n c.window.place) where
-      size_is : size ≡ size_at c lens
-      size_is = es ∙ ap (λ (m : ℕ). size_in (slot_of c) lens c.limits.slots m c.window.place) en
-
-      fits_not : length out < size → ltb (length out) (size_at c lens) ≡ true
-      fits_not l = ap (ltb (length out)) (sym size_is) ∙ lt-ltb _ _ l
-
-      fits : size ≤ length out → ltb (length out) (size_at c lens) ≡ false
-      fits l = ap (ltb (length out)) (sym size_is) ∙ le-ltb _ _ l
-
-      pub reclaim_small : length out < size → reclaim_step c lens (length out) ≡ refusing c (refusal.Small size)
-      unfolding reclaim_step
-      reclaim_small l = sym (ap (λ (s : ℕ). refusing c (refusal.Small s)) size_is ∙ sym (simp (eq-eqb _ _ h, ne_eqb _ _ k, fits_not l)))
-
-      pub reclaim_small_out : length out < size → reclaim_out c lens mem out ≡ out
-      unfolding reclaim_out
-      reclaim_small_out l = simp (eq-eqb _ _ h, ne_eqb _ _ k, fits_not l)
-
-      pub reclaim_done : size ≤ length out → doing (dropped c n) size ≡ reclaim_step c lens (length out)
-      unfolding reclaim_step
-      reclaim_done l = ap₂ (λ (m s : ℕ). doing (dropped c m) s) en size_is ∙ sym (simp (eq-eqb _ _ h, ne_eqb _ _ k, fits l))
-
-      pub reclaim_done_out : size ≤ length out
-          → laid out 0 (octets_in (slot_of c) c.limits.payload mem lens c.limits.slots n c.window.place) ≡ reclaim_out c lens mem out
-      unfolding reclaim_out
-      reclaim_done_out l =
-          ap (λ (m : ℕ). laid out 0 (octets_in (slot_of c) c.limits.payload mem lens c.limits.slots m c.window.place)) en
-          ∙ sym (simp (eq-eqb _ _ h, ne_eqb _ _ k, fits l))
 
 -- the oldest unit: each of its segments has at most P octets
 pub unit_fits : (c : Channel) (mem lens : List ℕ) → Asked c mem lens → (n : ℕ) → n ≤ c.window.ahead

@@ -5,7 +5,7 @@ ghost use Rattle.sender_units.specs.Reclaiming.{dropped, reclaim_step, reclaim_o
 
 use channel::record::CLOSED;
 use channel::step::{done, refused};
-use channel::{Channel, Refusal, Stepped};
+use channel::{Channel, Refusal, Stepped, Window};
 use slots::ring;
 
 // The oldest n segments are gone, and their slots are free.
@@ -13,20 +13,20 @@ fn drop_oldest(c: Channel, n: usize) -> Channel
     requires { (Ringed c.limits c.window) × (n ≤ c.window.ahead) }
     ensures { result ≡ dropped c n }
 {
-    let slots = c.limits.slots;
-    let held = c.marks;
-    let marks = ring::clear(held, slots, n, c.window.place);
-    let place = ring::round(c.window.place + n, slots);
-    let ahead = c.window.ahead - n;
-    let mut d = c;
-    d.window.place = place;
-    d.window.ahead = ahead;
-    d.marks = marks;
-    d
+    Channel {
+        window: Window {
+            place: ring::round(c.window.place + n, c.limits.slots),
+            ahead: c.window.ahead - n,
+            ..c.window
+        },
+        marks: ring::clear(c.marks, c.limits.slots, n, c.window.place),
+        ..c
+    }
 }
 
 // The octets of the oldest unit go to the front of `out`, one segment after another; the octets past them stay. A buffer too small
 // for them all gets none, and the unit stays.
+#[tactic(auto, unfolding(crate::specs::Reclaiming::reclaim_step, crate::specs::Reclaiming::reclaim_out))]
 pub fn reclaim_step(c: Channel, mem: &[u8], lens: &[u16], out: &mut [u8]) -> Stepped
     requires { Asked c mem.now lens.now }
     ensures { (result ≡ reclaim_step c lens.now (length out.old)) × (out.new ≡ reclaim_out c lens.now mem.now out.old) }
@@ -34,14 +34,11 @@ pub fn reclaim_step(c: Channel, mem: &[u8], lens: &[u16], out: &mut [u8]) -> Ste
     if c.phase.state != CLOSED {
         return refused(c, Refusal::State);
     }
-    let ahead = c.window.ahead;
-    if ahead == 0 {
+    if c.window.ahead == 0 {
         return refused(c, Refusal::Nothing);
     }
-    let slots = c.limits.slots;
     let from = c.window.place;
-    let marks = c.marks;
-    let n = store::unit_of(marks, slots, ahead, from);
+    let n = store::unit_of(c.marks, c.limits.slots, c.window.ahead, from);
     let size = store::size_in(c.limits, lens, n, from);
     if out.len() < size {
         return refused(c, Refusal::Small(size));

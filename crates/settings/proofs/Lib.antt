@@ -1,4 +1,7 @@
+pub mod Promises
+pub mod AgreeLaws
 pub mod OneLaws
 pub mod SeenLaws
-pub mod AgreeLaws
-pub mod Promises
+pub mod SeenPairs
+pub mod Named
+pub mod Fitting

@@ -11,8 +11,7 @@ use Rattle.channel.specs.declared.record.Settings.{Settings}
 use Rattle.channel.specs.Settings.{fit, fit_addresses, fit_limits, clash}
 use Rattle.channel.proofs.SettingsLaws.{fit_is}
 use Rattle.laws.proofs.Choice.{both}
-use Rattle.settings.specs.declared.seeing.Seen.{Seen}
-use Rattle.settings.specs.Seeing.{unsound, addresses_at, clashes_seen, noted, see_one}
+use Rattle.settings.specs.Seeing.{Seen, unsound, addresses_at, clashes_seen, noted, see_one}
 
 -- ---- the addresses of those from the i-th on, to the n-th
 

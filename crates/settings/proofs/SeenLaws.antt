@@ -23,10 +23,8 @@ use Rattle.channel.specs.Tables.{clashes, each_fit}
 use Rattle.table.specs.Lent.{area_of, all_slots, all_octets}
 use Rattle.table.specs.Surveying.{looked_at}
 use Rattle.table.proofs.Looked.{looked_enough}
-use Rattle.settings.specs.declared.pairing.Routes.{Routes}
-use Rattle.settings.specs.declared.seeing.Seen.{Seen}
 use Rattle.settings.specs.Configuring.{made_table}
-use Rattle.settings.specs.Seeing.{nowhere, beyond, begun, unsound, addresses_at, clashes_seen, routed, noted, see_one}
+use Rattle.settings.specs.Seeing.{Seen, Routes, nowhere, beyond, begun, unsound, addresses_at, clashes_seen, routed, noted, see_one}
 use Rattle.settings.proofs.OneLaws.{bounded, one_spoilt, one_many, one_unfit, one_taken, one_noted}
 
 -- ---- two clash in either order

@@ -1,2 +1,2 @@
-pub mod Seeing
 pub mod Configuring
+pub mod Seeing

@@ -1,20 +1,26 @@
--- How the settings of a table are looked at, one after another. What it amounts to is `configured` (specs/Configuring.antt): a reader need not look here.
-use Rattle.std.specs.Prelude.{ℕ, zero, suc, ◌+◌, Bool, true, false, not, ◌&&◌, ◌||◌, List, [], ltb, leb, eqb, length, get_or, set, replicate, if◌then◌else◌}
+-- How the settings of a table may be looked at, one after another, with what was seen of those before carried along. What it amounts to is `fit_table`
+-- and the sums of `settled` (specs/Configuring.antt), by which the call looks at them where they lie: a reader need not look here.
+use Rattle.std.specs.Prelude.{ℕ, zero, suc, ◌+◌, Bool, true, false, not, ◌||◌, List, [], ltb, leb, eqb, length, get_or, set, replicate, if◌then◌else◌}
 use Rattle.walks.specs.Fold.{fold_from}
-use Rattle.lines.specs.Lines.{no_lines}
 use Rattle.channel.specs.declared.record.Addresses.{Addresses}
 use Rattle.channel.specs.declared.record.Settings.{Settings}
-use Rattle.channel.specs.declared.answer.Answer.TheVariants.{Done, Refused}
-use Rattle.channel.specs.declared.answer.Refusal.TheVariants as refusal
 use Rattle.channel.specs.Prefixes.{no_prefix}
 use Rattle.channel.specs.Settings.{fit, clash}
-use Rattle.channel.specs.Pairs.{pairs_from}
-use Rattle.table.specs.declared.deciding.Told.{Told}
-use Rattle.table.specs.declared.deciding.Verdict.{Verdict}
 use Rattle.table.specs.Lent.{area_of}
-use Rattle.table.specs.Serving.{told_of}
-use Rattle.settings.specs.declared.pairing.Routes.{Routes}
-use Rattle.settings.specs.declared.seeing.Seen.{Seen}
+
+-- by index: whom a record names as its spare, whether its units have a leading octet, and its direction
+pub record Routes : Type 0 where
+  pub spares : List ℕ
+  pub leads : List ℕ
+  pub ways : List ℕ
+
+-- whether all is well so far, the slots and the octets together, and by index the addresses and the routes
+pub record Seen : Type 0 where
+  pub sound : Bool
+  pub slots : ℕ
+  pub octets : ℕ
+  pub addresses : List Addresses
+  pub routes : Routes
 
 -- what stands at an index that nothing was noted at
 abbrev pub nowhere : Addresses
@@ -70,18 +76,3 @@ see_one v s lens j =
 
 abbrev pub seen : List Settings → List ℕ → Seen → Seen
 seen s lens v = fold_from see_one lens 0 v s
-
--- of a table of n records, k settings, m octets and l lengths
-unfoldable pub is_settled : Seen → ℕ → ℕ → ℕ → ℕ → Bool
-is_settled v n k m l =
-    leb 1 k && v.sound && eqb n k && eqb v.slots l && eqb v.octets m && leb k 16 && pairs_from v.routes.spares v.routes.leads v.routes.ways k k 0
-
-abbrev pub verdict_of : Seen → ℕ → ℕ → ℕ → ℕ → Verdict
-verdict_of v n k m l = record { ok = is_settled v n k m l; told = told_of n (Refused refusal.Settings) }
-
--- once n records are made: what is told, and the lines
-abbrev pub made_told : ℕ → Told
-made_told n = told_of n (Done 0 0)
-
-abbrev pub cleared : List ℕ → List ℕ
-cleared lines = if eqb (length lines) 51 then no_lines else lines

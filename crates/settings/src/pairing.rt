@@ -1,90 +1,53 @@
 // The pairs of a table (document 02, A13): each spare is another sending record, and a unit has a leading octet on a pair and nowhere else.
-ghost use Rattle.std.specs.Prelude.{◌≡◌, ◌≤◌, ◌<◌};
-ghost use Rattle.channel.specs.Pairs.{spare_fits, is_named, lead_for, pair_fits, pairs_from};
+ghost use Rattle.std.specs.Prelude.{◌≡◌, ◌+◌, ◌<◌, ◌==◌, length};
+ghost use Rattle.std.specs.List.{list_any};
+ghost use Rattle.channel.specs.Pairs.{spare_fits, lead_for, pair_fits, pairs_fit, spares_of, leads_of, ways_of};
 
+use channel::Settings;
 use channel::record::SENDS;
 
-// By index: whom a record names as its spare (0: none, else the index and 1 more), whether its units have a leading octet, and its direction.
-#[derive(Clone, Copy)]
-pub struct Routes {
-    pub spares: [u16; 16],
-    pub leads: [u16; 16],
-    pub ways: [u8; 16],
+// The spare of the i-th is none (0), or another sending record (its index and 1 more), and the i-th sends.
+#[tactic(auto, using(crate::proofs::Named::spare_of, crate::proofs::Named::way_of), unfolding(channel::specs::Pairs::spare_fits))]
+fn spare_fits(s: &[Settings], i: usize) -> bool
+    requires { i < length s.now }
+    ensures { result ≡ spare_fits (spares_of s.now) (ways_of s.now) (length s.now) i }
+{
+    let spare = s[i].limits.spare as usize;
+    spare == 0
+        || spare <= s.len()
+            && spare != i + 1
+            && s[i].addresses.direction == SENDS
+            && s[spare - 1].addresses.direction == SENDS
 }
 
-// The spare of the i-th of n records is another sending record, and the i-th sends.
-fn spare_fits(r: Routes, n: usize, i: usize) -> bool
-    requires { (n ≤ 16) × (i < n) }
-    ensures { result ≡ spare_fits r.spares r.ways n i }
+// Some record names the i-th.
+fn is_named(s: &[Settings], i: usize) -> bool
+    requires { i < length s.now }
+    ensures { result ≡ list_any (λ x. x.limits.spare == i + 1) s.now }
 {
-    let spare = r.spares[i] as usize;
-    if spare == 0 {
-        return true;
-    }
-    if n < spare {
-        return false;
-    }
-    if spare == i + 1 {
-        return false;
-    }
-    if r.ways[i] != SENDS {
-        return false;
-    }
-    r.ways[spare - 1] == SENDS
-}
-
-// One of the n records names the i-th.
-fn is_named(r: Routes, n: usize, i: usize) -> bool
-    requires { (n ≤ 16) × (i < n) }
-    ensures { result ≡ is_named r.spares i n 0 }
-{
-    let mut j: usize = 0;
-    while j < n {
-        let other = r.spares[j] as usize;
-        if other == i + 1 {
-            return true;
-        }
-        j += 1;
-    }
-    false
+    s.iter().any(|x| x.limits.spare as usize == i + 1)
 }
 
 // On a pair: it names a spare, or is named as one.
-fn lead_for(r: Routes, n: usize, i: usize) -> u16
-    requires { (n ≤ 16) × (i < n) }
-    ensures { result ≡ lead_for r.spares n i }
+#[tactic(auto, using(crate::proofs::Named::spare_of, crate::proofs::Named::named_any))]
+fn lead_for(s: &[Settings], i: usize) -> u16
+    requires { i < length s.now }
+    ensures { result ≡ lead_for (spares_of s.now) (length s.now) i }
 {
-    if r.spares[i] != 0 {
-        return 1;
-    }
-    if is_named(r, n, i) {
-        return 1;
-    }
-    0
+    u16::from(s[i].limits.spare != 0 || is_named(s, i))
 }
 
-fn pair_fits(r: Routes, n: usize, i: usize) -> bool
-    requires { (n ≤ 16) × (i < n) }
-    ensures { result ≡ pair_fits r.spares r.leads r.ways n i }
+#[tactic(auto, using(crate::proofs::Named::lead_of), unfolding(channel::specs::Pairs::pair_fits))]
+fn pair_fits(s: &[Settings], i: usize) -> bool
+    requires { i < length s.now }
+    ensures { result ≡ pair_fits (spares_of s.now) (leads_of s.now) (ways_of s.now) (length s.now) i }
 {
-    if !spare_fits(r, n, i) {
-        return false;
-    }
-    let lead = lead_for(r, n, i);
-    r.leads[i] == lead
+    spare_fits(s, i) && s[i].limits.lead == lead_for(s, i)
 }
 
-// All n of them.
-pub fn pairs_fit(r: Routes, n: usize) -> bool
-    requires { n ≤ 16 }
-    ensures { result ≡ pairs_from r.spares r.leads r.ways n n 0 }
+// All of them.
+pub fn pairs_fit(s: &[Settings]) -> bool
+    ensures { result ≡ pairs_fit s.now }
 {
-    let mut i: usize = 0;
-    while i < n {
-        if !pair_fits(r, n, i) {
-            return false;
-        }
-        i += 1;
-    }
-    true
+    (0..s.len()).all(|i| pair_fits(s, i))
 }

@@ -1,63 +1,61 @@
-// Whether a table, a memory, lengths and lines are what the settings ask for, and the answer.
-ghost use Rattle.std.specs.Prelude.{◌≡◌};
-ghost use Rattle.settings.specs.Seeing.{is_settled, verdict_of, made_told, cleared};
+// Whether settings are such of a table, each fit and beside the others too, and a table, memory, lengths and lines are what they ask for.
+ghost use Rattle.std.specs.Prelude.{◌≡◌, true};
+ghost use Rattle.std.specs.List.{list_any};
+ghost use Rattle.channel.specs.Settings.{clash};
+ghost use Rattle.channel.specs.Tables.{each_fit, fit_table};
+ghost use Rattle.table.specs.Lent.{all_slots, all_octets};
+ghost use Rattle.settings.specs.Configuring.{made_table, settled};
 
 use crate::pairing::pairs_fit;
-use crate::seeing::{LINES, Seen};
-use channel::{Answer, Refusal};
-use lines::clear;
-use table::surveying::MOST_RECORDS;
-use table::{Told, Verdict};
+use channel::settings::{is_clash, is_fit};
+use channel::{Addresses, Channel, Settings};
+use table::surveying::{LINES, MOST_RECORDS, area};
 
-// Of a table of n records, k settings, m octets and l lengths.
-fn is_settled(v: Seen, n: usize, k: usize, m: usize, l: usize) -> bool
-    ensures { result ≡ is_settled v n k m l }
+// One of those behind it has such addresses.
+fn is_taken(a: Addresses, behind: &[Settings]) -> bool
+    ensures { result ≡ list_any (λ s. clash a s.addresses) behind.now }
 {
-    if k < 1 {
-        return false;
-    }
-    if !v.sound {
-        return false;
-    }
-    if n != k {
-        return false;
-    }
-    if v.slots != l {
-        return false;
-    }
-    if v.octets != m {
-        return false;
-    }
-    if MOST_RECORDS < k {
-        return false;
-    }
-    pairs_fit(v.routes, k)
+    behind.iter().any(|x| is_clash(a, x.addresses))
 }
 
-pub fn settle(v: Seen, n: usize, k: usize, m: usize, l: usize) -> Verdict
-    ensures { result ≡ verdict_of v n k m l }
+// Each is fit, and no two clash.
+fn each_fits(s: &[Settings]) -> bool
+    ensures { result ≡ each_fit s.now }
 {
-    Verdict {
-        ok: is_settled(v, n, k, m, l),
-        told: Told {
-            answer: Answer::Refused(Refusal::Settings),
-            index: n,
-        },
-    }
+    s.iter()
+        .enumerate()
+        .all(|(i, x)| is_fit(*x) && !is_taken(x.addresses, &s[i + 1..]))
 }
 
-// What is told once n records are made, and nobody waits then.
-pub fn settings_end(n: usize, lines: &mut [u8]) -> Told
-    ensures { (result ≡ made_told n) × (lines.new ≡ cleared lines.old) }
+#[tactic(auto, unfolding(channel::specs::Tables::fit_table))]
+fn fits_table(s: &[Settings]) -> bool
+    ensures { result ≡ fit_table s.now }
 {
-    if lines.len() == LINES {
-        clear(lines);
+    (1..=MOST_RECORDS).contains(&s.len()) && each_fits(s) && pairs_fit(s)
+}
+
+// The slots and the octets that they ask for together: of 16 that are fit no sum leaves a machine word.
+fn sizes(s: &[Settings]) -> (usize, usize)
+    requires { fit_table s.now ≡ true }
+    ensures slots { result.0 ≡ all_slots (made_table s.now) }
+    ensures octets { result.1 ≡ all_octets (made_table s.now) }
+{
+    let mut slots = 0;
+    let mut octets = 0;
+    for x in s {
+        slots += x.limits.slots;
+        octets += area(x.limits);
     }
-    Told {
-        answer: Answer::Done {
-            length: 0,
-            confirmed: 0,
-        },
-        index: n,
+    (slots, octets)
+}
+
+#[tactic(auto, unfolding(crate::specs::Configuring::settled))]
+pub fn is_settled(t: &[Channel], mem: &[u8], lens: &[u16], lines: &[u8], s: &[Settings]) -> bool
+    ensures { result ≡ settled t.now mem.now lens.now lines.now s.now }
+{
+    if !fits_table(s) {
+        return false;
     }
+    let (slots, octets) = sizes(s);
+    t.len() == s.len() && lens.len() == slots && mem.len() == octets && lines.len() == LINES
 }

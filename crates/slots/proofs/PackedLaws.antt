@@ -15,6 +15,7 @@ use lib.Pow.{pow-add, shr-shr}
 use lib.Bits.{bit_and, bit_or, and_block, or_block, and_le_r, or_lt, shifted_half, shifted_even}
 use lib.Count.{count_trailing_zeros, under}
 use lib.ListN.{length, get_or}
+use Rattle.std.specs.Int.{w64, from_le_bytes}
 use Rattle.laws.specs.Octets.{Octets}
 use Rattle.laws.proofs.Choice.{both}
 use Rattle.laws.proofs.Numbers.{lt_cases}
@@ -155,6 +156,18 @@ word_eight m s =
     let e : s + 1 + 1 + 1 + 1 ≡ s + 4 = omega arith in
     omega
     (arith, ap (λ (k : ℕ). word_of m k 4) e, word_suc m s 7, word_suc m (s + 1) 6, word_suc m (s + 1 + 1) 5, word_suc m (s + 1 + 1 + 1) 4, word_suc m s 3, word_suc m (s + 1) 2, word_suc m (s + 1 + 1) 1, word_suc m (s + 1 + 1 + 1) 0, word_nil m (s + 1 + 1 + 1 + 1))
+
+-- the word that the machine loads
+pub word_loaded : (m : List ℕ) (s : ℕ)
+    → word_of m s 8
+    ≡ from_le_bytes w64
+    (get_or m s 0 ∷ get_or m (s + 1) 0 ∷ get_or m (s + 2) 0 ∷ get_or m (s + 3) 0 ∷ get_or m (s + 4) 0 ∷ get_or m (s + 5) 0 ∷ get_or m (s + 6) 0 ∷ get_or m (s + 7) 0 ∷ [])
+word_loaded m s =
+    let e : s + 4 + 1 ≡ s + 5 = omega arith in
+    let f : s + 4 + 2 ≡ s + 6 = omega arith in
+    let g : s + 4 + 3 ≡ s + 7 = omega arith in
+    let at = λ (k : ℕ). get_or m k 0 in
+    omega (arith, word_eight m s, word_four m s, word_four m (s + 4), ap at e, ap at f, ap at g)
 
 -- past the last mark nothing is added
 word_past : (m : List ℕ) (s n j : ℕ) → length m ≤ s + n → word_of m s (n + j) ≡ word_of m s n

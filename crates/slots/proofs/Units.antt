@@ -3,14 +3,15 @@
 use mathlib.Core.Path.{◌≡◌, refl, sym, ap, ◌∙◌}
 use mathlib.Core.Bool.{Bool, true, false}
 use mathlib.Core.List.{List, ◌∷◌, ◌++◌}
-use Prim.Native.Nat.{ℕ, zero, suc, ◌+◌, ◌-◌, ◌*◌, ◌/◌, ◌≤◌, ◌<◌}
+use Prim.Native.Nat.{ℕ, zero, suc, ◌+◌, ◌-◌, ◌*◌, ◌/◌, ◌%◌, ◌≤◌, ◌<◌, min, max}
 use native.Mathlib.Nat.{suc-mul, zero-mul, add-mul, one-mul, mul-le-mul_right, div-mul-le_self, lt-div-mul-add}
 use native.Mathlib.Omega.{arith}
-use borrow.Author.Tests.{eqb-true, ltb-true, ltb-false}
+use borrow.Author.Tests.{eqb-true, eqb-false, ltb-true, ltb-false}
 use lib.Dec.{eqb, ltb}
 use lib.ListN.{length, take, drop, length-take, length-drop}
 use lib.Seq.{take_all, take-add, drop-drop, length-take-le}
 use Rattle.std.specs.Prelude.{if◌then◌else◌}
+use Rattle.std.proofs.lemmas.Grind.{div_ceil_times}
 use Rattle.slots.specs.Units.{segments_of, segment_cut, joined}
 
 -- one more turn of so many octets
@@ -53,6 +54,39 @@ segments_filled most n i = by (eqb n 0)
         let q = (n - 1) / most in
         let k : i + 1 ≤ q = omega arith in
         omega (arith, turn i most, mul-le-mul_right most k, div-mul-le_self (n - 1) most)
+
+-- of two counts of turns the shorter is the less
+less : (a b most : ℕ) → a * most < b * most → a < b
+less a b most h = by (ltb a b) refl
+  where
+    by : (t : Bool) → ltb a b ≡ t → a < b
+    by true e = ltb-true a b e
+    by false e = absurd (omega (arith, h, mul-le-mul_right most (ltb-false a b e)))
+
+-- as a division that rounds up counts them, of an empty unit one
+pub segments_ceil : (most n : ℕ) → 1 ≤ most → max (n / most + min 1 (n % most)) 1 ≡ segments_of most n
+segments_ceil most n h = by (eqb n 0) refl
+  where
+    q : ℕ
+    q = n / most + min 1 (n % most)
+
+    p : ℕ
+    p = (n - 1) / most
+
+    around : (n ≤ q * most) × (q * most < n + most)
+    around = div_ceil_times n most h
+
+    by : (t : Bool) → eqb n 0 ≡ t → max q 1 ≡ (if t then 1 else p + 1)
+    by true e =
+        let few : q < 1 = less q 1 most (omega (arith, around.1, eqb-true n 0 e, one-mul most)) in
+        omega (arith, few)
+    by false e =
+        let some = eqb-false n 0 e in
+        let full = div-mul-le_self (n - 1) most in
+        let rest = lt-div-mul-add {a = n - 1} {b = most} h in
+        let over : p < q = less p q most (omega (arith, around.0, some, full)) in
+        let under : q < p + 2 = less q (p + 2) most (omega (arith, around.1, some, rest, add-mul p 2 most)) in
+        omega (arith, over, under)
 
 -- ---- the segments
 

@@ -57,6 +57,5 @@ pub fn read_segment(
 {
     let n = lens[slot] as usize;
     let from = slot * most;
-    let end = from + n;
-    out[at..at + (end - from)].copy_from_slice(&mem[from..end]);
+    out[at..at + n].copy_from_slice(&mem[from..from + n]);
 }

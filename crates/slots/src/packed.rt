@@ -1,5 +1,5 @@
 // Marks in a row, eight at a time: packed into one word of the machine, where the processor counts the leading run of those that are set.
-ghost use Rattle.std.specs.Prelude.{◌≡◌, ◌+◌, ◌^◌, ◌≤◌, ◌<◌, min, length};
+ghost use Rattle.std.specs.Prelude.{◌≡◌, ◌+◌, ◌≤◌, ◌<◌, length};
 ghost use Rattle.slots.specs.Packed.{word_of, row_of};
 
 // All bits of each octet but the highest.
@@ -12,15 +12,13 @@ pub fn row(marks: &[u8], from: usize, n: usize) -> usize
     requires { (8 ≤ length marks.now) × (from + n ≤ length marks.now) }
     ensures { result ≡ row_of marks.now n from }
 {
-    let mut count: usize = 0;
-    while count < n {
+    for count in (0..n).step_by(8) {
         let w = eight_from(marks, from + count);
         let unset = !(((w & LOW) + LOW) | w | LOW);
-        let k = (u64::trailing_zeros(unset) / 8) as usize;
+        let k = (unset.trailing_zeros() / 8) as usize;
         if k < 8 {
-            return least(count + k, n);
+            return (count + k).min(n);
         }
-        count += 8;
     }
     n
 }
@@ -42,27 +40,14 @@ fn eight_at(marks: &[u8], s: usize) -> u64
     requires { s + 8 ≤ length marks.now }
     ensures { result ≡ word_of marks.now s 8 }
 {
-    four_at(marks, s + 4) * 0x1_0000_0000 + four_at(marks, s)
-}
-
-fn four_at(marks: &[u8], s: usize) -> u64
-    requires { s + 4 ≤ length marks.now }
-    ensures value { result ≡ word_of marks.now s 4 }
-    ensures upper_bound { result < 2 ^ 32 }
-{
-    ((wide(marks[s + 3]) * 256 + wide(marks[s + 2])) * 256 + wide(marks[s + 1])) * 256
-        + wide(marks[s])
-}
-
-fn wide(x: u8) -> u64
-    ensures value { result ≡ x }
-    ensures upper_bound { result < 256 }
-{
-    x as u64
-}
-
-pub fn least(a: usize, b: usize) -> usize
-    ensures { result ≡ min a b }
-{
-    if a < b { a } else { b }
+    u64::from_le_bytes([
+        marks[s],
+        marks[s + 1],
+        marks[s + 2],
+        marks[s + 3],
+        marks[s + 4],
+        marks[s + 5],
+        marks[s + 6],
+        marks[s + 7],
+    ])
 }

@@ -7,10 +7,9 @@ use mathlib.Core.List.{List, ◌∷◌, ◌++◌}
 use Prim.Native.Nat.{ℕ, zero, suc, ◌+◌, ◌-◌, ◌*◌, ◌/◌, ◌≤◌, ◌<◌, zero-le}
 use native.Mathlib.Nat.{zero-mul, one-mul, suc-mul, mul-le-mul_right, div-mul-le_self}
 use native.Mathlib.Omega.{arith}
-use borrow.Author.Tests.{ltb-true, ltb-false, le-leb, lt-leb}
-use lib.Dec.{eqb, ltb}
+use lib.Dec.{eqb}
 use lib.ListN.{length, get_or, set, take, drop, length-append, length-drop, length-set}
-use lib.Seq.{length-take-le, take_all, get_or-set_same, get_or-set_other}
+use lib.Seq.{length-take-le, get_or-set_same, get_or-set_other}
 use Rattle.std.specs.Prelude.{if◌then◌else◌}
 use Rattle.slots.specs.Ring.{round_of}
 use Rattle.slots.proofs.RingLaws.{round_out, round_lt, round_add, round_apart, first_place, next_place}
@@ -55,14 +54,14 @@ by_place slots = record { bound = λ p h. h; apart = λ p q h k e. e }
 
 -- ---- up to the first end: at a segment that ends a unit, at one that does not, and where none is left
 
-pub unit_stop : (marks : List ℕ) (slots n i s : ℕ) → i < n → 3 ≤ get_or marks s 0 → unit_of marks slots (n - i) s ≡ 1
+pub unit_stop : (marks : List ℕ) (slots n i s : ℕ) → i < n → ends (get_or marks s 0) ≡ true → unit_of marks slots (n - i) s ≡ 1
 unfolding unit_of
-unit_stop marks slots n i s l h = let e : n - i ≡ suc (n - (i + 1)) = omega arith in rw e (simp (le-leb _ _ h))
+unit_stop marks slots n i s l h = let e : n - i ≡ suc (n - (i + 1)) = omega arith in rw e (simp h)
 
-pub unit_more : (marks : List ℕ) (slots n i s : ℕ) → i < n → get_or marks s 0 < 3
+pub unit_more : (marks : List ℕ) (slots n i s : ℕ) → i < n → ends (get_or marks s 0) ≡ false
     → unit_of marks slots (n - i) s ≡ suc (unit_of marks slots (n - (i + 1)) (round_of slots (s + 1)))
 unfolding unit_of
-unit_more marks slots n i s l h = let e : n - i ≡ suc (n - (i + 1)) = omega arith in rw e (simp (lt-leb _ _ h))
+unit_more marks slots n i s l h = let e : n - i ≡ suc (n - (i + 1)) = omega arith in rw e (simp h)
 
 pub unit_none : (marks : List ℕ) (slots n i s : ℕ) → n ≤ i → unit_of marks slots (n - i) s ≡ 0
 unfolding unit_of
@@ -89,10 +88,15 @@ unit_le marks slots (suc n) from =
 
 -- ---- how many end a unit: one segment more, and none left
 
-pub ends_more : (marks : List ℕ) (slots n i s : ℕ) → i < n
-    → ends_in marks slots (n - i) s ≡ (if ends (get_or marks s 0) then 1 else 0) + ends_in marks slots (n - (i + 1)) (round_of slots (s + 1))
+pub ends_here : (marks : List ℕ) (slots n i s : ℕ) → i < n → ends (get_or marks s 0) ≡ true
+    → ends_in marks slots (n - i) s ≡ 1 + ends_in marks slots (n - (i + 1)) (round_of slots (s + 1))
 unfolding ends_in
-ends_more marks slots n i s l = let e : n - i ≡ suc (n - (i + 1)) = omega arith in rw e
+ends_here marks slots n i s l h = let e : n - i ≡ suc (n - (i + 1)) = omega arith in rw e (simp h)
+
+pub ends_later : (marks : List ℕ) (slots n i s : ℕ) → i < n → ends (get_or marks s 0) ≡ false
+    → ends_in marks slots (n - i) s ≡ ends_in marks slots (n - (i + 1)) (round_of slots (s + 1))
+unfolding ends_in
+ends_later marks slots n i s l h = let e : n - i ≡ suc (n - (i + 1)) = omega arith in rw e (simp h (omega arith))
 
 pub ends_none : (marks : List ℕ) (slots n i s : ℕ) → n ≤ i → ends_in marks slots (n - i) s ≡ 0
 unfolding ends_in
@@ -114,10 +118,6 @@ abbrev pub carried : ℕ → ℕ → ℕ → ℕ
 carried last i zero = last
 carried last i (suc r) = i + suc r
 
-pub carried_first : (r : ℕ) → carried 0 0 r ≡ r
-carried_first zero = refl
-carried_first (suc r) = omega arith
-
 -- one segment more
 carried_turn : (here : Bool) (last i r : ℕ) → carried last i (last_with here r) ≡ carried (if here then i + 1 else last) (i + 1) r
 carried_turn true last i zero = refl
@@ -125,13 +125,22 @@ carried_turn false last i zero = refl
 carried_turn true last i (suc r) = omega arith
 carried_turn false last i (suc r) = omega arith
 
-pub last_more : (marks : List ℕ) (slots n i s last : ℕ) → i < n
-    → carried last i (last_end_in marks slots (n - i) s)
-    ≡ carried (if ends (get_or marks s 0) then i + 1 else last) (i + 1) (last_end_in marks slots (n - (i + 1)) (round_of slots (s + 1)))
-unfolding last_end_in
-last_more marks slots n i s last l =
-    let e : n - i ≡ suc (n - (i + 1)) = omega arith in
-    rw e (carried_turn (ends (get_or marks s 0)) last i (last_end_in marks slots (n - (i + 1)) (round_of slots (s + 1))))
+module _ (marks : List ℕ) (slots n i s last : ℕ) (l : i < n) where
+  last_more : (here : Bool) → ends (get_or marks s 0) ≡ here
+      → carried last i (last_end_in marks slots (n - i) s)
+      ≡ carried (if here then i + 1 else last) (i + 1) (last_end_in marks slots (n - (i + 1)) (round_of slots (s + 1)))
+  unfolding last_end_in
+  last_more here h =
+      let e : n - i ≡ suc (n - (i + 1)) = omega arith in
+      rw (e, h) (carried_turn here last i (last_end_in marks slots (n - (i + 1)) (round_of slots (s + 1))))
+
+  pub last_here : ends (get_or marks s 0) ≡ true
+      → carried last i (last_end_in marks slots (n - i) s) ≡ carried (i + 1) (i + 1) (last_end_in marks slots (n - (i + 1)) (round_of slots (s + 1)))
+  last_here = last_more true
+
+  pub last_later : ends (get_or marks s 0) ≡ false
+      → carried last i (last_end_in marks slots (n - i) s) ≡ carried last (i + 1) (last_end_in marks slots (n - (i + 1)) (round_of slots (s + 1)))
+  last_later = last_more false
 
 pub last_end : (marks : List ℕ) (slots n i s last : ℕ) → n ≤ i → carried last i (last_end_in marks slots (n - i) s) ≡ last
 unfolding last_end_in
@@ -512,41 +521,6 @@ segment_starts most n i = by (eqb n 0)
     by false h =
         let k : i ≤ (n - 1) / most = omega arith in
         omega (arith, mul-le-mul_right most k, div-mul-le_self (n - 1) most)
-
--- the part up to its end is it
-part_is : (most : ℕ) (u : List ℕ) (start : ℕ) → start ≤ length u
-    → take ((if ltb (length u - start) most then length u else start + most) - start) (drop start u) ≡ take most (drop start u)
-part_is most u start h = by (ltb (length u - start) most) refl
-  where
-    by : (t : Bool) → ltb (length u - start) most ≡ t
-        → take ((if t then length u else start + most) - start) (drop start u) ≡ take most (drop start u)
-    by true e =
-        take_all (length u - start) (drop start u) (omega (arith, length-drop start u))
-        ∙ sym (take_all most (drop start u) (omega (arith, length-drop start u, ltb-true (length u - start) most e)))
-    by false e = let z : start + most - start ≡ most = omega arith in ap (λ (k : ℕ). take k (drop start u)) z
-
-pub part_of : (most : ℕ) (u : List ℕ) (start end : ℕ) → start ≤ length u
-    → end ≡ (if ltb (length u - start) most then length u else start + most)
-    → take (end - start) (drop start u) ≡ take most (drop start u)
-part_of most u start end h e = ap (λ (k : ℕ). take (k - start) (drop start u)) e ∙ part_is most u start h
-
--- from the front on
-pub front_of_lem : (most : ℕ) (u : List ℕ) (end : ℕ) → end ≡ (if ltb (length u - 0) most then length u else 0 + most) → take end u ≡ take most u
-front_of_lem most u end e = let z : end ≡ end - 0 = omega arith in ap (λ (k : ℕ). take k u) z ∙ part_of most u 0 end zero-le e
-
-pub end_after : (n start most : ℕ) → start ≤ n → start ≤ (if ltb (n - start) most then n else start + most)
-end_after n start most h = by (ltb (n - start) most)
-  where
-    by : (t : Bool) → start ≤ (if t then n else start + most)
-    by true = h
-    by false = omega arith
-
-pub end_within : (n start most : ℕ) → start ≤ n → (if ltb (n - start) most then n else start + most) ≤ n
-end_within n start most h = by (ltb (n - start) most) refl
-  where
-    by : (t : Bool) → ltb (n - start) most ≡ t → (if t then n else start + most) ≤ n
-    by true e = omega arith
-    by false e = omega (arith, ltb-false (n - start) most e)
 
 -- behind the first, a segment starts past the front
 pub past_front : (most i : ℕ) → 1 ≤ most → (i ≡ 0 → ⊥) → 1 ≤ i * most

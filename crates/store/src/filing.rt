@@ -10,14 +10,6 @@ use channel::Limits;
 use channel::places::slot_of;
 use slots::ring;
 
-// Where a segment that starts at a place of a unit of n octets ends.
-fn end_of(start: usize, most: usize, n: usize) -> usize
-    requires { start ≤ n }
-    ensures { result ≡ (if ltb (n - start) most then n else start + most) }
-{
-    if n - start < most { n } else { start + most }
-}
-
 // The octets of a unit from a place on, as many as a slot has or the unit has left, go to a slot.
 fn file_from(
     limits: Limits,
@@ -31,14 +23,15 @@ fn file_from(
     requires slot_lt_slots { (slot < limits.slots) × (start ≤ length unit.now) }
     ensures { (mem.new ≡ laid mem.old (slot * limits.payload) (take limits.payload (drop start unit.now))) × (lens.new ≡ set lens.old slot (length (take limits.payload (drop start unit.now)))) }
 {
-    let end = end_of(start, limits.payload, unit.len());
+    let left = &unit[start..];
+    let count = limits.payload.min(left.len());
     slots::file_segment(
         mem,
         lens,
         slot,
         limits.slots,
         limits.payload,
-        &unit[start..end],
+        &left[..count],
     );
 }
 
@@ -51,10 +44,8 @@ fn file_part(limits: Limits, mem: &mut [u8], lens: &mut [u16], slot: usize, unit
     let start = i * limits.payload;
     if limits.lead == 0 {
         file_from(limits, mem, lens, slot, unit, start);
-        return;
-    }
-    if i == 0 {
-        let end = end_of(0, limits.payload - 1, unit.len());
+    } else if i == 0 {
+        let count = (limits.payload - 1).min(unit.len());
         slots::file_led(
             mem,
             lens,
@@ -62,11 +53,11 @@ fn file_part(limits: Limits, mem: &mut [u8], lens: &mut [u16], slot: usize, unit
             limits.slots,
             limits.payload,
             0,
-            &unit[..end],
+            &unit[..count],
         );
-        return;
+    } else {
+        file_from(limits, mem, lens, slot, unit, start - 1);
     }
-    file_from(limits, mem, lens, slot, unit, start - 1);
 }
 
 // The segments of a unit go to the slots from a place on, with their lengths, and their marks are set.
@@ -84,13 +75,11 @@ pub fn file_unit(
     ensures { (result ≡ filed_marks limits.slots count marks count 0 from) × (mem.new ≡ filed_mem (slot_in limits) limits.payload limits.slots (filed limits unit.now) mem.old count 0 from) × (lens.new ≡ filed_lens (slot_in limits) limits.payload limits.slots (filed limits unit.now) lens.old count 0 from) }
 {
     let mut m = marks;
-    let mut i: usize = 0;
     let mut s = from;
-    while i < count {
+    for i in 0..count {
         let slot = slot_of(limits, s);
         file_part(limits, mem, lens, slot, unit, i);
         m[s] = slots::flags_of(count, i) + 1;
-        i += 1;
         s = ring::round(s + 1, limits.slots);
     }
     m

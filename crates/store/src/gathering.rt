@@ -9,23 +9,22 @@ use channel::places::slot_of;
 use slots::ring;
 
 // How many octets the segments have.
+#[tactic(auto, using(channel::proofs::PlaceLaws::slot_bound))]
 pub fn size_in(limits: Limits, lens: &[u16], n: usize, from: usize) -> usize
     requires { (from < limits.slots) × (limits.slots ≤ length lens.now) × (n ≤ 128) }
     ensures { result ≡ size_in (slot_in limits) lens.now limits.slots n from }
 {
     let mut sum: usize = 0;
-    let mut i: usize = 0;
     let mut s = from;
-    while i < n {
-        let slot = slot_of(limits, s);
-        sum += lens[slot] as usize;
-        i += 1;
+    for _i in 0..n {
+        sum += usize::from(lens[slot_of(limits, s)]);
         s = ring::round(s + 1, limits.slots);
     }
     sum
 }
 
 // Their octets go to the front of `out`, one segment after another. What stands behind them stays.
+#[tactic(auto, using(channel::proofs::PlaceLaws::slot_bound))]
 pub fn gather(limits: Limits, mem: &[u8], lens: &[u16], n: usize, from: usize, out: &mut [u8])
     requires sized { Sized limits.slots limits.payload mem.now lens.now }
     requires from_lt_slots { (from < limits.slots) × (n ≤ limits.slots) × (size_in (slot_in limits) lens.now limits.slots n from ≤ length out.old) }
@@ -33,13 +32,11 @@ pub fn gather(limits: Limits, mem: &[u8], lens: &[u16], n: usize, from: usize, o
     ensures { out.new ≡ laid out.old 0 (octets_in (slot_in limits) limits.payload mem.now lens.now limits.slots n from) }
 {
     let mut at: usize = 0;
-    let mut i: usize = 0;
     let mut s = from;
-    while i < n {
+    for _i in 0..n {
         let slot = slot_of(limits, s);
         slots::read_segment(mem, lens, slot, limits.slots, limits.payload, out, at);
         at += lens[slot] as usize;
-        i += 1;
         s = ring::round(s + 1, limits.slots);
     }
 }

@@ -5,7 +5,7 @@ use mathlib.Core.Bool.{Bool, true, false, ◌&&◌}
 use mathlib.Core.List.{List}
 use Prim.Native.Nat.{ℕ, ◌+◌, ◌≤◌, ◌<◌}
 use native.Mathlib.Omega.{arith}
-use borrow.Author.Tests.{lt-ltb, le-ltb, le-leb, lt-leb, eq-eqb}
+use borrow.Author.Tests.{lt-ltb, le-ltb, le-leb, lt-leb}
 use lib.Dec.{eqb}
 use lib.ListN.{length, drop, length-take, length-drop}
 use Rattle.laws.proofs.Choice.{both}
@@ -22,7 +22,6 @@ use Rattle.channel.proofs.SettingsLaws.{fit_is}
 use Rattle.channel.proofs.StandingLaws.{stands_is}
 use Rattle.table.specs.declared.surveying.Survey.{Survey}
 use Rattle.table.specs.Looking.{looks_for, same, missing}
-use Rattle.lines.specs.Fit.{fit_lines}
 use Rattle.table.specs.Lent.{part_of}
 use Rattle.table.specs.Surveying.{unsound, noted, survey_one, is_sound, refused_by, served_by, decided}
 
@@ -46,10 +45,6 @@ out_of_reach c lens slot h = go (standing c (part_of slot c.limits.slots lens)) 
     go true e = let p = stands_within c lens slot e in absurd (omega (arith, p.1, h))
     go false e = e
 
-pub beyond_reach : (c : Channel) (lens : List ℕ) (slot : ℕ) → length lens < slot
-    → standing c (part_of slot c.limits.slots lens) ≡ false
-beyond_reach c lens slot h = out_of_reach c lens slot (omega arith)
-
 -- ---- one record more
 
 module _ (v : Survey) (c : Channel) (lens : List ℕ) (j : ℕ) where
@@ -63,15 +58,7 @@ module _ (v : Survey) (c : Channel) (lens : List ℕ) (j : ℕ) where
     one_many h = simp (sound, le-leb 16 j h)
 
     module _ (few : j < 16) where
-      pub one_slots : 4096 < v.slots → survey_one v c lens j ≡ unsound v
-      unfolding survey_one
-      one_slots h = simp (sound, lt-leb 16 j few, lt-ltb 4096 v.slots h)
-
       module _ (slots : v.slots ≤ 4096) where
-        pub one_octets : 2097152 < v.octets → survey_one v c lens j ≡ unsound v
-        unfolding survey_one
-        one_octets h = simp (sound, lt-leb 16 j few, le-ltb 4096 v.slots slots, lt-ltb 2097152 v.octets h)
-
         module _ (octets : v.octets ≤ 2097152) where
           pub one_lacks : standing c (part_of v.slots c.limits.slots lens) ≡ false → survey_one v c lens j ≡ unsound v
           unfolding survey_one
@@ -84,11 +71,6 @@ module _ (v : Survey) (c : Channel) (lens : List ℕ) (j : ℕ) where
 -- ---- what is decided
 
 module _ (v : Survey) (n m l : ℕ) where
-  -- where all else is well, the lines settle it
-  pub sound_rest : 1 ≤ n → v.sound ≡ true → v.slots ≡ l → v.octets ≡ m → is_sound v n m l ≡ fit_lines n v.lines
-  unfolding is_sound
-  sound_rest h sound slots octets = simp (le-leb 1 n h, sound, eq-eqb v.slots l slots, eq-eqb v.octets m octets)
-
   pub decided_bad : is_sound v n m l ≡ false → decided v n m l ≡ refused_by v n refusal.Settings
   unfolding decided
   decided_bad e = simp (e)
@@ -102,11 +84,6 @@ module _ (v : Survey) (n m l : ℕ) where
   decided_none e h = simp (e, le-ltb v.spot.grade 48 h)
 
 -- ---- a packet's channel
-
-pub same_rest : (a : Addresses) (f : Fields) (x : ℕ) (q : Prefix) → a.channel ≡ f.channel → a.remote ≡ f.source → same_prefix a.prefix q ≡ true
-    → same a f x q ≡ looks_for (kind_of f.kind) x a.direction
-unfolding same
-same_rest a f x q e e2 e3 = simp (eq-eqb a.channel f.channel e, eq-eqb a.remote f.source e2, e3)
 
 -- its direction is looked for: Data Acks and Control Acks find a sender, Data and Control a receiver, Heartbeats and their Acks either, type 6 by what it carries
 pub kind_finds : (a : Addresses) (f : Fields) (x : ℕ) (q : Prefix) (k : Kind) → same a f x q ≡ true → kind_of f.kind ≡ k → looks_for k x a.direction ≡ true

@@ -2,7 +2,8 @@
 -- Assumes nothing.
 use mathlib.Core.Path.{◌≡◌, refl, sym, ap, ap₂, ◌∙◌, subst₂}
 use mathlib.Core.List.{List, [], ◌∷◌, ◌++◌}
-use Prim.Native.Nat.{ℕ, zero, suc}
+use Prim.Native.Nat.{ℕ, zero, suc, ◌+◌, ◌-◌}
+use native.Mathlib.Omega.{arith}
 use lib.ListN.{length, take, drop, take-append-drop}
 use lib.Seq.{drop-drop}
 use borrow.Rule.Slice.PartMut.{put_mid}
@@ -36,19 +37,22 @@ unfolding laid
 put_laid m at k n q e h =
     ap (λ (j : ℕ). take at m ++ (q ++ drop j (drop at m))) (e ∙ sym h) ∙ ap (λ (l : List ℕ). take at m ++ (q ++ l)) (drop-drop (length q) at m)
 
--- the parts as code cuts them out
-module _ (c : Channel) (d : Decision) (mem lens : List ℕ) where
-  own_mem_lem : (k : ℕ) → k ≡ area_of c.limits → take k (drop d.spot.octet mem) ≡ mine c d mem
-  own_mem_lem k e = ap (λ (n : ℕ). take n (drop d.spot.octet mem)) e
+-- what code cuts out from a to b, where a part of n elements lies
+cut : (at n a b : ℕ) (l : List ℕ) → (a ≡ at) × (b ≡ at + n) → take (b - a) (drop a l) ≡ part_of at n l
+cut at n a b l e = ap₂ (λ (k x : ℕ). take k (drop x l)) (omega (arith, e.0, e.1)) e.0
 
-  own_lens_lem : (k : ℕ) → k ≡ c.limits.slots → take k (drop d.spot.slot lens) ≡ mine_lens c d lens
-  own_lens_lem k e = ap (λ (n : ℕ). take n (drop d.spot.slot lens)) e
+-- and what then stands there is laid there
+put_cut : (at n a b : ℕ) (l q : List ℕ) → (a ≡ at) × (b ≡ at + n) → length q ≡ n → put_mid a (b - a) l q ≡ laid l at q
+put_cut at n a b l q e h = ap (λ (x : ℕ). put_mid x (b - a) l q) e.0 ∙ put_laid l at (b - a) n q (omega (arith, e.0, e.1)) h
 
-  -- they are what the ends' steps ask
-  pub own_asked : (j k : ℕ) → j ≡ area_of c.limits → k ≡ c.limits.slots → Served c d mem lens
-      → Asked c (take j (drop d.spot.octet mem)) (take k (drop d.spot.slot lens))
-  own_asked j k ej ek s =
-      subst₂ (λ (m l : List ℕ). Asked c m l) (sym (own_mem_lem j ej)) (sym (own_lens_lem k ek)) (record { standing = s.standing; sized = s.sized })
+-- the parts are what the ends' steps ask
+pub own_asked : (c : Channel) (d : Decision) (mem lens : List ℕ) (a b i j : ℕ)
+    → (a ≡ d.spot.octet) × (b ≡ d.spot.octet + area_of c.limits)
+    → (i ≡ d.spot.slot) × (j ≡ d.spot.slot + c.limits.slots)
+    → Served c d mem lens
+    → Asked c (take (b - a) (drop a mem)) (take (j - i) (drop i lens))
+own_asked c d mem lens a b i j octets slots s =
+    subst₂ (λ (m l : List ℕ). Asked c m l) (sym (cut _ _ a b mem octets)) (sym (cut _ _ i j lens slots)) (record { standing = s.standing; sized = s.sized })
 
 module _ (step : Step) (c : Channel) (d : Decision) (mem lens out : List ℕ) where
   -- a step that changes neither octets nor lengths
@@ -59,34 +63,34 @@ module _ (step : Step) (c : Channel) (d : Decision) (mem lens out : List ℕ) wh
       ap₂ (λ (m l : List ℕ). works s m l o) (sym (laid_own mem d.spot.octet (area_of c.limits))) (sym (laid_own lens d.spot.slot c.limits.slots))
       ∙ ap (λ (w : Worked Stepped). wholly d mem lens w) (sym e)
 
-  -- over the parts as code cuts them out, j octets and k lengths
-  module _ (j k : ℕ) (ej : j ≡ area_of c.limits) (ek : k ≡ c.limits.slots) where
+  -- over the parts as code cuts them out, the octets from a to b and the lengths from i to j
+  module _ (a b i j : ℕ) (octets : (a ≡ d.spot.octet) × (b ≡ d.spot.octet + area_of c.limits)) (slots : (i ≡ d.spot.slot) × (j ≡ d.spot.slot + c.limits.slots)) where
     -- a step that reads them for its answer and for what it writes out
     pub parts_read : (answer : List ℕ → Stepped) (fill : List ℕ → List ℕ → List ℕ) (s : Stepped) (o : List ℕ)
-        → s ≡ answer (take k (drop d.spot.slot lens))
-        → o ≡ fill (take k (drop d.spot.slot lens)) (take j (drop d.spot.octet mem))
+        → s ≡ answer (take (j - i) (drop i lens))
+        → o ≡ fill (take (j - i) (drop i lens)) (take (b - a) (drop a mem))
         → step c (rank_in d.spot.grade) (mine c d mem) (mine_lens c d lens) out
         ≡ works (answer (mine_lens c d lens)) (mine c d mem) (mine_lens c d lens) (fill (mine_lens c d lens) (mine c d mem))
         → works s mem lens o ≡ stepping step c d mem lens out
     parts_read answer fill s o es eo e =
-        let l = own_lens_lem c d mem lens k ek in
+        let l = cut _ _ i j lens slots in
         let zs : s ≡ answer (mine_lens c d lens) = es ∙ ap answer l in
-        let zo : o ≡ fill (mine_lens c d lens) (mine c d mem) = eo ∙ ap₂ fill l (own_mem_lem c d mem lens j ej) in
+        let zo : o ≡ fill (mine_lens c d lens) (mine c d mem) = eo ∙ ap₂ fill l (cut _ _ a b mem octets) in
         quiet s o (e ∙ sym (ap₂ (λ (x : Stepped) (y : List ℕ). works x (mine c d mem) (mine_lens c d lens) y) zs zo))
 
     -- a step that changes them, and not their size
-    pub parts_filed : (octets lengths : List ℕ → List ℕ) (s t : Stepped) (m l o : List ℕ)
+    pub parts_filed : (filed lengths : List ℕ → List ℕ) (s t : Stepped) (m l o : List ℕ)
         → s ≡ t
-        → m ≡ octets (take j (drop d.spot.octet mem))
-        → l ≡ lengths (take k (drop d.spot.slot lens))
-        → Sized c.limits.slots c.limits.payload (octets (mine c d mem)) (lengths (mine_lens c d lens))
-        → step c (rank_in d.spot.grade) (mine c d mem) (mine_lens c d lens) out ≡ works t (octets (mine c d mem)) (lengths (mine_lens c d lens)) o
-        → works s (put_mid d.spot.octet j mem m) (put_mid d.spot.slot k lens l) o ≡ stepping step c d mem lens out
-    parts_filed octets lengths s t m l o es em el sized e =
-        let zm : m ≡ octets (mine c d mem) = em ∙ ap octets (own_mem_lem c d mem lens j ej) in
-        let zl : l ≡ lengths (mine_lens c d lens) = el ∙ ap lengths (own_lens_lem c d mem lens k ek) in
+        → m ≡ filed (take (b - a) (drop a mem))
+        → l ≡ lengths (take (j - i) (drop i lens))
+        → Sized c.limits.slots c.limits.payload (filed (mine c d mem)) (lengths (mine_lens c d lens))
+        → step c (rank_in d.spot.grade) (mine c d mem) (mine_lens c d lens) out ≡ works t (filed (mine c d mem)) (lengths (mine_lens c d lens)) o
+        → works s (put_mid a (b - a) mem m) (put_mid i (j - i) lens l) o ≡ stepping step c d mem lens out
+    parts_filed filed lengths s t m l o es em el sized e =
+        let zm : m ≡ filed (mine c d mem) = em ∙ ap filed (cut _ _ a b mem octets) in
+        let zl : l ≡ lengths (mine_lens c d lens) = el ∙ ap lengths (cut _ _ i j lens slots) in
         ap₂ (λ (x y : List ℕ). works s x y o)
-        (put_laid mem d.spot.octet j (area_of c.limits) m ej (ap length zm ∙ sized.exact))
-        (put_laid lens d.spot.slot k c.limits.slots l ek (ap length zl ∙ sized.each))
+        (put_cut d.spot.octet (area_of c.limits) a b mem m octets (ap length zm ∙ sized.exact))
+        (put_cut d.spot.slot c.limits.slots i j lens l slots (ap length zl ∙ sized.each))
         ∙ ap (λ (w : Worked Stepped). wholly d mem lens w)
-        (ap₂ (λ (x y : List ℕ). works s x y o) zm zl ∙ ap (λ (x : Stepped). works x (octets (mine c d mem)) (lengths (mine_lens c d lens)) o) es ∙ sym e)
+        (ap₂ (λ (x y : List ℕ). works s x y o) zm zl ∙ ap (λ (x : Stepped). works x (filed (mine c d mem)) (lengths (mine_lens c d lens)) o) es ∙ sym e)

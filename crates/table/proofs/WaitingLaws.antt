@@ -5,7 +5,7 @@ use mathlib.Core.Bool.{Bool, true, false}
 use mathlib.Core.List.{List}
 use Prim.Native.Nat.{ℕ, zero, suc, ◌+◌, ◌*◌, ◌<◌}
 use native.Mathlib.Omega.{arith}
-use borrow.Author.Tests.{lt-ltb, le-ltb, eq-eqb, ne_eqb, eqb-true, eqb-false}
+use borrow.Author.Tests.{lt-ltb, le-ltb, ne_eqb, eqb-true, eqb-false}
 use lib.Dec.{ltb, eqb}
 use Rattle.laws.proofs.Choice.{chosen, passed_by, both, by_test, either_way}
 use Rattle.lines.specs.Lines.{before, line_at, of_rank}
@@ -13,21 +13,13 @@ use Rattle.lines.proofs.GradeLaws.{found, Waiting}
 use Rattle.channel.specs.declared.record.Channel.{Channel}
 use Rattle.channel.specs.declared.step.Stepped.{Stepped}
 use Rattle.channel.specs.Record.{sends}
-use Rattle.sender_packets.specs.HandingOut.{ready_open, ready, ranks_of}
+use Rattle.sender_packets.specs.HandingOut.{ready_open, ready}
 use Rattle.sender_packets.proofs.HandLaws.{ready_beside_lem}
 use Rattle.table.specs.declared.looking.Sought.{Sought}
-use Rattle.table.specs.Waiting.{waits, waiting_of, grade_at, rank_in, moved_by, may_move, moved}
+use Rattle.table.specs.Waiting.{waits, grade_at, rank_in, moved_by, may_move, moved}
 
 module _ (c : Channel) where
-  pub waits_sender : c.addresses.direction ≡ sends → ranks_of c ≡ waiting_of c
-  unfolding waits
-  waits_sender e = simp (eq-eqb c.addresses.direction sends e)
-
-  pub waits_receiver : (c.addresses.direction ≡ sends → ⊥) → record { control = ready_open c; again = false; fresh = false } ≡ waiting_of c
-  unfolding waits
-  waits_receiver e = simp (ne_eqb c.addresses.direction sends e)
-
-  -- and back: a packet of the rank is ready, and of a receiver it is the Heartbeat
+  -- a packet of the rank is ready, and of a receiver it is the Heartbeat
   pub waits_receives : (rank : ℕ) → (c.addresses.direction ≡ sends → ⊥) → waits rank c ≡ true → (rank ≡ 0) × (ready_open c ≡ true)
   unfolding waits
   waits_receives rank n e =

@@ -3,12 +3,12 @@
 use Rattle.std.specs.Prelude.{ℕ, Bool, true, false, ◌&&◌, List, ltb, eqb, if◌then◌else◌}
 use Rattle.lines.specs.Lines.{relist_all, served_from}
 use Rattle.lines.specs.Grades.{grade_of}
+use Rattle.lines.specs.declared.ranks.Ranks.{Ranks}
 use Rattle.channel.specs.declared.record.Channel.{Channel}
 use Rattle.channel.specs.declared.answer.Answer.{Answer}
 use Rattle.channel.specs.declared.answer.Answer.TheVariants.{Done, Repeated, Inactive, Refused}
 use Rattle.channel.specs.declared.step.Stepped.{Stepped}
 use Rattle.channel.specs.Record.{sends}
-use Rattle.sender_packets.specs.declared.handing.Ranks.{Ranks}
 use Rattle.sender_packets.specs.HandingOut.{ready_open, ready}
 use Rattle.table.specs.declared.looking.Sought.{Sought}
 use Rattle.table.specs.declared.looking.Sought.TheVariants.{Index, Question, Packet, Ready, Nobody}

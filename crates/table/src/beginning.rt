@@ -9,13 +9,9 @@ use channel::Channel;
 pub fn survey(t: &[Channel], lens: &[u16], start: Survey) -> Survey
     ensures { result ≡ surveyed t.now lens.now start }
 {
-    let n = looked_at(t.len());
-    let mut a = start;
-    let mut j = 0;
-    while j < n {
-        let b = survey_one(a, t[j], lens, j);
-        a = b;
-        j = j + 1;
+    let mut v = start;
+    for (j, c) in t[..looked_at(t.len())].iter().enumerate() {
+        v = survey_one(v, *c, lens, j);
     }
-    a
+    v
 }

@@ -8,7 +8,8 @@ use crate::surveying::{Spot, Survey};
 use channel::{Answer, Channel, Refusal};
 use lines::is_fit;
 
-// What a call answers, and the index of the channel that it served; as many as the table has records where it served none.
+// What a call answers, and the index of the channel that it served; as many as the table has records where it served none: the definition
+// `index_served` tells it so, and C is told the same number.
 #[derive(Clone, Copy)]
 pub struct Told {
     pub answer: Answer,
@@ -22,7 +23,8 @@ pub struct Placed {
     pub told: Told,
 }
 
-// The index of the record that is served, or what is told where it is no index of the table; and what was looked for and found.
+// The index of the record that is served, or what is told where it is no index of the table; and what was looked for and found. No `Option` or
+// `Result`: the definition `serving` of `walks` takes a decision with both, and serves where the index is one of the table's.
 #[derive(Clone, Copy)]
 pub struct Decision {
     pub at: usize,
@@ -31,31 +33,12 @@ pub struct Decision {
     pub spot: Spot,
 }
 
-// Whether the table passes the test for 13, and what is told if it does not.
-#[derive(Clone, Copy)]
-pub struct Verdict {
-    pub ok: bool,
-    pub told: Told,
-}
-
 // The table has 1 record at least, all stand, the lent lengths and memory are theirs to the last, and the lines are of such a table.
+#[tactic(auto, unfolding(crate::specs::Surveying::is_sound))]
 fn is_sound(v: Survey, n: usize, m: usize, l: usize) -> bool
     ensures { result ≡ is_sound v n m l }
 {
-    if n < 1 {
-        return false;
-    }
-    if !v.sound {
-        return false;
-    }
-    if v.slots != l {
-        return false;
-    }
-    if v.octets != m {
-        return false;
-    }
-    let lines = v.lines;
-    is_fit(&lines, n)
+    1 <= n && v.sound && v.slots == l && v.octets == m && is_fit(&v.lines, n)
 }
 
 // The refusal where no record suits.
@@ -63,13 +46,7 @@ fn refusal(sought: Sought) -> Refusal
     ensures { result ≡ missing sought }
 {
     match sought {
-        Sought::Index(_) => Refusal::NoChannel,
-        Sought::Question(_) => Refusal::NoChannel,
-        Sought::Packet {
-            fields: _,
-            start: _,
-            length: _,
-        } => Refusal::NoChannel,
+        Sought::Index(_) | Sought::Question(_) | Sought::Packet { .. } => Refusal::NoChannel,
         Sought::Ready => Refusal::Nothing,
         Sought::Nobody(why) => why,
     }
@@ -78,36 +55,33 @@ fn refusal(sought: Sought) -> Refusal
 fn refuse(v: Survey, n: usize, why: Refusal) -> Decision
     ensures { result ≡ refused_by v n why }
 {
-    let look = v.look;
-    let spot = v.spot;
     Decision {
         at: n,
         told: Told {
             answer: Answer::Refused(why),
             index: n,
         },
-        look,
-        spot,
+        look: v.look,
+        spot: v.spot,
     }
 }
 
 fn serve(v: Survey) -> Decision
     ensures { result ≡ served_by v }
 {
-    let look = v.look;
-    let spot = v.spot;
     Decision {
         at: v.spot.at,
         told: Told {
             answer: Answer::Refused(Refusal::NoChannel),
             index: v.spot.at,
         },
-        look,
-        spot,
+        look: v.look,
+        spot: v.spot,
     }
 }
 
 // Of a table of n records with m octets and l lengths: 13 before anything else.
+#[tactic(auto, unfolding(crate::specs::Surveying::decided))]
 pub fn decide(v: Survey, n: usize, m: usize, l: usize) -> Decision
     ensures { result ≡ decided v n m l }
 {
@@ -117,20 +91,18 @@ pub fn decide(v: Survey, n: usize, m: usize, l: usize) -> Decision
     if v.spot.grade < UNFIT {
         return serve(v);
     }
-    let look = v.look;
-    let sought = look.sought;
-    let why = refusal(sought);
-    refuse(v, n, why)
+    refuse(v, n, refusal(v.look.sought))
 }
 
-pub fn judge(v: Survey, n: usize, m: usize, l: usize) -> Verdict
+// Whether the table passes the test for 13, and what is told if it does not.
+pub fn judge(v: Survey, n: usize, m: usize, l: usize) -> Result<(), Told>
     ensures { result ≡ judged v n m l }
 {
-    Verdict {
-        ok: is_sound(v, n, m, l),
-        told: Told {
-            answer: Answer::Refused(Refusal::Settings),
-            index: n,
-        },
+    if is_sound(v, n, m, l) {
+        return Ok(());
     }
+    Err(Told {
+        answer: Answer::Refused(Refusal::Settings),
+        index: n,
+    })
 }

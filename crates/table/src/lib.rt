@@ -6,9 +6,10 @@
 pub mod beginning;
 pub mod deciding;
 pub mod looking;
+pub mod own;
 pub mod surveying;
 pub mod waiting;
 
-pub use deciding::{Decision, Placed, Told, Verdict};
+pub use deciding::{Decision, Placed, Told};
 pub use looking::{Look, Sought};
 pub use surveying::Survey;

@@ -1,12 +1,11 @@
 // Which record of the table a call is for: the one with an index, the one that a packet is for, or the one whose packet goes next.
-ghost use Rattle.std.specs.Prelude.{◌≡◌, ◌<◌};
-ghost use Rattle.table.specs.Looking.{flow_finds, looks_for, same, seeking, indexed, addressed, graded};
+ghost use Rattle.std.specs.Prelude.{◌≡◌, ◌<◌, if◌then◌else◌};
+ghost use Rattle.table.specs.Looking.{flow_finds, looks_for, same, seeking, graded};
 ghost use Rattle.table.specs.Waiting.{grade_at};
 
 use crate::waiting::waiting;
 use channel::record::{RECEIVES, SENDS};
 use channel::{Addresses, Channel, Prefix, Refusal, prefixes};
-use packet::kinds::kind_of;
 use packet::{Fields, Kind};
 
 #[derive(Clone, Copy)]
@@ -40,14 +39,11 @@ pub fn seek(sought: Sought) -> Look
 {
     Look {
         sought,
-        prefix: Prefix {
-            length: 0,
-            octets: [0; 15],
-        },
+        prefix: Prefix::NONE,
     }
 }
 
-// The grade of a record that does not suit.
+// The grade of a record that does not suit. The definition `graded` holds the number, so it is no `Option`.
 pub const UNFIT: usize = 48;
 
 // Of type 6: with an octet it is Flow Control and looks for a sender, without it is the Ack of it.
@@ -62,48 +58,29 @@ fn looks_for(kind: Kind, length: usize, direction: u8) -> bool
     ensures { result ≡ looks_for kind length direction }
 {
     match kind {
-        Kind::Data => direction == RECEIVES,
-        Kind::DataAck => direction == SENDS,
-        Kind::Open => direction == RECEIVES,
-        Kind::Close => direction == RECEIVES,
-        Kind::Heartbeat => true,
-        Kind::HeartbeatAck => true,
+        Kind::Data | Kind::Open | Kind::Close | Kind::Lacking(_) => direction == RECEIVES,
+        Kind::DataAck | Kind::ControlAck => direction == SENDS,
         Kind::FlowControl => direction == flow_finds(length),
-        Kind::ControlAck => direction == SENDS,
-        Kind::Lacking(_) => direction == RECEIVES,
+        Kind::Heartbeat | Kind::HeartbeatAck => true,
     }
 }
 
 // The packet, with so many octets and its prefix, is for the channel with these addresses.
+#[tactic(auto, unfolding(crate::specs::Looking::same))]
 fn is_same(a: Addresses, f: Fields, length: usize, prefix: Prefix) -> bool
     ensures { result ≡ same a f length prefix }
 {
-    if a.channel != f.channel {
-        return false;
-    }
-    if a.remote != f.source {
-        return false;
-    }
-    if !prefixes::is_same(a.prefix, prefix) {
-        return false;
-    }
-    looks_for(kind_of(f.kind), length, a.direction)
+    a.channel == f.channel
+        && a.remote == f.source
+        && prefixes::is_same(a.prefix, prefix)
+        && looks_for(Kind::from(f.kind), length, a.direction)
 }
 
-fn grade_index(i: usize, j: usize) -> usize
-    ensures { result ≡ indexed i j }
+// A record suits in full or not at all.
+fn grade_whole(suits: bool) -> usize
+    ensures { result ≡ (if suits then 0 else 48) }
 {
-    if i == j { 0 } else { UNFIT }
-}
-
-fn grade_packet(f: Fields, length: usize, prefix: Prefix, a: Addresses) -> usize
-    ensures { result ≡ addressed f length prefix a }
-{
-    if is_same(a, f, length, prefix) {
-        0
-    } else {
-        UNFIT
-    }
+    if suits { 0 } else { UNFIT }
 }
 
 // Whose turn it is by the lines.
@@ -111,8 +88,7 @@ fn grade_ready(lines: [u8; 51], j: usize, c: Channel) -> usize
     requires { j < 16 }
     ensures { result ≡ grade_at j c lines }
 {
-    let w = waiting(c);
-    lines::grade(&lines, j, w.control, w.again, w.fresh)
+    lines::grade(&lines, j, waiting(c))
 }
 
 // How well the record at index j suits: 0 best, UNFIT not at all.
@@ -120,15 +96,11 @@ pub fn grade(look: Look, lines: [u8; 51], j: usize, c: Channel) -> usize
     requires { j < 16 }
     ensures { result ≡ graded look lines j c }
 {
-    let sought = look.sought;
-    match sought {
-        Sought::Index(i) => grade_index(i, j),
-        Sought::Question(i) => grade_index(i, j),
-        Sought::Packet {
-            fields,
-            start: _,
-            length,
-        } => grade_packet(fields, length, look.prefix, c.addresses),
+    match look.sought {
+        Sought::Index(i) | Sought::Question(i) => grade_whole(i == j),
+        Sought::Packet { fields, length, .. } => {
+            grade_whole(is_same(c.addresses, fields, length, look.prefix))
+        }
         Sought::Ready => grade_ready(lines, j, c),
         Sought::Nobody(_) => UNFIT,
     }

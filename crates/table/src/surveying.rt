@@ -11,19 +11,20 @@ use lines::{is_fit, read};
 // The most records of a table.
 pub const MOST_RECORDS: usize = 16;
 
-// How many of n records, or of n settings, are looked at: one more than there may be shows that there are too many.
+// How many of n records are looked at: one more than there may be shows that there are too many.
 pub fn looked_at(n: usize) -> usize
     ensures { result ≡ looked_at n }
 {
-    if MOST_RECORDS < n {
-        MOST_RECORDS + 1
-    } else {
-        n
-    }
+    n.min(MOST_RECORDS + 1)
 }
 
-// No table of sound records has more octets.
+// No table of sound records has more slots, nor more octets.
+pub const MOST_SLOTS: usize = 4096;
+
 pub const MOST_OCTETS: usize = 2097152;
+
+// How many octets the lines have.
+pub const LINES: usize = 51;
 
 // A record of the table: its index, where its lengths and its octets begin, and how well it suits.
 #[derive(Clone, Copy)]
@@ -35,6 +36,7 @@ pub struct Spot {
 }
 
 // What the records so far have shown: what is looked for, the lines, whether they are lines and all records stand, how many slots and octets they have together, and the best.
+// No `Option` in place of `sound`: a table that fails is told what was looked for, too (`refused_by`).
 #[derive(Clone, Copy)]
 pub struct Survey {
     pub look: Look,
@@ -74,43 +76,20 @@ fn start(look: Look, lines: [u8; 51], sound: bool) -> Survey
 pub fn begin(look: Look, lines: &[u8]) -> Survey
     ensures { result ≡ begun look lines.now }
 {
-    if !is_fit(lines, MOST_RECORDS) {
-        let none = [0u8; 51];
-        return start(look, none, false);
-    }
-    start(look, read(lines), true)
-}
-
-// A record lacks its condition, or there are too many: nothing after it counts.
-fn spoilt(v: Survey) -> Survey
-    ensures { result ≡ unsound v }
-{
-    let look = v.look;
-    let spot = v.spot;
-    let lines = v.lines;
-    Survey {
-        look,
-        lines,
-        sound: false,
-        slots: v.slots,
-        octets: v.octets,
-        spot,
+    if is_fit(lines, MOST_RECORDS) {
+        start(look, read(lines), true)
+    } else {
+        start(look, [0; 51], false)
     }
 }
 
 // The record stands with its own lengths, those from a slot on.
+#[tactic(auto, using(crate::proofs::OneLaws::out_of_reach))]
 fn stands_at(c: Channel, lens: &[u16], slot: usize) -> bool
     ensures { result ≡ standing c (take c.limits.slots (drop slot lens.now)) }
 {
     let slots = c.limits.slots;
-    if lens.len() < slot {
-        return false;
-    }
-    if lens.len() - slot < slots {
-        return false;
-    }
-    let end = slot + slots;
-    stands(c, &lens[slot..end])
+    slot <= lens.len() && slots <= lens.len() - slot && stands(c, &lens[slot..slot + slots])
 }
 
 fn choose(old: Spot, new: Spot) -> Spot
@@ -124,44 +103,36 @@ fn note(v: Survey, c: Channel, j: usize) -> Survey
     requires { (j < 16) × (c.limits.slots ≤ 128) × (c.limits.payload ≤ 1024) × (v.slots ≤ 4294967296) × (v.octets ≤ 2097152) }
     ensures { result ≡ noted v c j }
 {
-    let look = v.look;
-    let lines = v.lines;
-    let suits = grade(look, lines, j, c);
     let here = Spot {
         at: j,
         slot: v.slots,
         octet: v.octets,
-        grade: suits,
+        grade: grade(v.look, v.lines, j, c),
     };
-    let spot = choose(v.spot, here);
     Survey {
-        look,
-        lines,
         sound: true,
         slots: v.slots + c.limits.slots,
         octets: v.octets + area(c.limits),
-        spot,
+        spot: choose(v.spot, here),
+        ..v
     }
 }
 
-// One record more.
+// One record more. Where it lacks its condition, or there are too many, nothing after it counts.
+#[tactic(auto, unfolding(crate::specs::Surveying::survey_one))]
 pub fn survey_one(v: Survey, c: Channel, lens: &[u16], j: usize) -> Survey
     ensures { result ≡ survey_one v c lens.now j }
 {
     if !v.sound {
         return v;
     }
-    if MOST_RECORDS <= j {
-        return spoilt(v);
+    if j < MOST_RECORDS
+        && v.slots <= MOST_SLOTS
+        && v.octets <= MOST_OCTETS
+        && stands_at(c, lens, v.slots)
+    {
+        note(v, c, j)
+    } else {
+        Survey { sound: false, ..v }
     }
-    if 4096 < v.slots {
-        return spoilt(v);
-    }
-    if MOST_OCTETS < v.octets {
-        return spoilt(v);
-    }
-    if !stands_at(c, lens, v.slots) {
-        return spoilt(v);
-    }
-    note(v, c, j)
 }

@@ -6,21 +6,21 @@ ghost use Rattle.table.specs.Waiting.{waiting_of, rank_in, moved_with, may_move}
 use crate::looking::Sought;
 use channel::record::SENDS;
 use channel::{Answer, Channel};
-use lines::{relist, serve};
-use sender_packets::{Ranks, is_open_ready, ranks_of};
+use lines::{Ranks, relist, serve};
+use sender_packets::{is_open_ready, ranks_of};
 
 // Of which ranks a packet is ready; a receiver hands out its Heartbeat and Flow Control alone.
+#[tactic(auto, unfolding(crate::specs::Waiting::waits))]
 pub fn waiting(c: Channel) -> Ranks
     ensures { result ≡ waiting_of c }
 {
-    if c.addresses.direction != SENDS {
-        return Ranks {
-            control: is_open_ready(c),
-            again: false,
-            fresh: false,
-        };
+    if c.addresses.direction == SENDS {
+        return ranks_of(c);
     }
-    ranks_of(c)
+    Ranks {
+        control: is_open_ready(c),
+        ..Ranks::NONE
+    }
 }
 
 // The rank of a grade: 0 Control, Heartbeats and Flow Control, 1 resent Data, 2 new Data.
@@ -28,40 +28,11 @@ pub fn rank_in(grade: usize) -> usize
     ensures { result ≡ rank_in grade }
 {
     if grade < 16 {
-        return 0;
-    }
-    if grade < 32 { 1 } else { 2 }
-}
-
-fn move_by(lines: &mut [u8], sought: Sought, rank: usize, i: usize, w: Ranks)
-    requires { (Fit 16 lines.old) × (rank < 3) × (i < 16) }
-    ensures { lines.new ≡ moved_with sought rank i w lines.old }
-{
-    match sought {
-        Sought::Index(_) => relist(lines, i, w.control, w.again, w.fresh),
-        Sought::Question(_) => {}
-        Sought::Packet {
-            fields: _,
-            start: _,
-            length: _,
-        } => relist(lines, i, w.control, w.again, w.fresh),
-        Sought::Ready => serve(lines, rank, i, w.control, w.again, w.fresh),
-        Sought::Nobody(_) => {}
-    }
-}
-
-// Only 0, 9 and 15 change a record.
-fn may_move(a: Answer) -> bool
-    ensures { result ≡ may_move a }
-{
-    match a {
-        Answer::Done {
-            length: _,
-            confirmed: _,
-        } => true,
-        Answer::Repeated { length: _ } => true,
-        Answer::Inactive(_) => true,
-        Answer::Refused(_) => false,
+        0
+    } else if grade < 32 {
+        1
+    } else {
+        2
     }
 }
 
@@ -71,8 +42,13 @@ pub fn move_lines(lines: &mut [u8], sought: Sought, rank: usize, i: usize, answe
     requires { (Fit 16 lines.old) × (rank < 3) × (i < 16) }
     ensures { lines.new ≡ (if may_move answer then moved_with sought rank i w lines.old else lines.old) }
 {
-    if !may_move(answer) {
+    // Only 0, 9 and 15 change a record.
+    if matches!(answer, Answer::Refused(_)) {
         return;
     }
-    move_by(lines, sought, rank, i, w);
+    match sought {
+        Sought::Index(_) | Sought::Packet { .. } => relist(lines, i, w),
+        Sought::Ready => serve(lines, rank, i, w),
+        Sought::Question(_) | Sought::Nobody(_) => {}
+    }
 }

@@ -2,9 +2,10 @@
 -- Assumes nothing.
 use mathlib.Core.Path.{◌≡◌}
 use mathlib.Core.Bool.{true, false}
-use Prim.Native.Nat.{◌+◌, ◌≤◌, ◌<◌}
-use borrow.Author.Tests.{eq-eqb, ne_eqb, lt-ltb, le-ltb}
+use Prim.Native.Nat.{◌+◌, ◌<◌}
+use borrow.Author.Tests.{eq-eqb, ne_eqb, lt-ltb}
 use lib.Dec.{eqb}
+use Rattle.std.specs.Prelude.{Some, is_some}
 use Rattle.laws.proofs.Choice.{chosen, passed_by}
 use Rattle.channel.specs.declared.record.Channel.{Channel}
 use Rattle.channel.specs.Record.{sends}
@@ -25,19 +26,15 @@ unfolding ticked_by
 tick_receives c e = passed_by (eqb c.addresses.direction sends) _ _ (ne_eqb _ _ e)
 
 module _ (x : Ticked) (r : First) where
-  pub round_told : r.any ≡ true → first_by x r ≡ r
+  pub round_told : is_some r.reason ≡ true → first_by x r ≡ r
   unfolding first_by
   round_told e = simp (e)
 
-  module _ (none : r.any ≡ false) where
-    pub round_first : x.inactive ≡ true → first_by x r ≡ record { index = r.index; reason = x.channel.phase.reason; any = true }
+  module _ (none : is_some r.reason ≡ false) where
+    pub round_first : x.inactive ≡ true → first_by x r ≡ record { index = r.index; reason = Some x.channel.phase.reason }
     unfolding first_by
     round_first e = simp (none, e)
 
     pub round_on : x.inactive ≡ false → r.index < 16 → first_by x r ≡ quiet (r.index + 1)
     unfolding first_by
     round_on e h = simp (none, e, lt-ltb r.index 16 h)
-
-    pub round_full : x.inactive ≡ false → 16 ≤ r.index → first_by x r ≡ quiet r.index
-    unfolding first_by
-    round_full e h = simp (none, e, le-ltb r.index 16 h)

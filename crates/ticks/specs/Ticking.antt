@@ -1,8 +1,10 @@
 -- A tick of one channel, at either end (document 01, Answer numbers: 'A tick treats each channel alone'), and what a tick of the table has seen so
 -- far.
-use Rattle.std.specs.Prelude.{ℕ, ◌+◌, true, false, List, ltb, eqb, if◌then◌else◌}
+use Rattle.std.specs.Prelude.{ℕ, ◌+◌, List, ltb, eqb, if◌then◌else◌, Option, Some, None, is_some}
 use Rattle.channel.specs.declared.record.Channel.{Channel}
 use Rattle.channel.specs.declared.step.Ticked.{Ticked}
+use Rattle.channel.specs.declared.answer.Answer.{Answer}
+use Rattle.channel.specs.declared.answer.Answer.TheVariants.{Done, Inactive}
 use Rattle.lines.specs.Fit.{relist_fit}
 use Rattle.channel.specs.Record.{sends}
 use Rattle.sender.specs.Ticking as sender
@@ -19,14 +21,19 @@ ticked_by c = if eqb c.addresses.direction sends then sender.tick_step c else re
 
 -- none went inactive before the channel with this index
 abbrev pub quiet : ℕ → First
-quiet index = record { index = index; reason = 0; any = false }
+quiet index = record { index = index; reason = None }
 
 unfoldable pub first_by : Ticked → First → First
 first_by x r =
-    if r.any then r
-    else if x.inactive then record { index = r.index; reason = x.channel.phase.reason; any = true }
+    if is_some r.reason then r
+    else if x.inactive then record { index = r.index; reason = Some x.channel.phase.reason }
     else if ltb r.index 16 then quiet (r.index + 1)
     else quiet r.index
+
+-- 9 if some went inactive, for the reason of the first; else 0
+abbrev pub answer_by : Option ℕ → Answer
+answer_by (Some reason) = Inactive reason
+answer_by None = Done 0 0
 
 -- the place of the next channel, where there may be one
 abbrev pub next_at : ℕ → ℕ

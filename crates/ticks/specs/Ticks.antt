@@ -14,7 +14,7 @@ use Rattle.table.specs.Lent.{passes}
 use Rattle.table.specs.Waiting.{relisted_for}
 use Rattle.table.specs.Serving.{record_at, told_of}
 use Rattle.ticks.specs.declared.ticking.Round.{Round}
-use Rattle.ticks.specs.Ticking.{ticked_by, quiet, turned_by}
+use Rattle.ticks.specs.Ticking.{ticked_by, answer_by, quiet, turned_by}
 
 -- one channel after the tick
 abbrev pub tick_of : Channel → Channel
@@ -64,7 +64,7 @@ abbrev pub tick_start : List ℕ → Round
 tick_start lines = record { first = quiet 0; at = 0; lines = if eqb (length lines) 51 then lines else no_lines }
 
 abbrev pub tick_end : Round → Told
-tick_end r = told_of r.first.index (if r.first.any then Inactive r.first.reason else Done 0 0)
+tick_end r = told_of r.first.index (answer_by r.first.reason)
 
 abbrev pub end_lines : Round → List ℕ → List ℕ
 end_lines r lines = if eqb (length lines) 51 then r.lines else lines

@@ -5,95 +5,71 @@
 mod asking;
 mod exchange;
 mod numbers;
-mod show;
+mod shown;
 
-use packet::{Fields, Read};
-use show::{say, say_number, say_octet, say_octets};
+use channel::record::PROTOCOL;
+use packet::fields::{FIRST, LAST, MIDDLE, VERSION, WHOLE};
+use packet::{Fields, Kind};
 use std::io;
 
 fn main(rt: HostRuntime) -> io::Result<()> {
     check_sums(&rt)?;
     packet_controls(&rt)?;
     one_packet(&rt)?;
-    numbers::say_numbers(&rt)?;
-    say(&rt, b"\n")?;
-    exchange::say_exchanges(&rt)?;
-    Ok(())
+    numbers::print_numbers(&rt)?;
+    println!(rt)?;
+    exchange::print_exchanges(&rt)
 }
 
-fn check_sums(rt: &HostRuntime) -> io::Result<()> {
-    say(rt, b"check sum of \"123456789\": ")?;
-    say_sum(rt, crc::crc_of(b"123456789"))?;
-    say(rt, b"\ncheck sum of no octets: ")?;
-    say_sum(rt, crc::crc_of(b""))?;
-    say(rt, b"\n")
-}
-
-fn say_sum(rt: &HostRuntime, sum: u16) -> io::Result<()> {
-    say_octet(rt, (sum / 256) as u8)?;
-    say_octet(rt, (sum % 256) as u8)
+fn check_sums(rt: &impl Print) -> io::Result<()> {
+    println!(rt;
+        "check sum of \"123456789\": {:04X}",
+        crc::crc_of(b"123456789")
+    )?;
+    println!(rt; "check sum of no octets: {:04X}", crc::crc_of(b""))
 }
 
 // The flags of a first, middle, last and whole segment, on Data; and every other packet of the base.
-fn packet_controls(rt: &HostRuntime) -> io::Result<()> {
-    say(
-        rt,
-        b"Packet Control of a first, middle, last, whole segment:",
-    )?;
-    say_segment(rt, 1)?;
-    say_segment(rt, 0)?;
-    say_segment(rt, 2)?;
-    say_segment(rt, 3)?;
-    say(rt, b"\nThe same with no payload, written: answers")?;
-    say_empty(rt, 1)?;
-    say_empty(rt, 0)?;
-    say_empty(rt, 2)?;
-    say_empty(rt, 3)?;
-    say(
-        rt,
-        b"\nPacket Control of a Data Ack, Open, Close, Control Ack:",
-    )?;
-    say_control(rt, 1)?;
-    say_control(rt, 2)?;
-    say_control(rt, 3)?;
-    say_control(rt, 7)?;
-    say(rt, b"\n")
+fn packet_controls(rt: &impl Print) -> io::Result<()> {
+    let segments = [FIRST, MIDDLE, LAST, WHOLE];
+    print!(rt; "Packet Control of a first, middle, last, whole segment:")?;
+    for flags in segments {
+        print!(rt; " {:02X}", control(fields(flags, Kind::Data), b"x"))?;
+    }
+    // An empty segment is written only where it ends its unit (document 02, A8).
+    print!(rt; "\nThe same with no payload, written: answers")?;
+    for flags in segments {
+        let mut out = [0; 12];
+        let answer = packet::written_number(packet::write_packet(
+            fields(flags, Kind::Data),
+            b"",
+            b"",
+            &mut out,
+        ));
+        print!(rt; " {answer}")?;
+    }
+    print!(rt; "\nPacket Control of a Data Ack, Open, Close, Control Ack:")?;
+    for kind in [Kind::DataAck, Kind::Open, Kind::Close, Kind::ControlAck] {
+        print!(rt; " {:02X}", control(fields(WHOLE, kind), b""))?;
+    }
+    println!(rt)
 }
 
-fn say_segment(rt: &HostRuntime, flags: u8) -> io::Result<()> {
-    let mut out = [0u8; 13];
-    packet::write_packet(fields(flags, 0), b"", b"x", &mut out);
-    say(rt, b" ")?;
-    say_octet(rt, out[2])
-}
-
-// An empty segment is written only where it ends its unit (document 02, A8).
-fn say_empty(rt: &HostRuntime, flags: u8) -> io::Result<()> {
-    let mut out = [0u8; 12];
-    say(rt, b" ")?;
-    say_number(
-        rt,
-        packet::written_number(packet::write_packet(fields(flags, 0), b"", b"", &mut out)) as u64,
-    )?;
-    Ok(())
-}
-
-fn say_control(rt: &HostRuntime, kind: u8) -> io::Result<()> {
-    let mut out = [0u8; 12];
-    packet::write_packet(fields(3, kind), b"", b"", &mut out);
-    say(rt, b" ")?;
-    say_octet(rt, out[2])
+fn control(fields: Fields, payload: &[u8]) -> u8 {
+    let mut out = [0; 13];
+    let _ = packet::write_packet(fields, b"", payload, &mut out);
+    out[2]
 }
 
 // Data number 7 of channel 258, from the node with address 64 to that with address 65.
-fn fields(flags: u8, kind: u8) -> Fields {
+fn fields(flags: u8, kind: Kind) -> Fields {
     Fields {
         destination: 65,
-        protocol: 5,
-        version: 1,
+        protocol: PROTOCOL,
+        version: VERSION,
         secondary: 0,
         flags,
-        kind,
+        kind: u8::from(kind),
         channel: 258,
         number: 7,
         reserved: 0,
@@ -102,64 +78,40 @@ fn fields(flags: u8, kind: u8) -> Fields {
 }
 
 // A packet is written into a longer buffer, read back, and refused once an octet of it is changed.
-fn one_packet(rt: &HostRuntime) -> io::Result<()> {
-    let mut out = [0xAAu8; 25];
-    show_packet(rt, &mut out)
-}
-
-fn show_packet(rt: &HostRuntime, out: &mut [u8]) -> io::Result<()> {
-    let answer = packet::written_number(packet::write_packet(fields(3, 0), b"", b"fan 3 off", out));
-    say(rt, b"\na whole unit \"fan 3 off\", written: answer ")?;
-    say_number(rt, answer as u64)?;
-    say(rt, b"\nthe buffer:")?;
-    say_octets(rt, out)?;
-    say(rt, b"\nits first 21 octets, read: answer ")?;
-    say_read(rt, out, 21)?;
-    say(rt, b"\nits first 22 octets, read: answer ")?;
-    say_read(rt, out, 22)?;
-    say(rt, b"\nthe first 21 with fan 4 for fan 3, read: answer ")?;
-    call_it_fan_4(out);
-    say_read(rt, out, 21)?;
-    say(rt, b"\n")
-}
-
-fn call_it_fan_4(out: &mut [u8]) {
-    if 14 < out.len() {
-        out[14] = b'4';
+fn one_packet(rt: &impl Print) -> io::Result<()> {
+    let mut out = [0xAA; 25];
+    let answer = packet::written_number(packet::write_packet(
+        fields(WHOLE, Kind::Data),
+        b"",
+        b"fan 3 off",
+        &mut out,
+    ));
+    println!(rt; "\na whole unit \"fan 3 off\", written: answer {answer}")?;
+    print!(rt; "the buffer:")?;
+    for octet in out {
+        print!(rt; " {octet:02X}")?;
     }
+    print_reads(rt, out)
 }
 
-// The first n octets, read.
-fn say_read(rt: &HostRuntime, octets: &[u8], n: usize) -> io::Result<()> {
-    if n <= octets.len() {
-        let found = packet::read_packet(&octets[..n]);
-        say_number(rt, packet::read_number(found) as u64)?;
-        say_found(rt, found)?;
-    }
-    Ok(())
+fn print_reads(rt: &impl Print, mut out: [u8; 25]) -> io::Result<()> {
+    print!(rt; "\nits first 21 octets, read: answer ")?;
+    print_read(rt, &out[..21])?;
+    print!(rt; "its first 22 octets, read: answer ")?;
+    print_read(rt, &out[..22])?;
+    out[14] = b'4';
+    print!(rt; "the first 21 with fan 4 for fan 3, read: answer ")?;
+    print_read(rt, &out[..21])
 }
 
-fn say_found(rt: &HostRuntime, found: Read) -> io::Result<()> {
-    match found {
-        Read::Found {
-            fields,
-            prefix: _,
-            start,
-            length,
-        } => {
-            say(rt, b", channel ")?;
-            say_number(rt, fields.channel as u64)?;
-            say(rt, b", number ")?;
-            say_number(rt, fields.number as u64)?;
-            say(rt, b", payload from octet ")?;
-            say_number(rt, start as u64)?;
-            say(rt, b" on, of length ")?;
-            say_number(rt, length as u64)?;
-        }
-        Read::Short => (),
-        Read::Damaged => (),
-        Read::Lacking => (),
-        Read::Strange => (),
+fn print_read(rt: &impl Print, octets: &[u8]) -> io::Result<()> {
+    let read = packet::read_packet(octets);
+    print!(rt; "{}", packet::read_number(read))?;
+    if let Ok(found) = read {
+        print!(rt;
+            ", channel {}, number {}, payload from octet {} on, of length {}",
+            found.fields.channel, found.fields.number, found.start, found.length
+        )?;
     }
-    Ok(())
+    println!(rt)
 }

@@ -50,8 +50,8 @@ pub fn open_at(
     ensures { leaves result t.new mem.new lens.new lines.new [] ≡ saying said (served t.old mem.old lens.old lines.old (Open index) [] []) }
 {
     let n = open_asked(index);
-    let x: [u8; 0] = [0; 0];
-    let mut out: [u8; 0] = [0; 0];
+    let x: [u8; 0] = [];
+    let mut out: [u8; 0] = [];
     let a = serve(t, mem, lens, lines, n, &x, &mut out);
     let r = said_of(a);
     r
@@ -68,8 +68,8 @@ pub fn move_at(
     ensures { leaves result t.new mem.new lens.new lines.new [] ≡ saying said (served t.old mem.old lens.old lines.old (Move index count) [] []) }
 {
     let n = move_asked(index, count);
-    let x: [u8; 0] = [0; 0];
-    let mut out: [u8; 0] = [0; 0];
+    let x: [u8; 0] = [];
+    let mut out: [u8; 0] = [];
     let a = serve(t, mem, lens, lines, n, &x, &mut out);
     let r = said_of(a);
     r
@@ -86,7 +86,7 @@ pub fn transfer_at(
     ensures { leaves result t.new mem.new lens.new lines.new [] ≡ saying said (served t.old mem.old lens.old lines.old (Transfer index) x.now []) }
 {
     let n = transfer_asked(index);
-    let mut out: [u8; 0] = [0; 0];
+    let mut out: [u8; 0] = [];
     let a = serve(t, mem, lens, lines, n, x, &mut out);
     let r = said_of(a);
     r
@@ -103,7 +103,7 @@ pub fn take_at(
     ensures { leaves result t.new mem.new lens.new lines.new out.new ≡ saying said (served t.old mem.old lens.old lines.old (Take index) [] out.old) }
 {
     let n = take_asked(index);
-    let x: [u8; 0] = [0; 0];
+    let x: [u8; 0] = [];
     let a = serve(t, mem, lens, lines, n, &x, out);
     let r = said_of(a);
     r

@@ -24,7 +24,7 @@ pub fn fill(t: &mut [Channel], s: &[Settings]) -> usize
     while j < t.len() {
         let c = make_one(s[j]);
         t[j] = c;
-        j = j + 1;
+        j += 1;
     }
     t.len()
 }
@@ -39,9 +39,8 @@ pub fn see(s: &[Settings], lens: &[u16], a: Survey) -> Survey
 pub fn weigh(v: Survey, n: usize, k: usize, m: usize, l: usize) -> Verdict
     ensures { result ≡ weighed v n k m l }
 {
-    let holds = n == k;
     Verdict {
-        holds,
+        holds: n == k,
         told: Told { code: 1, index: n },
     }
 }

@@ -12,8 +12,10 @@ use crate::ticking::tick;
 pub fn said_of(a: Told) -> Said
     ensures { result ≡ said a }
 {
-    let done = a.code == 0;
-    Said { code: a.code, done }
+    Said {
+        code: a.code,
+        done: a.code == 0,
+    }
 }
 
 pub fn tick_said(t: &mut [Channel], mem: &[u8], lens: &[u16], lines: &mut [u8]) -> Said

@@ -10,22 +10,20 @@ use crate::surveying::survey;
 pub fn serve_begin(lines: &[u8], n: Request, x: &[u8], room: usize) -> Survey
     ensures { result ≡ begun lines.now n x.now room }
 {
-    let at = match n {
-        Request::Open(i) => i,
-        Request::Move(i, _) => i,
-        Request::Transfer(i) => i,
-        Request::Take(i) => i,
-        Request::Arrival(i) => i,
-    };
-    Survey { sound: true, at }
+    match n {
+        Request::Open(at)
+        | Request::Move(at, _)
+        | Request::Transfer(at)
+        | Request::Take(at)
+        | Request::Arrival(at) => Survey { sound: true, at },
+    }
 }
 
 pub fn decide(v: Survey, n: usize, m: usize, l: usize) -> Decision
     ensures { result ≡ decided v n m l }
 {
-    let at = if v.sound { v.at } else { n };
     Decision {
-        at,
+        at: if v.sound { v.at } else { n },
         told: Told { code: 1, index: n },
     }
 }
@@ -46,8 +44,8 @@ pub fn serve_step(
 {
     Placed {
         channel: Channel {
-            peer: c.peer,
             count: c.count + 1,
+            ..c
         },
         told: Told {
             code: 0,

@@ -15,8 +15,10 @@ pub fn looked_at(n: usize) -> usize
 pub fn survey_one(v: Survey, c: Channel, lens: &[u16], j: usize) -> Survey
     ensures { result ≡ noted v c lens.now j }
 {
-    let sound = v.sound && c.count < 4294967295;
-    Survey { sound, at: v.at }
+    Survey {
+        sound: v.sound && c.count < u32::MAX,
+        ..v
+    }
 }
 
 pub fn survey(t: &[Channel], lens: &[u16], start: Survey) -> Survey
@@ -28,7 +30,7 @@ pub fn survey(t: &[Channel], lens: &[u16], start: Survey) -> Survey
     while j < n {
         let b = survey_one(a, t[j], lens, j);
         a = b;
-        j = j + 1;
+        j += 1;
     }
     a
 }

@@ -32,7 +32,7 @@ pub fn tick_all(t: &mut [Channel], start: Round) -> Round
         let s = tick_next(t[i], a);
         t[i] = s.channel;
         a = s.round;
-        i = i + 1;
+        i += 1;
     }
     a
 }

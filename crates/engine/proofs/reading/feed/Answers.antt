@@ -7,9 +7,10 @@ use Rattle.engine.proofs.reading.feed.Goals as goal
 pub loop-at-init : goal.loop-at-init
 loop-at-init c = begins _ _ _ _ _ c.still_held-n.ensures.0 c.still_held-n.ensures.1 (omega arith)
 
-pub returns-then-ends_record : goal.returns-then-ends_record
-returns-then-ends_record c =
-    let l = c.loop-at in record { feeds = (λ h. gives_record _ _ _ _ l.buffer l.n l.at l.invariant (omega arith) c.told.result c.told.ensures (sym c.ends_record.ensures.0 ∙ c.if-ends_record.true)); value = (λ h. absurd (omega (arith, l.invariant.wide))) }
+pub returns-then-ends_record-clause-feeds : goal.returns-then-ends_record-clause-feeds
+returns-then-ends_record-clause-feeds c =
+    let l = c.loop-at in
+    λ h. gives_record _ _ _ _ l.buffer l.n l.at l.invariant (omega arith) c.little.result c.little.ensures (sym c.ends_record.ensures.0 ∙ c.if-ends_record.true)
 
 pub loop-at-preserved : goal.loop-at-preserved
 loop-at-preserved c =

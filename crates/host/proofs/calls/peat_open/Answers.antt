@@ -2,18 +2,16 @@
 use Rattle.std.proofs.Common.{ap, ◌∙◌, []}
 use Rattle.walks.specs.Serving.{Called, changes}
 use Rattle.channel.specs.declared.record.Channel.{Channel}
-use Rattle.table.specs.declared.deciding.Told.{Told}
 use Rattle.keeps.proofs.Staying.{open_stays}
-use Rattle.host.specs.Said.{said_of}
+use Rattle.host.specs.declared.answers.Said.{Said}
 use Rattle.host.proofs.calls.peat_open.Goals as goal
 
 pub returns : goal.returns
 returns c =
     let a = c.args in
-    let e = rw c.open_asked-n.ensures at c.serve-a.ensures in
-    let stays = open_stays a.t.now a.mem.now a.lens.now a.lines.now [] [] a.index in
-    rw c.said_of-r.ensures (
-      ap (λ (w : Called Told Channel). changes (said_of w.answer) w.table w.lines) e,
-      ap (λ (w : Called Told Channel). w.mem) e ∙ stays.0,
-      ap (λ (w : Called Told Channel). w.lens) e ∙ stays.1,
+    let e = c.serve_said.ensures in
+    let stays = open_stays a.t.now a.mem.now a.lens.now a.lines.now [] [] a.index in (
+      ap (λ (w : Called Said Channel). changes w.answer w.table w.lines) e,
+      ap (λ (w : Called Said Channel). w.mem) e ∙ stays.0,
+      ap (λ (w : Called Said Channel). w.lens) e ∙ stays.1,
     )

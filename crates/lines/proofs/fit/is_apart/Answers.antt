@@ -1,42 +1,30 @@
 -- `lines::fit::is_apart` meets its contract. The invariant: whether those left are below n, apart, and not marked, is whether all are below n and apart.
-use Prim.Native.Nat.{◌≤◌, ◌<◌}
-use lib.ListN.{get_or, length-set}
-use Rattle.lines.specs.Lines.{line_in}
-use Rattle.lines.proofs.CodeLaws as code
 use mathlib.Core.Path.{refl, sym, ◌∙◌}
-use native.Mathlib.Omega.{arith}
+use lib.ListN.{length-set}
+use Rattle.lines.proofs.CodeLaws as code
 use Rattle.lines.proofs.fit.is_apart.Goals as goal
+use Rattle.lines.proofs.fit.is_apart.Goals.{then-n-x-via-then-n-x, then-n-x-via-else-n-x+then-passed-x}
 
-pub loop-k-init : goal.loop-k-init
-loop-k-init c = (omega arith, code.fresh_all c.args.n (line_in c.args.line.now) c.requires.0, refl)
+pub loop-x-init : goal.loop-x-init
+loop-x-init c = (code.fresh_all c.args.n c.args.row.now c.requires, refl)
 
 pub returns-then-n-x : goal.returns-then-n-x
 returns-then-n-x c =
-    let at = c.loop-k in
-    let o = c.args.line.now in
-    let few : get_or o 0 0 ≤ 16 = omega (arith, c.requires.2, c.requires.3) in
-    let h : at.k < get_or o 0 0 = omega (arith, c.loop-k-test.true, c.requires.3) in
-    sym (code.too_high o c.requires.1 few at.passed c.args.n at.k h (omega arith)) ∙ at.invariant.1
+    let at = c.loop-x in
+    let a = c.args in
+    elim c.then-n-x.branch [
+      | then-n-x-via-then-n-x w ↦ sym (code.too_high a.row.now at.passed a.n at.x-index c.loop-x-test.true w.if-n-x.true) ∙ at.invariant.0
+      | then-n-x-via-else-n-x+then-passed-x w ↦ sym (code.twice a.row.now at.passed a.n at.x-index c.loop-x-test.true w.if-passed-x.true) ∙ at.invariant.0
+    ]
 
-pub returns-then-passed-x-ne0 : goal.returns-then-passed-x-ne0
-returns-then-passed-x-ne0 c =
-    let at = c.loop-k in
-    let o = c.args.line.now in
-    let few : get_or o 0 0 ≤ 16 = omega (arith, c.requires.2, c.requires.3) in
-    let h : at.k < get_or o 0 0 = omega (arith, c.loop-k-test.true, c.requires.3) in
-    sym (code.twice o c.requires.1 few at.passed c.args.n at.k h c.if-passed-x-ne0.true) ∙ at.invariant.1
-
-pub loop-k-preserved : goal.loop-k-preserved
-loop-k-preserved c =
-    let at = c.loop-k in
-    let o = c.args.line.now in
-    let few : get_or o 0 0 ≤ 16 = omega (arith, c.requires.2, c.requires.3) in
-    let h : at.k < get_or o 0 0 = omega (arith, c.loop-k-test.true, c.requires.3) in
-    (omega arith, sym (code.goes_on o c.requires.1 few at.passed c.args.n at.k h (omega arith) c.if-passed-x-ne0.false) ∙ at.invariant.1, simp length-set at.invariant.2)
+pub loop-x-preserved : goal.loop-x-preserved
+loop-x-preserved c =
+    let at = c.loop-x in
+    let a = c.args in
+    (sym (code.goes_on a.row.now at.passed a.n at.x-index c.loop-x-test.true c.if-n-x.false c.if-passed-x.false) ∙ at.invariant.0, simp length-set at.invariant.1)
 
 pub returns : goal.returns
 returns c =
-    let at = c.loop-k in
-    let o = c.args.line.now in
-    let few : get_or o 0 0 ≤ 16 = omega (arith, c.requires.2, c.requires.3) in
-    sym (code.fresh_ends o c.requires.1 few at.passed c.args.n at.k (omega (arith, c.loop-k-test.false, c.requires.3))) ∙ at.invariant.1
+    let at = c.loop-x in
+    let a = c.args in
+    sym (code.fresh_ends a.row.now at.passed a.n at.x-index c.loop-x-test.false) ∙ at.invariant.0

@@ -1,5 +1,6 @@
 -- `lines::ranks::grade_in` meets its contract.
 use mathlib.Core.Path.{sym}
+use native.Mathlib.Omega.{arith}
 use Rattle.laws.proofs.Choice.{first_not}
 use Rattle.lines.proofs.GradeLaws as grade
 use Rattle.lines.proofs.CodeLaws as code
@@ -10,12 +11,8 @@ returns-then-not-ready c =
     let a = c.args in
     sym (grade.grade_not a.rank a.i a.ready a.lines.now (first_not a.ready _ c.if-not-ready.true))
 
-pub returns-then-p-lt-NOWHERE : goal.returns-then-p-lt-NOWHERE
-returns-then-p-lt-NOWHERE c =
+pub overflow_add-result : goal.overflow_add-result
+overflow_add-result c =
     let a = c.args in
-    code.graded a.lines.now a.rank a.i a.ready c.if-not-ready.false c.place-p.result c.place-p.ensures c.if-p-lt-NOWHERE.true
-
-pub returns-else-p-lt-NOWHERE : goal.returns-else-p-lt-NOWHERE
-returns-else-p-lt-NOWHERE c =
-    let a = c.args in
-    code.not_graded a.lines.now a.rank a.i a.ready c.if-not-ready.false c.place-p.result c.place-p.ensures c.if-p-lt-NOWHERE.false
+    let g = code.graded a.lines.now a.rank a.i a.ready c.if-not-ready.false c.in-Some.p c.in-Some.ensures in
+    omega arith

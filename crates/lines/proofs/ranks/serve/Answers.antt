@@ -1,8 +1,7 @@
 -- `lines::ranks::serve` meets its contract: it leaves the line of the rank, and is relisted.
-use mathlib.Core.Path.{sym, ap, ◌∙◌}
+use mathlib.Core.Path.{sym}
 use mathlib.Core.Path.{subst}
 use native.Mathlib.Omega.{arith}
-use Rattle.lines.specs.Lines.{relist_all, served_from}
 use Rattle.lines.specs.Fit.{Fit}
 use Rattle.lines.proofs.FitLaws as fit
 use Rattle.lines.proofs.ranks.serve.Goals as goal
@@ -11,9 +10,3 @@ pub relist-requires : goal.relist-requires
 relist-requires c =
     let a = c.args in
     (subst (Fit 16) (sym c.leave_from.ensures) (fit.left_fit 16 a.lines.now c.requires.0 _ (omega arith) a.i), c.requires.2)
-
-pub returns : goal.returns
-unfolding served_from
-returns c =
-    let a = c.args in
-    c.relist.ensures ∙ ap (relist_all a.i a.r0 a.r1 a.r2) c.leave_from.ensures

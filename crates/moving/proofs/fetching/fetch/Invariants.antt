@@ -10,12 +10,9 @@ use Rattle.moving.proofs.fetching.fetch.Given as goal
 
 abbrev pub invariant-loop-i : goal.invariant-loop-i
 invariant-loop-i l =
-    (l.i ≤ l.n)
+    (l._i ≤ l.n)
     × (l.s < l.limits.slots)
-    × (l.s ≡ round_of l.limits.slots (l.from + l.i))
+    × (l.s ≡ round_of l.limits.slots (l.from + l._i))
     × (length l.out ≡ length l.initial.out)
-    × (l.at ≤ l.end)
-    × (laid l.out l.at (take (l.end - l.at) (drop l.skip (octets_in (slot_in l.limits) l.limits.payload l.mem l.lens l.limits.slots (l.n - l.i) l.s))) ≡ laid l.initial.out l.first (take (l.end - l.first) (drop l.start (octets_in (slot_in l.limits) l.limits.payload l.mem l.lens l.limits.slots l.n l.from))))
-
-abbrev pub decreases-loop-i : goal.decreases-loop-i
-decreases-loop-i l = l.n - l.i
+    × (l.at ≤ length l.initial.out)
+    × (laid l.out l.at (take (length l.initial.out - l.at) (drop l.skip (octets_in (slot_in l.limits) l.limits.payload l.mem l.lens l.limits.slots (l.n - l._i) l.s))) ≡ laid l.initial.out 0 (take (length l.initial.out) (drop l.start (octets_in (slot_in l.limits) l.limits.payload l.mem l.lens l.limits.slots l.n l.from))))

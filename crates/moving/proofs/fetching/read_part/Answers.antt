@@ -13,7 +13,7 @@ pub returns-then-n-skip : goal.returns-then-n-skip
 returns-then-n-skip c =
     let a = c.args in
     let pre = c.requires in
-    let none = read_none a.slots a.most a.mem.now a.lens.now a.slot a.skip (a.end - a.at) pre.sized pre.slot_lt_slots.0 pre.slot_lt_slots.1 (omega arith) in
+    let none = read_none a.slots a.most a.mem.now a.lens.now a.slot a.skip (length a.out.now - a.at) pre.sized pre.slot_lt_slots.0 pre.slot_lt_slots.1 (omega arith) in
     (sym (ap length none), sym (ap (laid a.out.now a.at) none ∙ laid_none a.out.now a.at))
 
 pub returns : goal.returns
@@ -21,18 +21,18 @@ returns c =
     let a = c.args in
     let pre = c.requires in
     let from = a.slot * a.most + a.skip in
-    let least = c.lesser-count.ensures in
-    let count = c.lesser-count.result in
+    let least = c.min-count.ensures in
+    let count = c.min-count.result in
     let e : from + count - from ≡ count = omega arith in
-    let some = read_some a.slots a.most a.mem.now a.lens.now a.slot a.skip (a.end - a.at) pre.sized pre.slot_lt_slots.0 pre.slot_lt_slots.1 count least (omega arith) in
+    let some = read_some a.slots a.most a.mem.now a.lens.now a.slot a.skip (length a.out.now - a.at) pre.sized pre.slot_lt_slots.0 pre.slot_lt_slots.1 count least (omega arith) in
     let long : length (take count (drop from a.mem.now)) ≡ count =
-    length-take-le count (drop from a.mem.now) (omega (arith, length-drop from a.mem.now, read_ends a.slots a.most a.mem.now a.lens.now a.slot a.skip (a.end - a.at) pre.sized pre.slot_lt_slots.0 pre.slot_lt_slots.1 count least (omega arith))) in (
+    length-take-le count (drop from a.mem.now) (omega (arith, length-drop from a.mem.now, read_ends a.slots a.most a.mem.now a.lens.now a.slot a.skip (length a.out.now - a.at) pre.sized pre.slot_lt_slots.0 pre.slot_lt_slots.1 count least (omega arith))) in (
       sym long ∙ ap length some,
       placed
           a.out.now
           a.at
           _
-          (take (a.end - a.at) (drop a.skip (segment_in a.most a.mem.now a.lens.now a.slot)))
+          (take (length a.out.now - a.at) (drop a.skip (segment_in a.most a.mem.now a.lens.now a.slot)))
           _
           (c.copy_from_slice.ensures.after ∙ ap (λ (k : ℕ). take k (drop from a.mem.now)) e ∙ some)
           (omega (arith, long, ap length some)),

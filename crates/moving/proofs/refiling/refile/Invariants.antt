@@ -18,6 +18,3 @@ invariant-loop-i l =
     × (filed_marks l.to.limits.slots l.count l.m (l.count - l.i) l.i l.s ≡ filed_marks l.to.limits.slots l.count l.initial.m l.count 0 l.fn.from)
     × (filed_mem (slot_in l.to.limits) l.to.limits.payload l.to.limits.slots (again (unit_in l.u l.initial.mem l.initial.lens)) (own_of l.to l.mem) (l.count - l.i) l.i l.s ≡ filed_mem (slot_in l.to.limits) l.to.limits.payload l.to.limits.slots (again (unit_in l.u l.initial.mem l.initial.lens)) (own_of l.to l.initial.mem) l.count 0 l.fn.from)
     × (filed_lens (slot_in l.to.limits) l.to.limits.payload l.to.limits.slots (again (unit_in l.u l.initial.mem l.initial.lens)) (lens_of l.to l.lens) (l.count - l.i) l.i l.s ≡ filed_lens (slot_in l.to.limits) l.to.limits.payload l.to.limits.slots (again (unit_in l.u l.initial.mem l.initial.lens)) (lens_of l.to l.initial.lens) l.count 0 l.fn.from)
-
-abbrev pub decreases-loop-i : goal.decreases-loop-i
-decreases-loop-i l = l.count - l.i

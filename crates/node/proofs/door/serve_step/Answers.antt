@@ -5,4 +5,4 @@ use Rattle.node.proofs.door.serve_step.Goals as goal
 pub returns : goal.returns
 returns c =
     let a = c.args in
-    placed_moved a.d a.lines.now c.step_for-s.result _ _ _ _ _ _ _ c.move_lines.ensures c.rank_in.ensures c.waiting-w.ensures c.step_for-s.ensures
+    placed_moved a.d a.lines.now c.step_for-s.result _ _ _ _ _ _ _ c.move_lines.ensures c.rank_in.ensures c.waiting.ensures c.step_for-s.ensures

@@ -5,12 +5,6 @@ use Rattle.channel.proofs.PlaceLaws.{slot_bound}
 use Rattle.channel.proofs.StandingLaws.{ringed}
 use Rattle.receiver_data.proofs.data.take_new.Goals as goal
 
-pub overflow_add-c : goal.overflow_add-c
-overflow_add-c c = let a = c.args in let r = ringed a.c a.lens.now c.requires.0.asked.standing in omega (arith, c.requires.1)
-
-pub overflow_add-c-2 : goal.overflow_add-c-2
-overflow_add-c-2 c = let a = c.args in let r = ringed a.c a.lens.now c.requires.0.asked.standing in omega (arith, c.requires.1)
-
 pub file_segment-requires : goal.file_segment-requires
 file_segment-requires c =
     let a = c.args in
@@ -21,11 +15,3 @@ file_segment-requires c =
       sized = c.requires.0.asked.sized;
       slot_lt_slots = (omega (arith, c.slot_of-slot.ensures, slot_bound a.c.limits c.round-place.result on), c.requires.0.short);
     }
-
-pub accept-requires : goal.accept-requires
-accept-requires c =
-    let a = c.args in
-    let r = ringed a.c a.lens.now c.requires.0.asked.standing in
-    let room = c.if-slots-c.false in
-    let on = round_lt a.c.limits.slots (a.c.window.place + a.d) (omega arith) in
-    (r, omega (arith, c.round-place.ensures), c.requires.0.few)

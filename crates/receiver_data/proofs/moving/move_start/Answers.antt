@@ -13,10 +13,10 @@ returns-then-not-fits c =
     let slots = a.l.slots in
     let w = v.at in
     let less = c.loop-i-test.true in
-    let one : n - v.i ≡ suc (n - (v.i + 1)) = omega (arith, less) in
+    let one : n - v._i ≡ suc (n - (v._i + 1)) = omega (arith, less) in
     let on = v.invariant.5 ∙ one in
-    let room = run_room slots a.l.segments a.marks w.behind w.place (n - (v.i + 1)) on in
-    let held = run_here slots a.l.segments a.marks (slots - w.behind) w.place (n - (v.i + 1)) on in
+    let room = run_room slots a.l.segments a.marks w.behind w.place (n - (v._i + 1)) on in
+    let held = run_here slots a.l.segments a.marks (slots - w.behind) w.place (n - (v._i + 1)) on in
     let m = slots - (w.behind + 1) in
     let e : slots - w.behind ≡ suc m = omega (arith, room) in
     let f = sym c.fits.ensures ∙ c.if-not-fits.true in
@@ -32,10 +32,10 @@ loop-i-preserved c =
     let slots = a.l.slots in
     let w = v.at in
     let less = c.loop-i-test.true in
-    let one : n - v.i ≡ suc (n - (v.i + 1)) = omega (arith, less) in
+    let one : n - v._i ≡ suc (n - (v._i + 1)) = omega (arith, less) in
     let on = v.invariant.5 ∙ one in
-    let room = run_room slots a.l.segments a.marks w.behind w.place (n - (v.i + 1)) on in
-    let held = run_here slots a.l.segments a.marks (slots - w.behind) w.place (n - (v.i + 1)) on in
+    let room = run_room slots a.l.segments a.marks w.behind w.place (n - (v._i + 1)) on in
+    let held = run_here slots a.l.segments a.marks (slots - w.behind) w.place (n - (v._i + 1)) on in
     let m = slots - (w.behind + 1) in
     let e : slots - w.behind ≡ suc m = omega (arith, room) in
     let f = sym c.fits.ensures ∙ c.if-not-fits.false in
@@ -47,7 +47,7 @@ loop-i-preserved c =
       omega (arith, room),
       omega (arith, way_le w.way mark, v.invariant.3),
       omega (arith, less),
-      run_next slots a.l.segments a.marks w.behind w.place (n - (v.i + 1)) on,
+      run_next slots a.l.segments a.marks w.behind w.place (n - (v._i + 1)) on,
       sym step ∙ ap (λ (k : ℕ). moved_by slots a.l.segments a.marks k w) (sym e) ∙ v.invariant.6,
     )
 
@@ -56,5 +56,5 @@ returns c =
     let a = c.args in
     let v = c.loop-i in
     let n = c.run-n.result in
-    let none : n - v.i ≡ 0 = omega (arith, c.loop-i-test.false) in
+    let none : n - v._i ≡ 0 = omega (arith, c.loop-i-test.false) in
     sym (run_over a.l.slots a.l.segments a.marks (a.l.slots - v.at.behind) v.at (v.invariant.5 ∙ none)) ∙ v.invariant.6

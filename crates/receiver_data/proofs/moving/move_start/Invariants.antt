@@ -5,7 +5,4 @@ use Rattle.receiver_data.specs.Moving.{moved_by}
 use Rattle.receiver_data.proofs.moving.move_start.Given as goal
 
 abbrev pub invariant-loop-i : goal.invariant-loop-i
-invariant-loop-i l = (l.slots ≤ 128) × (l.at.place < l.slots) × (l.at.behind ≤ l.slots) × (l.at.way ≤ l.at.behind) × (l.i ≤ l.n) × (run_of l.marks l.slots (l.slots - l.at.behind) l.at.place ≡ l.n - l.i) × (moved_by l.slots l.most l.marks (l.slots - l.at.behind) l.at ≡ moved_by l.slots l.most l.marks (l.slots - l.initial.at.behind) l.initial.at)
-
-abbrev pub decreases-loop-i : goal.decreases-loop-i
-decreases-loop-i l = l.n - l.i
+invariant-loop-i l = (l.l.slots ≤ 128) × (l.at.place < l.l.slots) × (l.at.behind ≤ l.l.slots) × (l.at.way ≤ l.at.behind) × (l._i ≤ l.n) × (run_of l.marks l.l.slots (l.l.slots - l.at.behind) l.at.place ≡ l.n - l._i) × (moved_by l.l.slots l.l.segments l.marks (l.l.slots - l.at.behind) l.at ≡ moved_by l.l.slots l.l.segments l.marks (l.l.slots - l.initial.at.behind) l.initial.at)

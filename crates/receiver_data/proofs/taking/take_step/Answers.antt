@@ -12,30 +12,11 @@ use Rattle.channel.proofs.StandingLaws.{ringed}
 use Rattle.receiver_data.proofs.TakeLaws.{each_fits, take_nothing, take_small, take_done, out_nothing, out_small, out_done, unit_is, size_is, octets_are, unit_behind}
 use Rattle.receiver_data.proofs.taking.take_step.Goals as goal
 
-pub overflow_sub-complete : goal.overflow_sub-complete
-overflow_sub-complete c =
-    let a = c.args in
-    let r = ringed a.c a.lens.now c.requires.standing in
-    r.way
-
 pub returns-then-complete-eq0 : goal.returns-then-complete-eq0
 returns-then-complete-eq0 c =
     let a = c.args in
     let r = ringed a.c a.lens.now c.requires.standing in
     (c.refused.ensures ∙ sym (take_nothing a.c a.lens.now (length a.out.now) c.if-complete-eq0.true), sym (out_nothing a.c a.lens.now a.mem.now a.out.now c.if-complete-eq0.true))
-
-pub back-from-requires : goal.back-from-requires
-back-from-requires c =
-    let a = c.args in
-    let r = ringed a.c a.lens.now c.requires.standing in
-    (r.place, r.behind, r.most)
-
-pub unit_of-n-requires : goal.unit_of-n-requires
-unit_of-n-requires c =
-    let a = c.args in
-    let r = ringed a.c a.lens.now c.requires.standing in
-    let low = back_lt a.c.limits.slots a.c.window.place a.c.window.behind r.place in
-    (rw c.back-from.ensures low, r.most)
 
 pub size_in-size-requires : goal.size_in-size-requires
 size_in-size-requires c =

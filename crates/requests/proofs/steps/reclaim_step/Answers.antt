@@ -1,7 +1,5 @@
 -- `requests::steps::reclaim_step` meets its contract: the parts are cut out and read.
 use mathlib.Core.Path.{ap, ◌∙◌}
-use Prim.Native.Nat.{◌+◌, ◌-◌}
-use native.Mathlib.Omega.{arith}
 use borrow.Author.Tests.{eq-eqb, ne_eqb}
 use lib.Dec.{eqb}
 use lib.ListN.{length}
@@ -20,4 +18,4 @@ returns-then-c-ne-SENDS c = let a = c.args in ap (λ (x : Stepped). works x a.me
 
 pub returns : goal.returns
 unfolding reclaim_for
-returns c = let a = c.args in parts_read reclaim_for a.c a.d a.mem.now a.lens.now a.out.now (a.d.spot.octet + c.area.result - a.d.spot.octet) (a.d.spot.slot + a.c.limits.slots - a.d.spot.slot) (omega (arith, c.area.ensures.0)) (omega arith) (λ l. reclaim_step a.c l (length a.out.now)) (λ l m. reclaim_out a.c l m a.out.now) _ _ c.reclaim_step.ensures.0 c.reclaim_step.ensures.1 (chosen (eqb a.c.addresses.direction sends) _ _ (eq-eqb _ _ c.if-c-ne-SENDS.false))
+returns c = let a = c.args in parts_read reclaim_for a.c a.d a.mem.now a.lens.now a.out.now _ _ _ _ c.octets.ensures c.slots.ensures (λ l. reclaim_step a.c l (length a.out.now)) (λ l m. reclaim_out a.c l m a.out.now) _ _ c.reclaim_step.ensures.0 c.reclaim_step.ensures.1 (chosen (eqb a.c.addresses.direction sends) _ _ (eq-eqb _ _ c.if-c-ne-SENDS.false))

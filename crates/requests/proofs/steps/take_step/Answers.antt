@@ -1,7 +1,5 @@
 -- `requests::steps::take_step` meets its contract: the parts are cut out and read.
 use mathlib.Core.Path.{ap, ◌∙◌}
-use Prim.Native.Nat.{◌+◌, ◌-◌}
-use native.Mathlib.Omega.{arith}
 use borrow.Author.Tests.{eq-eqb, ne_eqb}
 use lib.Dec.{eqb}
 use lib.ListN.{length}
@@ -20,4 +18,4 @@ returns-then-c-ne-RECEIVES c = let a = c.args in ap (λ (x : Stepped). works x a
 
 pub returns : goal.returns
 unfolding take_for
-returns c = let a = c.args in parts_read take_for a.c a.d a.mem.now a.lens.now a.out.now (a.d.spot.octet + c.area.result - a.d.spot.octet) (a.d.spot.slot + a.c.limits.slots - a.d.spot.slot) (omega (arith, c.area.ensures.0)) (omega arith) (λ l. take_step a.c l (length a.out.now)) (λ l m. take_out a.c l m a.out.now) _ _ c.take_step.ensures.0 c.take_step.ensures.1 (chosen (eqb a.c.addresses.direction receives) _ _ (eq-eqb _ _ c.if-c-ne-RECEIVES.false))
+returns c = let a = c.args in parts_read take_for a.c a.d a.mem.now a.lens.now a.out.now _ _ _ _ c.octets.ensures c.slots.ensures (λ l. take_step a.c l (length a.out.now)) (λ l m. take_out a.c l m a.out.now) _ _ c.take_step.ensures.0 c.take_step.ensures.1 (chosen (eqb a.c.addresses.direction receives) _ _ (eq-eqb _ _ c.if-c-ne-RECEIVES.false))

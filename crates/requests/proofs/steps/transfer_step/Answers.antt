@@ -1,7 +1,5 @@
 -- `requests::steps::transfer_step` meets its contract: the parts are cut out, stepped, and put back.
 use mathlib.Core.Path.{ap, ◌∙◌}
-use Prim.Native.Nat.{◌+◌, ◌-◌}
-use native.Mathlib.Omega.{arith}
 use mathlib.Core.List.{[]}
 use borrow.Author.Tests.{eq-eqb, ne_eqb}
 use lib.Dec.{eqb}
@@ -23,4 +21,4 @@ returns-then-c-ne-SENDS c = let a = c.args in ap (λ (x : Stepped). works x a.me
 
 pub returns : goal.returns
 unfolding transfer_for
-returns c = let a = c.args in let s = c.requires in let u = filed a.c.limits a.unit.now in parts_filed (transfer_for a.unit.now) a.c a.d a.mem.now a.lens.now [] (a.d.spot.octet + c.area.result - a.d.spot.octet) (a.d.spot.slot + a.c.limits.slots - a.d.spot.slot) (omega (arith, c.area.ensures.0)) (omega arith) (λ m. transfer_mem a.c u m) (λ l. transfer_lens a.c u l) _ _ _ _ [] c.transfer_step.ensures.0 c.transfer_step.ensures.1 c.transfer_step.ensures.2 (transfer_sized a.c u (mine a.c a.d a.mem.now) (mine_lens a.c a.d a.lens.now) s.standing s.sized) (chosen (eqb a.c.addresses.direction sends) _ _ (eq-eqb _ _ c.if-c-ne-SENDS.false))
+returns c = let a = c.args in let s = c.requires in let u = filed a.c.limits a.unit.now in parts_filed (transfer_for a.unit.now) a.c a.d a.mem.now a.lens.now [] _ _ _ _ c.octets.ensures c.slots.ensures (λ m. transfer_mem a.c u m) (λ l. transfer_lens a.c u l) _ _ _ _ [] c.transfer_step.ensures.0 c.transfer_step.ensures.1 c.transfer_step.ensures.2 (transfer_sized a.c u (mine a.c a.d a.mem.now) (mine_lens a.c a.d a.lens.now) s.standing s.sized) (chosen (eqb a.c.addresses.direction sends) _ _ (eq-eqb _ _ c.if-c-ne-SENDS.false))

@@ -1,23 +1,23 @@
--- `sender::ticking::lower_all` meets its contract: the invariant: the first i timers are lowered.
-use mathlib.Core.Path.{◌≡◌, ◌∙◌}
-use native.Mathlib.Omega.{arith}
-use borrow.Author.Rules.{rules}
-use lib.ListN.{length}
+-- `sender::ticking::lower_all` meets its contract: the invariant: the timers that were passed are lowered.
+use Rattle.std.proofs.Common.{◌≡◌, ◌≤◌, ◌∙◌, ap₂, ◌++◌, List, ℕ, length, get_or, arith, rules}
+use mathlib.Core.List.{map}
+use Rattle.std.proofs.lemmas.Grind.{common_steps}
+use Rattle.std.proofs.lemmas.List.{append-nil, take_all}
+use lib.ListN.{drop_of_length-le}
+use Rattle.std.proofs.lemmas.List.Edits.{map_over_more}
 use Rattle.sender.specs.Ticking.{lowered}
-use Rattle.sender.proofs.Mapped.{mapped_none, mapped_more, mapped_all}
 use Rattle.sender.proofs.ticking.lower_all.Goals as goal
 
-pub loop-i-init : goal.loop-i-init
-loop-i-init c = (omega arith, mapped_none _ _)
-
-pub loop-i-preserved : goal.loop-i-preserved
-loop-i-preserved c =
-    let at = c.loop-i in
-    let h : length c.args.left ≡ 128 = search rules in
-    (omega arith, rw (c.lower.ensures, at.invariant.1) (mapped_more _ _ _ (omega arith)))
+pub loop-ticks-preserved : goal.loop-ticks-preserved
+loop-ticks-preserved c =
+    let at = c.loop-ticks in
+    let long : length c.args.left ≡ 128 = search rules in
+    let read : get_or at.ticks-items at.ticks-index 0 ≡ get_or at.ticks-items at.ticks-index (get_or at.ticks-items at.ticks-index 0) = grind (arith, common_steps, at.invariant) in
+    rw c.saturating_sub.ensures (map_over_more lowered c.args.left at.ticks-items at.ticks-index (get_or at.ticks-items at.ticks-index 0) (omega (arith, long, c.loop-ticks-test.true)) at.invariant read)
 
 pub returns : goal.returns
 returns c =
-    let at = c.loop-i in
-    let h : length c.args.left ≡ 128 = search rules in
-    at.invariant.1 ∙ mapped_all lowered _ at.i (omega arith)
+    let at = c.loop-ticks in
+    let long : length c.args.left ≡ 128 = search rules in
+    let past : length c.args.left ≤ at.ticks-index = omega (arith, long, c.loop-ticks-test.false) in
+    at.invariant ∙ ap₂ (λ (xs ys : List ℕ). map lowered xs ++ ys) (take_all at.ticks-index c.args.left past) (drop_of_length-le c.args.left past) ∙ append-nil (map lowered c.args.left)

@@ -12,16 +12,16 @@ overflow_add-c c =
     let b = run_le a.acked a.limits.slots a.window.flight a.window.place in
     omega (arith, p.1, p.0.most, p.0.place, p.0.flight, p.0.ahead)
 
-pub freed_marks-marks-requires : goal.freed_marks-marks-requires
-freed_marks-marks-requires c =
+pub freed_marks-requires : goal.freed_marks-requires
+freed_marks-requires c =
     let a = c.args.c in
     let p = c.requires in
     let b = run_le a.acked a.limits.slots a.window.flight a.window.place in
     let d = last_le a.marks a.limits.slots c.args.n a.window.place in
     (p.0, omega (arith, p.1, p.0.flight, c.last_end_in-done.ensures))
 
-pub moved_window-window-requires : goal.moved_window-window-requires
-moved_window-window-requires c =
+pub moved_window-requires : goal.moved_window-requires
+moved_window-requires c =
     let a = c.args.c in
     let p = c.requires in
     let b = run_le a.acked a.limits.slots a.window.flight a.window.place in
@@ -30,8 +30,8 @@ moved_window-window-requires c =
 
 pub returns : goal.returns
 returns c =
-    advanced_is c.args.c c.args.n c.last_end_in-done.result c.round-place.result c.moved_window-window.result c.freed_marks-marks.result c.requires.1
+    advanced_is c.args.c c.args.n c.last_end_in-done.result c.round-place.result c.moved_window.result c.freed_marks.result c.requires.1
     c.last_end_in-done.ensures
     c.round-place.ensures
-    c.moved_window-window.ensures
-    c.freed_marks-marks.ensures
+    c.moved_window.ensures
+    c.freed_marks.ensures

@@ -6,4 +6,4 @@ pub clear-requires : goal.clear-requires
 clear-requires c =
     let a = c.args in
     let p = c.requires.0 in
-    rw c.back-from.ensures (back_lt a.c.limits.slots a.c.window.place a.c.window.behind p.place, p.most)
+    rw c.back-from.ensures (back_lt a.c.now.limits.slots a.c.now.window.place a.c.now.window.behind p.place, p.most)

@@ -1,5 +1,5 @@
 -- `sender_packets::handing::hand_data` meets its contract: the segment lies in its slot, and its writer does not refuse it.
-use Rattle.std.proofs.Common.{arith}
+use Rattle.std.proofs.Common.{arith, refl}
 use Rattle.channel.proofs.StandingLaws.{ringed}
 use Rattle.sender_packets.proofs.LyingLaws.{lying, part_plain}
 use Rattle.sender_packets.proofs.handing.hand_data.Goals as goal
@@ -10,20 +10,20 @@ overflow_add-c c =
     let r = ringed c.args.c c.args.lens.now p.0.standing in
     omega (arith, r.place, r.ahead, r.most, p.1)
 
-pub overflow_cast-i : goal.overflow_cast-i
-overflow_cast-i c =
+pub overflow_cast-number : goal.overflow_cast-number
+overflow_cast-number c =
     let p = c.requires in
     let r = ringed c.args.c c.args.lens.now p.0.standing in
     omega (arith, r.ahead, r.most, p.1)
 
-pub bounds-marks-place : goal.bounds-marks-place
-bounds-marks-place c =
+pub bounds-c-place : goal.bounds-c-place
+bounds-c-place c =
     let a = c.args in
     let y = lying a.c a.mem.now a.lens.now c.requires.0 a.i c.requires.1 c.round-place.result c.slot_of-slot.result c.round-place.ensures c.slot_of-slot.ensures in
     omega (arith, y.place, y.few)
 
-pub overflow_sub-marks : goal.overflow_sub-marks
-overflow_sub-marks c =
+pub overflow_sub-c : goal.overflow_sub-c
+overflow_sub-c c =
     let a = c.args in
     let y = lying a.c a.mem.now a.lens.now c.requires.0 a.i c.requires.1 c.round-place.result c.slot_of-slot.result c.round-place.ensures c.slot_of-slot.ensures in
     y.least
@@ -61,4 +61,4 @@ slice_bounds-send-end c =
 pub send-requires : goal.send-requires
 send-requires c =
     let a = c.args in
-    part_plain a.c a.mem.now a.lens.now c.requires.0 a.i c.round-place.result c.slot_of-slot.result c.requires.1 c.round-place.ensures c.slot_of-slot.ensures a.node c.wrapping_add_u8-number.result c.outgoing-fields.result c.wrapping_add_u8-number.ensures.value c.outgoing-fields.ensures
+    rw c.from.ensures (part_plain a.c a.mem.now a.lens.now c.requires.0 a.i c.round-place.result c.slot_of-slot.result c.requires.1 c.round-place.ensures c.slot_of-slot.ensures a.node _ c.outgoing-fields.result refl c.outgoing-fields.ensures)

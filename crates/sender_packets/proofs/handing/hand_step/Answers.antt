@@ -16,11 +16,11 @@ hand_single-requires c =
     let h = c.requires.0.standing in
     (own_fits a.c a.lens.now h, (ringed a.c a.lens.now h).window)
 
-pub returns-then-rank-eq0 : goal.returns-then-rank-eq0
-returns-then-rank-eq0 c =
+pub returns-in-0 : goal.returns-in-0
+returns-in-0 c =
     let a = c.args in
     let k = a.c in
-    let e = sym c.if-rank-eq0.true in (
+    let e = sym c.in-0.is in (
       c.hand_single.ensures.0 ∙ sym (hand_single a.node k a.lens.now a.mem.now a.out.now) ∙ ap (λ (x : ℕ). hand_step k a.lens.now x (length a.out.now)) e,
       c.hand_single.ensures.1 ∙ sym (out_single a.node k a.lens.now a.mem.now a.out.now) ∙ ap (λ (x : ℕ). hand_out a.node k a.lens.now a.mem.now x a.out.now) e,
     )
@@ -29,21 +29,21 @@ pub again_out-requires : goal.again_out-requires
 again_out-requires c =
     let k = c.args.c in
     let r = ringed k c.args.lens.now c.requires.0.standing in
-    (r, c.again_at-i.ensures, omega (arith, c.again_at-i.ensures, ready_1_is k (ready_as k c.if-rank-eq1.true c.requires.1.is)))
+    (r, c.again_at-i.ensures, omega (arith, c.again_at-i.ensures, ready_1_is k (ready_as k c.in-1.is c.requires.1.is)))
 
 pub hand_data-requires : goal.hand_data-requires
 hand_data-requires c =
     let k = c.args.c in
     let r = ringed k c.args.lens.now c.requires.0.standing in
-    (c.requires.0, omega (arith, c.again_at-i.ensures, r.flight, ready_1_is k (ready_as k c.if-rank-eq1.true c.requires.1.is)))
+    (c.requires.0, omega (arith, c.again_at-i.ensures, r.flight, ready_1_is k (ready_as k c.in-1.is c.requires.1.is)))
 
-pub returns-then-rank-eq1 : goal.returns-then-rank-eq1
-returns-then-rank-eq1 c =
+pub returns-in-1 : goal.returns-in-1
+returns-in-1 c =
     let a = c.args in
     let k = a.c in
-    let e = sym c.if-rank-eq1.true in
+    let e = sym c.in-1.is in
     let r = ringed k a.lens.now c.requires.0.standing in
-    let less : again_at k < k.window.ahead = omega (arith, r.flight, ready_1_is k (ready_as k c.if-rank-eq1.true c.requires.1.is)) in (
+    let less : again_at k < k.window.ahead = omega (arith, r.flight, ready_1_is k (ready_as k c.in-1.is c.requires.1.is)) in (
       c.hand_data.ensures.0
           ∙ ap₂ (λ (x : Channel) (i : ℕ). sent_step k x (get_or a.lens.now (slot_of k (place_at k i)) 0) (length a.out.now)) c.again_out.ensures c.again_at-i.ensures
           ∙ sym (hand_again a.node k a.lens.now a.mem.now a.out.now)
@@ -57,28 +57,28 @@ returns-then-rank-eq1 c =
 pub new_out-requires : goal.new_out-requires
 new_out-requires c =
     let k = c.args.c in
-    let two : c.args.rank ≡ 2 = omega (arith, c.requires.1.some, c.if-rank-eq0.false, c.if-rank-eq1.false) in
+    let two : c.args.rank ≡ 2 = omega (arith, c.requires.1.some) in
     (ringed k c.args.lens.now c.requires.0.standing, (ready_2_is k (ready_as k two c.requires.1.is)).0)
 
-pub hand_data-requires-2 : goal.hand_data-requires-2
-hand_data-requires-2 c =
+pub hand_data-requires-in_default : goal.hand_data-requires-in_default
+hand_data-requires-in_default c =
     let a = c.args in
     let k = a.c in
-    let two : a.rank ≡ 2 = omega (arith, c.requires.1.some, c.if-rank-eq0.false, c.if-rank-eq1.false) in
+    let two : a.rank ≡ 2 = omega (arith, c.requires.1.some) in
     let w = ready_2_is k (ready_as k two c.requires.1.is) in
     (c.requires.0, w.0)
 
-pub returns : goal.returns
-returns c =
+pub returns-in_default : goal.returns-in_default
+returns-in_default c =
     let a = c.args in
     let k = a.c in
-    let two : a.rank ≡ 2 = omega (arith, c.requires.1.some, c.if-rank-eq0.false, c.if-rank-eq1.false) in
+    let two : a.rank ≡ 2 = omega (arith, c.requires.1.some) in
     let w = ready_2_is k (ready_as k two c.requires.1.is) in (
-      c.hand_data-2.ensures.0
+      c.hand_data-in_default.ensures.0
           ∙ ap (λ (x : Channel). sent_step k x (get_or a.lens.now (slot_of k (place_at k k.window.flight)) 0) (length a.out.now)) c.new_out.ensures
           ∙ sym (hand_new a.node k a.lens.now a.mem.now a.out.now)
           ∙ ap (λ (x : ℕ). hand_step k a.lens.now x (length a.out.now)) (sym two),
-      c.hand_data-2.ensures.1
+      c.hand_data-in_default.ensures.1
           ∙ sym (out_new a.node k a.lens.now a.mem.now a.out.now (segment_sized k a.mem.now a.lens.now c.requires.0 k.window.flight w.0))
           ∙ ap (λ (x : ℕ). hand_out a.node k a.lens.now a.mem.now x a.out.now) (sym two),
     )

@@ -1,27 +1,14 @@
--- `settings::pairing::pairs_fit` meets its contract. The invariant: those before the i-th fit.
-use mathlib.Core.Path.{◌≡◌, sym, ◌∙◌}
-use native.Mathlib.Omega.{arith}
-use mathlib.Core.Bool.{true, false}
-use Rattle.channel.specs.Pairs.{pair_fits}
-use Rattle.channel.proofs.PairLaws.{pairs_none, pairs_not, pairs_more}
+-- `settings::pairing::pairs_fit` meets its contract: it asks each place of the range, and they are the pairs from the first on.
+use Rattle.std.proofs.Common.{◌∙◌, refl, length, rules, arith}
+use Rattle.std.proofs.lemmas.Iterator.{YieldsList-from_range}
+use Rattle.std.proofs.lemmas.Iterator.Search.{all_from_yields_List}
+use Rattle.channel.specs.Pairs.{pair_fits, spares_of, leads_of, ways_of}
+use Rattle.settings.proofs.Named.{pairs_all}
 use Rattle.settings.proofs.pairing.pairs_fit.Goals as goal
-
-pub returns-then-not-pair_fits : goal.returns-then-not-pair_fits
-returns-then-not-pair_fits c =
-    let at = c.loop-i in
-    let a = c.args in
-    let f : pair_fits a.r.spares a.r.leads a.r.ways a.n at.i ≡ false = sym c.pair_fits.ensures ∙ c.if-not-pair_fits.true in
-    sym (pairs_not a.r.spares a.r.leads a.r.ways a.n at.i c.loop-i-test.true f) ∙ at.invariant.1
-
-pub loop-i-preserved : goal.loop-i-preserved
-loop-i-preserved c =
-    let at = c.loop-i in
-    let a = c.args in
-    let f : pair_fits a.r.spares a.r.leads a.r.ways a.n at.i ≡ true = sym c.pair_fits.ensures ∙ c.if-not-pair_fits.false in
-    (omega arith, sym (pairs_more a.r.spares a.r.leads a.r.ways a.n at.i c.loop-i-test.true f) ∙ at.invariant.1)
 
 pub returns : goal.returns
 returns c =
-    let at = c.loop-i in
-    let a = c.args in
-    sym (pairs_none a.r.spares a.r.leads a.r.ways a.n at.i c.loop-i-test.false) ∙ at.invariant.1
+    let s = c.args.s.now in
+    let n = length s in
+    all_from_yields_List (λ i. pair_fits (spares_of s) (leads_of s) (ways_of s) n i) _ _ c.all.result c.all.ensures.ran (YieldsList-from_range 0 n n refl (omega arith)) (λ x b q k. search rules)
+    ∙ pairs_all (spares_of s) (leads_of s) (ways_of s) n n 0

@@ -23,7 +23,7 @@ returns-then-k-lt8 c =
     let a = known.args in
     let count = c.loop-count.count in
     let e = marks_set a.marks.now (λ k. (known.type_inv.marks k).fits) (a.from + count) c.eight_from-w.result c.eight_from-w.ensures in
-    c.least.ensures ∙ row_ends a.marks.now count a.n 8 a.from _ (omega arith) c.loop-count.invariant e (omega arith)
+    c.min.ensures ∙ row_ends a.marks.now count a.n 8 a.from _ (omega arith) c.loop-count.invariant e (omega arith)
 
 pub loop-count-preserved : goal.loop-count-preserved
 loop-count-preserved c =
@@ -38,3 +38,14 @@ pub returns : goal.returns
 returns c =
     let a = c.args in
     sym (row_all a.marks.now a.n c.loop-count.count a.from (omega arith))
+
+-- eight more are set, and so many are not left
+pub returns-else-k-lt8 : goal.returns-else-k-lt8
+returns-else-k-lt8 c =
+    let known = c in
+    let a = known.args in
+    let w = c.eight_from-w.result in
+    let count = c.loop-count.count in
+    let e = marks_set a.marks.now (λ k. (known.type_inv.marks k).fits) (a.from + count) w c.eight_from-w.ensures in
+    let on = row_on a.marks.now count 8 a.from c.loop-count.invariant in
+    sym (row_all a.marks.now a.n (count + 8) a.from (omega (arith, e, trailing_le 64 (unset_of 8 w), on)))

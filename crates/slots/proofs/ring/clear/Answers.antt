@@ -4,15 +4,15 @@ use native.Mathlib.Omega.{arith}
 use Rattle.slots.proofs.RingLaws.{round_lt, clear_more, clear_none}
 use Rattle.slots.proofs.ring.clear.Goals as goal
 
-pub loop-i-preserved : goal.loop-i-preserved
-loop-i-preserved c =
-    let at = c.loop-i in
+pub loop-preserved : goal.loop-preserved
+loop-preserved c =
+    let at = c.loop in
     let a = c.args in
-    let more = clear_more at.m a.slots a.n at.i at.s c.loop-i-test.true in
-    (omega arith, rw c.round-s.ensures (round_lt _ _ (omega arith)), rw c.round-s.ensures (sym more ∙ at.invariant.2))
+    let more = clear_more at.marks a.slots a.n at.counter at.s c.loop-test.true in
+    (rw c.round-s.ensures (round_lt _ _ (omega arith)), rw c.round-s.ensures (sym more ∙ at.invariant.1))
 
 pub returns : goal.returns
 returns c =
-    let at = c.loop-i in
+    let at = c.loop in
     let a = c.args in
-    sym (clear_none at.m a.slots a.n at.i at.s c.loop-i-test.false) ∙ at.invariant.2
+    sym (clear_none at.marks a.slots a.n at.counter at.s c.loop-test.false) ∙ at.invariant.1

@@ -11,7 +11,7 @@ pub returns-then-k-span : goal.returns-then-k-span
 returns-then-k-span c =
     let at = c.loop-count in
     let a = c.args in
-    let span = c.least-span.result in
+    let span = c.min-span.result in
     omega
     (arith, c.row-k.ensures, run_ends_in a.marks.now a.slots span (a.n - at.count) at.s (omega arith) (omega arith) (omega arith))
 
@@ -19,7 +19,7 @@ pub loop-count-preserved : goal.loop-count-preserved
 loop-count-preserved c =
     let at = c.loop-count in
     let a = c.args in
-    let span = c.least-span.result in
+    let span = c.min-span.result in
     let all = row_all a.marks.now span span at.s (omega arith) in
     let on = run_goes_on a.marks.now a.slots span (a.n - at.count) at.s (omega arith) (omega arith) (omega arith) all in
     let e : a.n - at.count - span ≡ a.n - (at.count + span) = omega arith in

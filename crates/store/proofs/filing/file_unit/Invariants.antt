@@ -15,6 +15,3 @@ invariant-loop-i l =
     × (filed_marks l.limits.slots l.count l.m (l.count - l.i) l.i l.s ≡ filed_marks l.limits.slots l.count l.initial.m l.count 0 l.fn.from)
     × (filed_mem (slot_in l.limits) l.limits.payload l.limits.slots (filed l.limits l.unit) l.mem (l.count - l.i) l.i l.s ≡ filed_mem (slot_in l.limits) l.limits.payload l.limits.slots (filed l.limits l.unit) l.initial.mem l.count 0 l.fn.from)
     × (filed_lens (slot_in l.limits) l.limits.payload l.limits.slots (filed l.limits l.unit) l.lens (l.count - l.i) l.i l.s ≡ filed_lens (slot_in l.limits) l.limits.payload l.limits.slots (filed l.limits l.unit) l.initial.lens l.count 0 l.fn.from)
-
-abbrev pub decreases-loop-i : goal.decreases-loop-i
-decreases-loop-i l = l.count - l.i

@@ -32,21 +32,9 @@ read_segment-requires c =
     let taken = c.loop-i-test.true in
     let there = c.slot_of-slot.ensures in
     let size = ap (λ (k : ℕ). get_or a.lens.now k 0) there in
-    let short = place_fits (slot_in a.limits) a.limits.payload a.lens.now a.limits.slots a.n a.from at.i at.s at.invariant.2 pre.each_fits taken in
-    let more = size_more (slot_in a.limits) a.lens.now a.limits.slots a.n at.i at.s taken in
+    let short = place_fits (slot_in a.limits) a.limits.payload a.lens.now a.limits.slots a.n a.from at._i at.s at.invariant.2 pre.each_fits taken in
+    let more = size_more (slot_in a.limits) a.lens.now a.limits.slots a.n at._i at.s taken in
     record { sized = pre.sized; slot_lt_slots = (omega (arith, there, slot_bound a.limits at.s at.invariant.1), omega arith, omega arith) }
-
-pub offset_bounds-lens-slot : goal.offset_bounds-lens-slot
-offset_bounds-lens-slot c =
-    let at = c.loop-i in
-    let a = c.args in
-    omega (arith, c.slot_of-slot.ensures, slot_bound a.limits at.s at.invariant.1)
-
-pub bounds-lens-slot : goal.bounds-lens-slot
-bounds-lens-slot c =
-    let at = c.loop-i in
-    let a = c.args in
-    omega (arith, c.slot_of-slot.ensures, slot_bound a.limits at.s at.invariant.1)
 
 pub loop-i-preserved : goal.loop-i-preserved
 loop-i-preserved c =
@@ -57,8 +45,8 @@ loop-i-preserved c =
     let slot = c.slot_of-slot in
     let laid-now = c.read_segment.ensures in
     let size = ap (λ (k : ℕ). get_or a.lens.now k 0) slot.ensures in
-    let fits = place_fits (slot_in a.limits) a.limits.payload a.lens.now a.limits.slots a.n a.from at.i at.s at.invariant.2 pre.each_fits taken in
-    let more = size_more (slot_in a.limits) a.lens.now a.limits.slots a.n at.i at.s taken in
+    let fits = place_fits (slot_in a.limits) a.limits.payload a.lens.now a.limits.slots a.n a.from at._i at.s at.invariant.2 pre.each_fits taken in
+    let more = size_more (slot_in a.limits) a.lens.now a.limits.slots a.n at._i at.s taken in
     let bound : slot.result < a.limits.slots = omega (arith, slot.ensures, slot_bound a.limits at.s at.invariant.1) in
     let short : get_or a.lens.now slot.result 0 ≤ a.limits.payload = omega arith in
     let room : at.at + get_or a.lens.now slot.result 0 ≤ length at.out = omega arith in (
@@ -66,14 +54,14 @@ loop-i-preserved c =
       rw c.round-s.ensures (round_lt _ _ (omega arith)),
       c.round-s.ensures
           ∙ ap (λ (k : ℕ). round_of a.limits.slots (k + 1)) at.invariant.2
-          ∙ round_add a.limits.slots a.from at.i 1 (omega arith),
-      gather_length (slot_in a.limits) a.limits.slots a.limits.payload a.mem.now a.lens.now a.limits.slots a.n at.i at.s slot.result at.out at.at _ _ pre.sized bound taken slot.ensures short room laid-now c.round-s.ensures ∙ at.invariant.3,
+          ∙ round_add a.limits.slots a.from at._i 1 (omega arith),
+      gather_length (slot_in a.limits) a.limits.slots a.limits.payload a.mem.now a.lens.now a.limits.slots a.n at._i at.s slot.result at.out at.at _ _ pre.sized bound taken slot.ensures short room laid-now c.round-s.ensures ∙ at.invariant.3,
       rw c.round-s.ensures (omega arith),
-      gather_more (slot_in a.limits) a.limits.slots a.limits.payload a.mem.now a.lens.now a.limits.slots a.n at.i at.s slot.result at.out at.at _ _ pre.sized bound taken slot.ensures short room laid-now c.round-s.ensures ∙ at.invariant.5,
+      gather_more (slot_in a.limits) a.limits.slots a.limits.payload a.mem.now a.lens.now a.limits.slots a.n at._i at.s slot.result at.out at.at _ _ pre.sized bound taken slot.ensures short room laid-now c.round-s.ensures ∙ at.invariant.5,
     )
 
 pub returns : goal.returns
 returns c =
     let at = c.loop-i in
     let a = c.args in
-    sym (gather_none (slot_in a.limits) a.limits.payload a.mem.now a.lens.now a.limits.slots a.n at.i at.s at.out at.at c.loop-i-test.false) ∙ at.invariant.5
+    sym (gather_none (slot_in a.limits) a.limits.payload a.mem.now a.lens.now a.limits.slots a.n at._i at.s at.out at.at c.loop-i-test.false) ∙ at.invariant.5

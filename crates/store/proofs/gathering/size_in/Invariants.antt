@@ -6,7 +6,4 @@ use Rattle.store.specs.Store.{size_in}
 use Rattle.store.proofs.gathering.size_in.Given as goal
 
 abbrev pub invariant-loop-i : goal.invariant-loop-i
-invariant-loop-i l = (l.i ≤ l.n) × (l.s < l.limits.slots) × (l.sum ≤ 65535 * l.i) × (l.sum + size_in (slot_in l.limits) l.lens l.limits.slots (l.n - l.i) l.s ≡ size_in (slot_in l.limits) l.lens l.limits.slots l.n l.from)
-
-abbrev pub decreases-loop-i : goal.decreases-loop-i
-decreases-loop-i l = l.n - l.i
+invariant-loop-i l = (l._i ≤ l.n) × (l.s < l.limits.slots) × (l.sum ≤ 65535 * l._i) × (l.sum + size_in (slot_in l.limits) l.lens l.limits.slots (l.n - l._i) l.s ≡ size_in (slot_in l.limits) l.lens l.limits.slots l.n l.from)

@@ -5,7 +5,4 @@ use Rattle.store.specs.Store.{ends_in}
 use Rattle.store.proofs.units.ends_in.Given as goal
 
 abbrev pub invariant-loop-i : goal.invariant-loop-i
-invariant-loop-i l = (l.i ≤ l.n) × (l.s < l.slots) × (l.count ≤ l.i) × (l.count + ends_in l.marks l.slots (l.n - l.i) l.s ≡ ends_in l.marks l.slots l.n l.from)
-
-abbrev pub decreases-loop-i : goal.decreases-loop-i
-decreases-loop-i l = l.n - l.i
+invariant-loop-i l = (l._i ≤ l.n) × (l.s < l.slots) × (l.count ≤ l._i) × (l.count + ends_in l.marks l.slots (l.n - l._i) l.s ≡ ends_in l.marks l.slots l.n l.from)

@@ -7,6 +7,3 @@ use Rattle.store.proofs.units.last_end_in.Given as goal
 
 abbrev pub invariant-loop-i : goal.invariant-loop-i
 invariant-loop-i l = (l.i ≤ l.n) × (l.s < l.slots) × (carried l.last l.i (last_end_in l.marks l.slots (l.n - l.i) l.s) ≡ last_end_in l.marks l.slots l.n l.from)
-
-abbrev pub decreases-loop-i : goal.decreases-loop-i
-decreases-loop-i l = l.n - l.i

@@ -4,8 +4,5 @@ use mathlib.Core.Path.{◌≡◌}
 use Rattle.store.specs.Store.{unit_of}
 use Rattle.store.proofs.units.unit_of.Given as goal
 
-abbrev pub invariant-loop-count : goal.invariant-loop-count
-invariant-loop-count l = (l.count ≤ l.n) × (l.s < l.slots) × (l.count + unit_of l.marks l.slots (l.n - l.count) l.s ≡ unit_of l.marks l.slots l.n l.from)
-
-abbrev pub decreases-loop-count : goal.decreases-loop-count
-decreases-loop-count l = l.n - l.count
+abbrev pub invariant-loop-i : goal.invariant-loop-i
+invariant-loop-i l = (l.i ≤ l.n) × (l.s < l.slots) × (l.i + unit_of l.marks l.slots (l.n - l.i) l.s ≡ unit_of l.marks l.slots l.n l.from)

@@ -4,4 +4,4 @@ use Rattle.lines.proofs.FitLaws.{fit_facts}
 use Rattle.table.proofs.surveying.begin.Goals as goal
 
 pub read-requires : goal.read-requires
-read-requires c = (fit_facts 16 c.args.lines.now (sym c.is_fit.ensures ∙ c.if-not-is_fit.false)).size
+read-requires c = (fit_facts 16 c.args.lines.now (sym c.is_fit.ensures ∙ c.if-is_fit.true)).size
