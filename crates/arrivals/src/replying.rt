@@ -42,8 +42,8 @@ pub fn reply(
     }
 }
 
-// With 0 and 15 the channel has sent an Ack with this number. It is compiled into its callers, as `replying` is: as functions of their own they
-// take 4 KB of stack more (19,656 octets of a call, where it takes 15,496).
+// With 0 and 15 the channel has sent an Ack with this number. It is compiled into its callers, as `replying` is: as functions of their own
+// they took 4 KB of stack more.
 #[inline(always)]
 pub fn acknowledged(number: u8, s: Stepped) -> Stepped
     ensures { result ≡ acknowledging number s }
