@@ -1,7 +1,7 @@
 -- Laws of the standing condition: slot by slot, and from the test to the facts and back.
 -- Assumes nothing.
 use Rattle.std.proofs.Common.{◌≡◌, ℕ, zero, suc, ◌+◌, ◌-◌, ◌<◌, ◌≤◌, Bool, true, false, not, ◌&&◌, ◌||◌, eqb, List, length, get_or, sym, refl, ap, ◌∙◌, true≢false, suc-le-suc, zero-le, le_of_suc-le-suc, not-suc-le-zero, add-zero, lt_irrefl, add-suc, zero-add, arith, ltb-true, lt-ltb, eq-eqb, ne_eqb, eqb-true, le-leb, leb-true}
-use mathlib.Core.Bool.{or-true}
+use mathlib.Core.Bool.{and_assoc, or-true}
 use borrow.Author.Tests.{eqb-false}
 use Rattle.channel.specs.Places.{slot_of}
 use Rattle.slots.specs.Ring.{run_of}
@@ -29,6 +29,27 @@ module _ (slot : ℕ → ℕ) (sending : Bool) (most : ℕ) (marks lens : List �
       → slots_fit slot sending most marks lens (n - i) i ≡ (slot_fit sending most (get_or marks i 0) (get_or lens (slot i) 0) && slots_fit slot sending most marks lens (n - (i + 1)) (i + 1))
   unfolding slots_fit
   slots_next n i l = let e : n - i ≡ suc (n - (i + 1)) = omega arith in rw e refl
+
+-- so many places fit, and those behind them: the first, and then the others
+pub slots_split : (slot : ℕ → ℕ) (sending : Bool) (most : ℕ) (marks lens : List ℕ) (m n i : ℕ)
+    → slots_fit slot sending most marks lens (m + n) i ≡ (slots_fit slot sending most marks lens m i && slots_fit slot sending most marks lens n (i + m))
+unfolding slots_fit
+slots_split slot sending most marks lens zero n i = rw (zero-add n, add-zero i)
+slots_split slot sending most marks lens (suc m) n i =
+    let e : suc m + n ≡ suc (m + n) = omega arith in
+    let p : i + 1 + m ≡ i + suc m = omega (arith, add-suc i m) in
+    let rest = slots_split slot sending most marks lens m n (i + 1) in
+    rw (e, rest, p) (sym (and_assoc (slot_fit sending most (get_or marks i 0) (get_or lens (slot i) 0)) (slots_fit slot sending most marks lens m (i + 1)) _))
+
+-- from the i-th place on, up to the j-th, and then up to the n-th
+pub slots_on : (slot : ℕ → ℕ) (sending : Bool) (most : ℕ) (marks lens : List ℕ) (n i j : ℕ) → i ≤ j → j ≤ n
+    → slots_fit slot sending most marks lens (n - i) i ≡ (slots_fit slot sending most marks lens (j - i) i && slots_fit slot sending most marks lens (n - j) j)
+slots_on slot sending most marks lens n i j a b =
+    let e : n - i ≡ j - i + (n - j) = omega arith in
+    let p : i + (j - i) ≡ j = omega arith in
+    ap (λ (k : ℕ). slots_fit slot sending most marks lens k i) e
+    ∙ slots_split slot sending most marks lens (j - i) (n - j) i
+    ∙ ap (λ (k : ℕ). slots_fit slot sending most marks lens (j - i) i && slots_fit slot sending most marks lens (n - j) k) p
 
 -- every slot fits exactly if each does
 pub slots_each : (slot : ℕ → ℕ) (sending : Bool) (most : ℕ) (marks lens : List ℕ) (n i : ℕ)

@@ -22,7 +22,7 @@ unfolding crc_from
 crc_end c s i e = ap (λ (k : ℕ). crc_from c (drop k s)) e ∙ ap (crc_from c) (drop-length s)
 
 -- as `crc_more`, the next place named
-crc_next : (c : ℕ) (s : List ℕ) (i j : ℕ) → i < length s → i + 1 ≡ j → crc_from c (drop i s) ≡ crc_from (octet_into c (get_or s i 0)) (drop j s)
+pub crc_next : (c : ℕ) (s : List ℕ) (i j : ℕ) → i < length s → i + 1 ≡ j → crc_from c (drop i s) ≡ crc_from (octet_into c (get_or s i 0)) (drop j s)
 crc_next c s i j h e = crc_more c s i h ∙ ap (λ (k : ℕ). crc_from (octet_into c (get_or s i 0)) (drop k s)) e
 
 pub crc_eight : (r : ℕ) (s : List ℕ) (i : ℕ) → i + 8 ≤ length s

@@ -156,8 +156,11 @@ pub fn peat_arrival(
     serve_said(t, mem, lens, lines, Request::Arrival(node), packet, reply)
 }
 
+// The form LentSweeping of docs/WALKS.md, to the letter.
 pub fn peat_tick(t: &mut [Channel], mem: &[u8], lens: &[u16], lines: &mut [u8]) -> Said
     ensures { changes result t.new lines.new ≡ told_at (tick_index t.old mem.now lens.now lines.old) (ticked t.old mem.now lens.now lines.old) }
 {
-    said_of(tick(t, mem, lens, lines))
+    let a = tick(t, mem, lens, lines);
+    let r = said_of(a);
+    r
 }

@@ -21,6 +21,18 @@ pub place_there : (i : ℕ) (l : List ℕ) → stands i l ≡ true → place_in 
 unfolding place_in
 place_there i l e = chosen (stands i l) (before i l) 16 e
 
+pub place_none : (i : ℕ) (l : List ℕ) → stands i l ≡ false → place_in i l ≡ 16
+unfolding place_in
+place_none i l e = passed_by (stands i l) (before i l) 16 e
+
+-- it stands at a place below 16, or not at all
+pub place_cases : (i : ℕ) (l : List ℕ) → length l ≤ 16
+    → ((stands i l ≡ true) × (place_in i l ≡ before i l) × (place_in i l < 16)) ⊎ ((stands i l ≡ false) × (place_in i l ≡ 16))
+place_cases i l short =
+    either_way (stands i l)
+    (λ e. inl (e, place_there i l e, omega (arith, place_there i l e, line.before_lt i l e, short)))
+    (λ e. inr (e, place_none i l e))
+
 -- whatever the octets are, a line has 16 at most
 pub short_line : (rank : ℕ) (s : List ℕ) → length (line_at rank s) ≤ 16
 unfolding line_in part_at

@@ -228,6 +228,12 @@ apart_without i (x ∷ l) a =
     ∙ apart_cons x (without i l) (others_stand_without x i l (λ q. m (sym q)) ∙ k.0) (apart_without i l k.1))
     (same_or_not x i)
 
+pub apart_relisted : (i : ℕ) (ready : Bool) (l : List ℕ) → apart l ≡ true → apart (relisted i ready l) ≡ true
+apart_relisted i ready l a =
+    by_relisting (λ t. apart t ≡ true) i ready l
+    (λ r. by_joining (λ t. apart t ≡ true) i l (λ e. a) (λ e. apart_tail i l e a))
+    (λ r. apart_without i l a)
+
 -- who leaves, and whoever of the table is relisted, keeps that
 pub line_without : (n i : ℕ) (l : List ℕ) → Line n l → Line n (without i l)
 line_without n i l h = record { inside = below_without n i l h.inside; once = apart_without i l h.once }
@@ -343,6 +349,13 @@ cut_out i (x ∷ l) a e =
     ∙ ap (λ (t : List ℕ). x ∷ t) (cut_out i l k.1 (sym (stands_past x i l n) ∙ e))
     ∙ sym (ap left (before_past x i l n)))
     (same_or_not x i)
+
+-- the test by the place
+pub stands_there : (i : ℕ) (l : List ℕ) → before i l < length l → stands i l ≡ true
+stands_there i l h = either_way (stands i l) (λ e. e) (λ e. absurd (omega (arith, before_all i l e)))
+
+pub stands_nowhere : (i : ℕ) (l : List ℕ) → length l ≤ before i l → stands i l ≡ false
+stands_nowhere i l h = either_way (stands i l) (λ e. absurd (omega (arith, before_lt i l e))) (λ e. e)
 
 -- no two stand at one place
 pub places_apart : (i j : ℕ) (l : List ℕ) → stands i l ≡ true → before i l ≡ before j l → i ≡ j

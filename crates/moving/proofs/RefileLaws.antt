@@ -63,7 +63,7 @@ module _ (most : ℕ) (u : List ℕ) (size i len : ℕ) (is : size ≡ length (a
 
 -- ---- octets at the front of a buffer
 
-front_laid : (m p : List ℕ) (len : ℕ) → len ≡ length p → len ≤ length m → take len (laid m 0 p) ≡ p
+pub front_laid : (m p : List ℕ) (len : ℕ) → len ≡ length p → len ≤ length m → take len (laid m 0 p) ≡ p
 front_laid m p len e h =
     ap (λ (k : ℕ). take k (laid m 0 p)) e ∙ laid_here m 0 p (omega (arith, e))
 

@@ -15,7 +15,15 @@ use table::beginning::survey;
 use table::deciding::decide;
 use table::surveying::begin;
 use table::waiting::{move_lines, rank_in, waiting};
-use table::{Decision, Placed, Told};
+use table::{Decision, Placed, Survey, Told};
+
+// A packet is read before the table is surveyed; what that says counts after the test for 13. A function of its own: so `serve` has the form Call of
+// docs/WALKS.md.
+fn serve_begin(lines: &[u8], n: Request, x: &[u8], room: usize) -> Survey
+    ensures { result ≡ begun (look_in n x.now room) lines.now }
+{
+    begin(look_in(n, x, room), lines)
+}
 
 // What is asked of the channel that was found. Each arm takes other parts of what is lent, so that a closure for each would be no plainer.
 fn step_for(
@@ -75,7 +83,7 @@ fn serve_step(
     }
 }
 
-// The call, over a lent table. A packet is read before the table is surveyed; what that says counts after the test for 13.
+// The call, over a lent table.
 pub fn serve(
     t: &mut [Channel],
     mem: &mut [u8],
@@ -87,7 +95,8 @@ pub fn serve(
 ) -> Told
     ensures { leaves result t.new mem.new lens.new lines.new out.new ≡ saying (told_of (served_index t.old mem.old lens.old lines.old n x.now out.old)) (served t.old mem.old lens.old lines.old n x.now out.old) }
 {
-    let v = survey(t, lens, begin(look_in(n, x, out.len()), lines));
+    let a = serve_begin(lines, n, x, out.len());
+    let v = survey(t, lens, a);
     let d = decide(v, t.len(), mem.len(), lens.len());
     if d.at < t.len() {
         let s = serve_step(t[d.at], d, n, mem, lens, lines, x, out);

@@ -17,7 +17,9 @@ written_of f n x room =
 -- the buffer after the answer: the packet at its front, or as it was
 unfoldable pub after_write : Result ℕ WriteError → Fields → List ℕ → List ℕ → List ℕ → List ℕ
 after_write (Ok count) f q p out = packet_of f q p ++ drop count out
-after_write (Err why) f q p out = out
+after_write (Err Lacking) f q p out = out
+after_write (Err Strange) f q p out = out
+after_write (Err (Small count)) f q p out = out
 
 -- the answer number of each case (document 01, Answer numbers)
 abbrev pub written_number : Result ℕ WriteError → ℕ

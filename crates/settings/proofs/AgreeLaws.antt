@@ -4,8 +4,8 @@ use mathlib.Core.Path.{◌≡◌}
 use mathlib.Core.Bool.{true, ◌&&◌}
 use mathlib.Core.List.{List}
 use Prim.Native.Nat.{ℕ, ◌≤◌}
-use borrow.Author.Tests.{leb-true, eqb-true}
-use lib.Dec.{leb}
+use borrow.Author.Tests.{le-leb, leb-true, eqb-true, eq-eqb}
+use lib.Dec.{leb, eqb}
 use lib.ListN.{length}
 use Rattle.laws.proofs.Choice.{both}
 use Rattle.channel.specs.declared.record.Settings.{Settings}
@@ -45,3 +45,17 @@ settled_is t mem lens lines s e =
       octets = eqb-true _ _ p3.1;
       lined = eqb-true _ _ p4.1;
     }
+
+pub is_settled_lem : (t : List Channel) (mem lens lines : List ℕ) (s : List Settings) → Settled t mem lens lines s → settled t mem lens lines s ≡ true
+unfolding settled fit_table
+is_settled_lem t mem lens lines s h =
+    simp (
+      le-leb 1 (length s) h.some,
+      le-leb (length s) most_records h.few,
+      h.fit,
+      h.pairs,
+      eq-eqb (length t) (length s) h.count,
+      eq-eqb (length lens) (all_slots (made_table s)) h.slots,
+      eq-eqb (length mem) (all_octets (made_table s)) h.octets,
+      eq-eqb (length lines) 51 h.lined,
+    )

@@ -1,11 +1,13 @@
--- How the settings of a table may be looked at, one after another, with what was seen of those before carried along. What it amounts to is `fit_table`
--- and the sums of `settled` (specs/Configuring.antt), by which the call looks at them where they lie: a reader need not look here.
-use Rattle.std.specs.Prelude.{ℕ, zero, suc, ◌+◌, Bool, true, false, not, ◌||◌, List, [], ltb, leb, eqb, length, get_or, set, replicate, if◌then◌else◌}
+-- How the settings of a table are looked at, one after another, with what was seen of those before carried along. What it amounts to is `fit_table`
+-- and the sums of `settled` (specs/Configuring.antt), by which the call looks at them where they lie; the contract of `is_settled` says that the two
+-- give the same. A reader need not look here.
+use Rattle.std.specs.Prelude.{ℕ, zero, suc, ◌+◌, Bool, true, false, not, ◌&&◌, ◌||◌, List, [], ltb, leb, eqb, length, get_or, set, replicate, if◌then◌else◌}
 use Rattle.walks.specs.Fold.{fold_from}
 use Rattle.channel.specs.declared.record.Addresses.{Addresses}
 use Rattle.channel.specs.declared.record.Settings.{Settings}
 use Rattle.channel.specs.Prefixes.{no_prefix}
 use Rattle.channel.specs.Settings.{fit, clash}
+use Rattle.channel.specs.Pairs.{pairs_from}
 use Rattle.table.specs.Lent.{area_of}
 
 -- by index: whom a record names as its spare, whether its units have a leading octet, and its direction
@@ -76,3 +78,8 @@ see_one v s lens j =
 
 abbrev pub seen : List Settings → List ℕ → Seen → Seen
 seen s lens v = fold_from see_one lens 0 v s
+
+-- of a table of n records, k settings, m octets and l lengths
+unfoldable pub is_settled : Seen → ℕ → ℕ → ℕ → ℕ → Bool
+is_settled v n k m l =
+    leb 1 k && v.sound && eqb n k && eqb v.slots l && eqb v.octets m && leb k 16 && pairs_from v.routes.spares v.routes.leads v.routes.ways k k 0

@@ -11,15 +11,18 @@ use channel::{Answer, Channel, Refusal, Settings};
 use lines::clear;
 use table::Told;
 
-// Each record is made of the settings with its index.
-fn fill(t: &mut [Channel], s: &[Settings])
+// Each record is made of the settings with its index. The form Afresh of docs/WALKS.md, to the letter.
+fn fill(t: &mut [Channel], s: &[Settings]) -> usize
     requires { length t.old ≡ length s.now }
-    ensures { t.new ≡ map made_of s.now }
+    ensures { (result ≡ length s.now) × (t.new ≡ map made_of s.now) }
 {
-    // By its index: over a zip with the settings the proof did not close, for nothing is known afterwards of records that a zip lends (`returns` was left).
-    for (i, c) in t.iter_mut().enumerate() {
-        *c = made(s[i]);
+    let mut j = 0;
+    while j < t.len() {
+        let c = made(s[j]);
+        t[j] = c;
+        j = j + 1;
     }
+    t.len()
 }
 
 // Answers 0 or 13, and serves no single channel. With 13 no record and no line has changed. The memory and the lengths are only measured.
@@ -40,7 +43,7 @@ pub fn settings(
             index,
         };
     }
-    fill(t, s);
+    let _ = fill(t, s);
     clear(lines);
     Told {
         answer: Answer::Done {

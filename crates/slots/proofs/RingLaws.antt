@@ -241,3 +241,11 @@ cleared_out m slots (suc n) from (suc i) p b h =
     ∙ cleared_out (set m from 0) slots n next i (round_lt slots (from + 1) (omega arith)) (omega arith) (omega arith)
     ∙ ap (λ (k : ℕ). get_or (set m from 0) k 0) e
     ∙ get_or-set_other m from (round_of slots (from + suc i)) 0 0 other
+
+-- and so do those past the ring
+pub cleared_past : (m : List ℕ) (slots n from j : ℕ) → from < slots → slots ≤ j → get_or (cleared m slots n from) j 0 ≡ get_or m j 0
+unfolding cleared
+cleared_past m slots zero from j p h = refl
+cleared_past m slots (suc n) from j p h =
+    cleared_past (set m from 0) slots n (round_of slots (from + 1)) j (round_lt slots (from + 1) (omega arith)) h
+    ∙ get_or-set_other m from j 0 0 (λ q. omega arith)

@@ -126,7 +126,7 @@ carried_turn true last i (suc r) = omega arith
 carried_turn false last i (suc r) = omega arith
 
 module _ (marks : List ℕ) (slots n i s last : ℕ) (l : i < n) where
-  last_more : (here : Bool) → ends (get_or marks s 0) ≡ here
+  pub last_more : (here : Bool) → ends (get_or marks s 0) ≡ here
       → carried last i (last_end_in marks slots (n - i) s)
       ≡ carried (if here then i + 1 else last) (i + 1) (last_end_in marks slots (n - (i + 1)) (round_of slots (s + 1)))
   unfolding last_end_in

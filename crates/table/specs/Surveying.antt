@@ -1,5 +1,5 @@
 -- How the survey of a table goes, record by record. What it amounts to is `serve_one` (Serving.antt): a reader need not look here.
-use Rattle.std.specs.Prelude.{◌≡◌, ℕ, ◌+◌, ◌≤◌, ◌<◌, Bool, true, false, not, ◌&&◌, List, ltb, leb, eqb, length, if◌then◌else◌, Result, Ok, Err, ⊤}
+use Rattle.std.specs.Prelude.{◌≡◌, ℕ, ◌+◌, ◌≤◌, ◌<◌, Bool, true, false, not, ◌&&◌, List, ltb, leb, eqb, length, if◌then◌else◌}
 use Rattle.slots.specs.Slots.{Sized, laid}
 use Rattle.walks.specs.Fold.{fold_from}
 use Rattle.lines.specs.Lines.{no_lines}
@@ -17,6 +17,7 @@ use Rattle.table.specs.declared.surveying.Survey.{Survey}
 use Rattle.table.specs.declared.deciding.Told.{Told}
 use Rattle.table.specs.declared.deciding.Placed.{Placed}
 use Rattle.table.specs.declared.deciding.Decision.{Decision}
+use Rattle.table.specs.declared.deciding.Verdict.{Verdict}
 use Rattle.table.specs.Waiting.{rank_in, moved}
 use Rattle.table.specs.Looking.{graded, missing}
 use Rattle.table.specs.Lent.{area_of, part_of}
@@ -61,7 +62,7 @@ survey_one v c lens j =
     else if not (standing c (part_of v.slots c.limits.slots lens)) then unsound v
     else noted v c j
 
--- of n records: one more than there may be shows that there are too many, so no more are looked at
+-- of n records, or of n settings: one more than there may be shows that there are too many, so no more are looked at
 abbrev pub looked_at : ℕ → ℕ
 looked_at n = if ltb 16 n then 17 else n
 
@@ -85,8 +86,8 @@ decided v n m l =
     else if ltb v.spot.grade 48 then served_by v
     else refused_by v n (missing v.look.sought)
 
-abbrev pub judged : Survey → ℕ → ℕ → ℕ → Result ⊤ Told
-judged v n m l = if is_sound v n m l then Ok tt else Err (told_of n (Refused refusal.Settings))
+abbrev pub judged : Survey → ℕ → ℕ → ℕ → Verdict
+judged v n m l = record { ok = is_sound v n m l; told = told_of n (Refused refusal.Settings) }
 
 -- of a decision and of what a step makes, the parts that a call reads
 abbrev pub told_roles : Roles Channel Told Placed Decision

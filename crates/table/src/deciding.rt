@@ -33,6 +33,14 @@ pub struct Decision {
     pub spot: Spot,
 }
 
+// Whether the table passes the test for 13, and what is told if it does not. No `Result`: what is told stands beside the test, whatever that gives,
+// as the definition `judged` has it.
+#[derive(Clone, Copy)]
+pub struct Verdict {
+    pub ok: bool,
+    pub told: Told,
+}
+
 // The table has 1 record at least, all stand, the lent lengths and memory are theirs to the last, and the lines are of such a table.
 #[tactic(auto, unfolding(crate::specs::Surveying::is_sound))]
 fn is_sound(v: Survey, n: usize, m: usize, l: usize) -> bool
@@ -94,15 +102,14 @@ pub fn decide(v: Survey, n: usize, m: usize, l: usize) -> Decision
     refuse(v, n, refusal(v.look.sought))
 }
 
-// Whether the table passes the test for 13, and what is told if it does not.
-pub fn judge(v: Survey, n: usize, m: usize, l: usize) -> Result<(), Told>
+pub fn judge(v: Survey, n: usize, m: usize, l: usize) -> Verdict
     ensures { result ≡ judged v n m l }
 {
-    if is_sound(v, n, m, l) {
-        return Ok(());
+    Verdict {
+        ok: is_sound(v, n, m, l),
+        told: Told {
+            answer: Answer::Refused(Refusal::Settings),
+            index: n,
+        },
     }
-    Err(Told {
-        answer: Answer::Refused(Refusal::Settings),
-        index: n,
-    })
 }

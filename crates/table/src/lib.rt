@@ -10,6 +10,6 @@ pub mod own;
 pub mod surveying;
 pub mod waiting;
 
-pub use deciding::{Decision, Placed, Told};
+pub use deciding::{Decision, Placed, Told, Verdict};
 pub use looking::{Look, Sought};
 pub use surveying::Survey;

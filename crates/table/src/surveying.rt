@@ -11,7 +11,7 @@ use lines::{is_fit, read};
 // The most records of a table.
 pub const MOST_RECORDS: usize = 16;
 
-// How many of n records are looked at: one more than there may be shows that there are too many.
+// How many of n records, or of n settings, are looked at: one more than there may be shows that there are too many.
 pub fn looked_at(n: usize) -> usize
     ensures { result ≡ looked_at n }
 {

@@ -1,7 +1,7 @@
 -- The tick of a table: the sweep amounts to each channel ticked alone, and a table that passes the test for 13 may be swept.
 -- Assumes nothing.
 use mathlib.Core.Path.{◌≡◌, refl, sym, ap, ap₂, ◌∙◌}
-use mathlib.Core.Bool.{Bool, true, false, true≢false}
+use mathlib.Core.Bool.{Bool, true, false}
 use mathlib.Core.List.{List, [], ◌∷◌, map}
 use Prim.Native.Nat.{ℕ, suc, ◌+◌, ◌≤◌}
 use native.Mathlib.Nat.{zero-add}
@@ -10,7 +10,7 @@ use borrow.Author.Tests.{lt-ltb, eq-eqb}
 use lib.Dec.{ltb, eqb}
 use lib.ListN.{length, get_or}
 use Rattle.walks.specs.Sweep.{sweep_t, sweep_a, Every}
-use Rattle.walks.specs.Serving.{changes, telling}
+use Rattle.walks.specs.Serving.{Changed, changes, telling, done_by}
 use Rattle.channel.specs.declared.record.Channel.{Channel}
 use Rattle.channel.specs.declared.answer.Answer.TheVariants.{Done, Inactive, Refused}
 use Rattle.channel.specs.declared.answer.Refusal.TheVariants as refusal
@@ -18,16 +18,15 @@ use Rattle.channel.proofs.StandingLaws.{stands_is, ringed}
 use Rattle.lines.specs.Lines.{no_lines}
 use Rattle.lines.specs.Fit.{fit_lines}
 use Rattle.lines.proofs.FitLaws.{few_of, fit_facts, fit_test, tested, listed_lines, relist_keeps}
-use Rattle.std.specs.Prelude.{Some, is_some, Result, Ok, Err, is_ok, ⊤}
-use Rattle.laws.proofs.Choice.{chosen, passed_by}
+use Rattle.std.specs.Prelude.{Some, is_some}
+use Rattle.laws.proofs.Choice.{chosen}
 use Rattle.table.specs.Waiting.{waits, relisted_for}
 use Rattle.table.specs.declared.looking.Sought.TheVariants.{Nobody}
 use Rattle.table.specs.Looking.{seeking}
 use Rattle.table.specs.Lent.{passes}
 use Rattle.table.specs.declared.deciding.Told.{Told}
 use Rattle.table.specs.Serving.{blank, told_of}
-use Rattle.table.specs.declared.surveying.Survey.{Survey}
-use Rattle.table.specs.Surveying.{begun, surveyed, is_sound, judged}
+use Rattle.table.specs.Surveying.{begun, surveyed, is_sound}
 use Rattle.table.proofs.SurveyLaws.{each_stands_lem}
 use Rattle.table.proofs.ServeLaws.{sound_passes, passing_is}
 use Rattle.ticks.specs.declared.ticking.First.{First}
@@ -100,65 +99,41 @@ swept_lines n (c ∷ t) f i lines h e =
     ∙ swept_lines n t (first_by (ticked_by c) f) (i + 1) (relisted_for i d lines) (omega (arith, h))
     (relist_keeps n lines i (waits 0 d) (waits 1 d) (waits 2 d) (omega (arith, h)) e)
 
--- ---- the call
+pub may_tick : (t : List Channel) (mem lens lines : List ℕ)
+    → is_sound (surveyed t lens (begun (seeking (Nobody refusal.NoChannel)) lines)) (length t) (length mem) (length lens) ≡ true → Every blank ticks t
+may_tick t mem lens lines e i l =
+    let h = (passing_is t mem lens lines (sym (sound_passes (seeking (Nobody refusal.NoChannel)) t lens lines mem) ∙ e)).lawful in
+    ringed (get_or t i blank) _ (stands_is (get_or t i blank) _ (each_stands_lem t lens h.stand i l))
 
-module _ (t : List Channel) (mem lens lines : List ℕ) where
-  -- the survey of a tick, and what is decided of it
-  abbrev seen : Survey
-  seen = surveyed t lens (begun (seeking (Nobody refusal.NoChannel)) lines)
+-- what is told of a table that does not pass the test
+abbrev refused : List Channel → Told
+refused t = told_of (length t) (Refused refusal.Settings)
 
-  abbrev test : Bool
-  test = is_sound seen (length t) (length mem) (length lens)
+pub tick_agreed : (t : List Channel) (mem lens lines : List ℕ)
+    → done_by (refused t) (is_sound (surveyed t lens (begun (seeking (Nobody refusal.NoChannel)) lines)) (length t) (length mem) (length lens)) t lines
+    (changes (tick_end (swept_round t (tick_start lines))) (swept_table t (tick_start lines)) (end_lines (swept_round t (tick_start lines)) lines))
+    ≡ telling (told_of (tick_index t mem lens lines)) (ticked t mem lens lines)
+unfolding done_by ticked tick_index
+tick_agreed t mem lens lines =
+    ap (λ (b : Bool). done_by (refused t) b t lines swept) (sound_passes (seeking (Nobody refusal.NoChannel)) t lens lines mem)
+    ∙ go (passes t mem lens lines) refl
+  where
+    swept : Changed Told Channel
+    swept = changes (tick_end (swept_round t (tick_start lines))) (swept_table t (tick_start lines)) (end_lines (swept_round t (tick_start lines)) lines)
 
-  abbrev verdict : Result ⊤ Told
-  verdict = judged seen (length t) (length mem) (length lens)
-
-  pub decides : (a v : Survey) (d : Result ⊤ Told) → a ≡ begun (seeking (Nobody refusal.NoChannel)) lines → v ≡ surveyed t lens a
-      → d ≡ judged v (length t) (length mem) (length lens) → d ≡ verdict
-  decides a v d p q r = r ∙ ap (λ (w : Survey). judged w (length t) (length mem) (length lens)) (q ∙ ap (surveyed t lens) p)
-
-  passing : (u : ⊤) → verdict ≡ Ok u → passes t mem lens lines ≡ true
-  passing u e = go test refl
-    where
-      go : (b : Bool) → test ≡ b → passes t mem lens lines ≡ true
-      go true p = sym (sound_passes (seeking (Nobody refusal.NoChannel)) t lens lines mem) ∙ p
-      go false p = absurd (true≢false (ap (λ (x : Result ⊤ Told). is_ok x) (sym e ∙ passed_by test _ _ p)))
-
-  failing : (told : Told) → verdict ≡ Err told → (passes t mem lens lines ≡ false) × (told ≡ told_of (length t) (Refused refusal.Settings))
-  failing told e = go test refl
-    where
-      why : Result ⊤ Told → Told
-      why (Ok u) = told
-      why (Err x) = x
-
-      go : (b : Bool) → test ≡ b → (passes t mem lens lines ≡ false) × (told ≡ told_of (length t) (Refused refusal.Settings))
-      go true p = absurd (true≢false (ap (λ (x : Result ⊤ Told). is_ok x) (sym (chosen test _ _ p) ∙ e)))
-      go false p = (sym (sound_passes (seeking (Nobody refusal.NoChannel)) t lens lines mem) ∙ p, ap why (sym e ∙ passed_by test _ _ p))
-
-  pub may_tick : (u : ⊤) → verdict ≡ Ok u → Every blank ticks t
-  may_tick u e i l =
-      let h = (passing_is t mem lens lines (passing u e)).lawful in
-      ringed (get_or t i blank) _ (stands_is (get_or t i blank) _ (each_stands_lem t lens h.stand i l))
-
-  pub tick_refused : (told : Told) → verdict ≡ Err told → changes told t lines ≡ telling (told_of (tick_index t mem lens lines)) (ticked t mem lens lines)
-  unfolding ticked tick_index
-  tick_refused told e = let f = failing told e in ap (λ (x : Told). changes x t lines) f.1 ∙ simp (f.0)
-
-  pub tick_agreed : (u : ⊤) → verdict ≡ Ok u
-      → changes (tick_end (swept_round t (tick_start lines))) (swept_table t (tick_start lines)) (end_lines (swept_round t (tick_start lines)) lines)
-      ≡ telling (told_of (tick_index t mem lens lines)) (ticked t mem lens lines)
-  unfolding ticked tick_index
-  tick_agreed u ok =
-      let e = passing u ok in
-      let p = passing_is t mem lens lines e in
-      let few = p.lawful.few in
-      let size = eq-eqb (length lines) 51 (fit_facts (length t) lines p.lined).size in
-      let from : tick_start lines ≡ first_round (quiet 0) 0 lines = ap (first_round (quiet 0) 0) (chosen (eqb (length lines) 51) lines no_lines size) in
-      let end = ap (λ (r : Round). tick_end (swept_round t r)) from ∙ swept_end t 0 0 lines (omega (arith, few)) ∙ ap (λ (n : ℕ). told_of n (tick_answer t)) (zero-add (first_inactive t)) in
-      let lined =
-      chosen (eqb (length lines) 51) (swept_round t (tick_start lines)).lines lines size
-      ∙ ap (λ (r : Round). (swept_round t r).lines) from
-      ∙ swept_lines (length t) t (quiet 0) 0 lines (omega arith) p.lined in
-      simp (e)
-      (ap₂ (λ (x : Told) (l : List Channel). changes x l (end_lines (swept_round t (tick_start lines)) lines)) end (swept_table_lem t (tick_start lines))
-      ∙ ap (changes (told_of (first_inactive t) (tick_answer t)) (map tick_of t)) lined)
+    go : (b : Bool) → passes t mem lens lines ≡ b
+        → done_by (refused t) (passes t mem lens lines) t lines swept ≡ telling (told_of (tick_index t mem lens lines)) (ticked t mem lens lines)
+    go true e =
+        let p = passing_is t mem lens lines e in
+        let few = p.lawful.few in
+        let size = eq-eqb (length lines) 51 (fit_facts (length t) lines p.lined).size in
+        let from : tick_start lines ≡ first_round (quiet 0) 0 lines = ap (first_round (quiet 0) 0) (chosen (eqb (length lines) 51) lines no_lines size) in
+        let end = ap (λ (r : Round). tick_end (swept_round t r)) from ∙ swept_end t 0 0 lines (omega (arith, few)) ∙ ap (λ (n : ℕ). told_of n (tick_answer t)) (zero-add (first_inactive t)) in
+        let lined =
+        chosen (eqb (length lines) 51) (swept_round t (tick_start lines)).lines lines size
+        ∙ ap (λ (r : Round). (swept_round t r).lines) from
+        ∙ swept_lines (length t) t (quiet 0) 0 lines (omega arith) p.lined in
+        simp (e)
+        (ap₂ (λ (x : Told) (l : List Channel). changes x l (end_lines (swept_round t (tick_start lines)) lines)) end (swept_table_lem t (tick_start lines))
+        ∙ ap (changes (told_of (first_inactive t) (tick_answer t)) (map tick_of t)) lined)
+    go false e = simp (e)

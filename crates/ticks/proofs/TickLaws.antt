@@ -2,8 +2,8 @@
 -- Assumes nothing.
 use mathlib.Core.Path.{◌≡◌}
 use mathlib.Core.Bool.{true, false}
-use Prim.Native.Nat.{◌+◌, ◌<◌}
-use borrow.Author.Tests.{eq-eqb, ne_eqb, lt-ltb}
+use Prim.Native.Nat.{◌+◌, ◌≤◌, ◌<◌}
+use borrow.Author.Tests.{eq-eqb, ne_eqb, lt-ltb, le-ltb}
 use lib.Dec.{eqb}
 use Rattle.std.specs.Prelude.{Some, is_some}
 use Rattle.laws.proofs.Choice.{chosen, passed_by}
@@ -38,3 +38,7 @@ module _ (x : Ticked) (r : First) where
     pub round_on : x.inactive ≡ false → r.index < 16 → first_by x r ≡ quiet (r.index + 1)
     unfolding first_by
     round_on e h = simp (none, e, lt-ltb r.index 16 h)
+
+    pub round_full : x.inactive ≡ false → 16 ≤ r.index → first_by x r ≡ quiet r.index
+    unfolding first_by
+    round_full e h = simp (none, e, le-ltb r.index 16 h)

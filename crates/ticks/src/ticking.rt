@@ -163,27 +163,35 @@ fn tick_end(r: Round, lines: &mut [u8]) -> Told
     tell(r.first)
 }
 
+// The form Sweep of docs/WALKS.md, to the letter.
 fn tick_all(t: &mut [Channel], start: Round) -> Round
     requires { Every blank ticks t.old }
     ensures { (result ≡ swept_round t.old start) × (t.new ≡ swept_table t.old start) }
 {
-    let mut round = start;
-    for c in t.iter_mut() {
-        let turned = tick_next(*c, round);
-        *c = turned.channel;
-        round = turned.round;
+    let mut a = start;
+    let mut i = 0;
+    while i < t.len() {
+        let s = tick_next(t[i], a);
+        t[i] = s.channel;
+        a = s.round;
+        i = i + 1;
     }
-    round
+    a
 }
 
-// All are ticked, also where one goes inactive.
+// All are ticked, also where one goes inactive. The form Sweeping of docs/WALKS.md, to the letter.
 pub fn tick(t: &mut [Channel], mem: &[u8], lens: &[u16], lines: &mut [u8]) -> Told
     ensures { changes result t.new lines.new ≡ telling (told_of (tick_index t.old mem.now lens.now lines.old)) (ticked t.old mem.now lens.now lines.old) }
 {
-    let v = survey(t, lens, tick_begin(lines));
-    if let Err(told) = judge(v, t.len(), mem.len(), lens.len()) {
-        return told;
+    let a = tick_begin(lines);
+    let v = survey(t, lens, a);
+    let d = judge(v, t.len(), mem.len(), lens.len());
+    if d.ok {
+        let k = tick_start(lines);
+        let z = tick_all(t, k);
+        let r = tick_end(z, lines);
+        r
+    } else {
+        d.told
     }
-    let round = tick_all(t, tick_start(lines));
-    tick_end(round, lines)
 }

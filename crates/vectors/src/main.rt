@@ -8,7 +8,7 @@ mod numbers;
 mod shown;
 
 use channel::record::PROTOCOL;
-use packet::fields::{FIRST, LAST, MIDDLE, VERSION, WHOLE};
+use packet::fields::{FIRST, LAST, LEAST, MIDDLE, VERSION, WHOLE};
 use packet::{Fields, Kind};
 use std::io;
 
@@ -57,7 +57,9 @@ fn packet_controls(rt: &impl Print) -> io::Result<()> {
 
 fn control(fields: Fields, payload: &[u8]) -> u8 {
     let mut out = [0; 13];
-    let _ = packet::write_packet(fields, b"", payload, &mut out);
+    // Into just the octets that it has.
+    let end = (LEAST + payload.len()).min(out.len());
+    let _ = packet::write_packet(fields, b"", payload, &mut out[..end]);
     out[2]
 }
 
