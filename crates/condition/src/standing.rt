@@ -113,10 +113,7 @@ fn slots_fit(limits: Limits, sending: bool, marks: &[u8; 128], lens: &[u16]) -> 
 fn slot_fits(sending: bool, most: u16, mark: u8, len: u16) -> bool
     ensures { result ≡ slot_fit sending most mark len }
 {
-    match mark {
-        0 => true,
-        1 | 2 if sending => len == most,
-        1..=4 => len <= most,
-        _ => false,
-    }
+    // No branch: so the walk takes several slots at once, of a receiver too.
+    let whole = !sending | (3 <= mark) | (len == most);
+    (mark == 0) | ((mark <= 4) & (len <= most) & whole)
 }
