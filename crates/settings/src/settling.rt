@@ -76,7 +76,7 @@ fn fits_lent(t: &[Channel], mem: &[u8], lens: &[u16], lines: &[u8], s: &[Setting
 // it, hold this code.
 #[tactic(auto, using(crate::proofs::SeenSettled::looked_settled))]
 pub fn is_settled(t: &[Channel], mem: &[u8], lens: &[u16], lines: &[u8], s: &[Settings]) -> bool
-    ensures lie { result ≡ settled t.now mem.now lens.now lines.now s.now }
+    ensures settled { result ≡ settled t.now mem.now lens.now lines.now s.now }
     ensures seen { result ≡ seeing.is_settled (seeing.seen (take (looked_at (length s.now)) s.now) lens.now (seeing.begun lines.now)) (length t.now) (length s.now) (length mem.now) (length lens.now) }
 {
     fits_lent(t, mem, lens, lines, s)
